@@ -1,0 +1,4 @@
+pub mod TestLaws
+pub mod AreaLaws
+pub mod HeaderLaws
+pub mod RedundancyLaws

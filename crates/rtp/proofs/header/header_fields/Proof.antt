@@ -1,0 +1,35 @@
+use Rattle.rtp.specs.Header.{fields}
+use borrow.Author.Tests.{le-ltb, lt-ltb, le-leb, lt-leb, eq-eqb, ne-eqb}
+use borrow.Author.Needs.{needs}
+use Rattle.rtp.proofs.header.header_fields.Statement.{statement}
+use Rattle.rtp.proofs.header.header_fields.Tie as tie
+use Rattle.rtp.proofs.header.header_fields.Reads as reads
+use Rattle.rtp.proofs.header.header_fields.Lts as lts
+use Rattle.rtp.proofs.bytes.read_u16.Reads as read-u16-reads
+use Rattle.rtp.proofs.bytes.read_u32.Reads as read-u32-reads
+
+shared-slice-read-second : tie.Need-shared-slice-read-second
+shared-slice-read-second c = search needs
+
+read-u16-requires : tie.Need-read-u16-requires
+read-u16-requires c κs = search needs
+
+read-u32-requires : tie.Need-read-u32-requires
+read-u32-requires c κs = search needs
+
+read-u32-requires-2 : tie.Need-read-u32-requires-2
+read-u32-requires-2 c κs = search needs
+
+returns : tie.Need-returns
+unfolding fields
+returns c = simp (← (c .before .before .read-u16 .ensures), ← (c .before .read-u32 .ensures), ← (c .read-u322 .ensures))
+
+pub header-fields-spec : {M : Type 1} → statement M
+header-fields-spec =
+    tie.close
+    (tie.spec
+    shared-slice-read-second
+    read-u16-requires
+    read-u32-requires
+    read-u32-requires-2
+    returns)

@@ -1,0 +1,7 @@
+pub mod Sizes
+pub mod Numbers
+pub mod Areas
+pub mod Refusals
+pub mod Ranges
+pub mod Header
+pub mod Redundancy

@@ -1,0 +1,33 @@
+-- Document 01, "Settings": their ranges. The format is document 01's kind, payload_type its plain payload type.
+use Prim.Native.Nat.{ℕ}
+use mathlib.Core.Bool.{Bool, true, false, cond}
+use lib.Dec.{ltb, eqb}
+use Rattle.rtp.specs.declared.settings.Settings.{Settings}
+
+-- G.719 basic, G.719 interleaved and GSM-HR
+abbrev pub g719 : ℕ
+g719 = 1
+
+abbrev pub g719Interleaved : ℕ
+g719Interleaved = 2
+
+abbrev pub gsmHr : ℕ
+gsmHr = 3
+
+-- the redundancy type for none; no packet has it as its type
+abbrev pub noRedundancy : ℕ
+noRedundancy = 128
+
+-- the most channels of a format, 0 where there is no such format
+unfoldable pub maxChannels : ℕ → ℕ
+maxChannels format = cond (eqb format g719) 2 (cond (eqb format g719Interleaved) 2 (cond (eqb format gsmHr) 1 0))
+
+-- format 1 to 3 and 1 to its most channels; the payload type at most 127; the redundancy type at most 127 and another, or none
+unfoldable pub inRange : Settings → Bool
+inRange s =
+    cond (eqb (s .channels) 0) false
+    (cond (ltb (maxChannels (s .format)) (s .channels)) false
+    (cond (ltb 127 (s .«payload_type»)) false
+    (cond (eqb (s .«redundancy_type») noRedundancy) true
+    (cond (ltb 127 (s .«redundancy_type»)) false
+    (cond (eqb (s .«redundancy_type») (s .«payload_type»)) false true)))))

@@ -1,0 +1,70 @@
+-- Document 01, "Redundancy": block headers and block times.
+use Prim.Native.Nat.{ℕ, zero, suc, _+_, _-_, _*_, _/_, _%_, _^_}
+use mathlib.Core.List.{List, [], _∷_}
+use mathlib.Core.Bool.{Bool, true, false, cond}
+use lib.ListN.{length, drop}
+use lib.Dec.{ltb, eqb}
+use Rattle.rtp.specs.declared.refusal.Refusal.{Refusal}
+use Rattle.rtp.specs.declared.refusal.Refusal.the-variants.{PacketLength, ContentsTruncated}
+use Rattle.rtp.specs.declared.redundancy.Redundant.{Redundant}
+use Rattle.rtp.specs.declared.redundancy.BlockHeader.{BlockHeader}
+use Rattle.rtp.specs.declared.redundancy.HeadersRead.{HeadersRead}
+use Rattle.rtp.specs.Sizes.{maxPacket}
+use Rattle.rtp.specs.Numbers.{byteAt}
+
+-- a time less an offset, modulo 2^32
+abbrev pub before : ℕ → ℕ → ℕ
+before time offset = (time + 2 ^ 32 - offset) % 2 ^ 32
+
+-- the block header at the front of s: F, type 7 bits; with F set, offset 14 bits and length 10 bits
+unfoldable pub blockHeader : List ℕ → BlockHeader
+blockHeader s =
+    cond (eqb (length s) 0) (BlockHeader.Refused ContentsTruncated)
+    (cond (ltb (byteAt s 0) 128) (BlockHeader.Primary (byteAt s 0))
+    (cond (ltb (length s) 4) (BlockHeader.Refused ContentsTruncated)
+    (BlockHeader.Redundant (record {
+      «payload_type» = byteAt s 0 % 128;
+      offset = 64 * byteAt s 1 + byteAt s 2 / 4;
+      length = 256 * (byteAt s 2 % 4) + byteAt s 3;
+    }))))
+
+-- the block headers of a payload: the redundant blocks', then the primary block's type
+pub data Headers : Type 0 where
+  refused : Refusal → Headers
+  headersOf : List Redundant → ℕ → Headers
+
+abbrev pub prepend : Redundant → Headers → Headers
+prepend b (refused r) = refused r
+prepend b (headersOf bs t) = headersOf (b ∷ bs) t
+
+-- what the block header at the front makes of them, where `next` gives the headers that follow
+abbrev pub headersStep : List ℕ → (List ℕ → Headers) → BlockHeader → Headers
+headersStep s next (BlockHeader.Refused r) = refused r
+headersStep s next (BlockHeader.Primary t) = headersOf [] t
+headersStep s next (BlockHeader.Redundant b) = prepend b (next (drop 4 s))
+
+-- by fuel
+unfoldable pub headersBy : ℕ → List ℕ → Headers
+headersBy zero s = refused ContentsTruncated
+headersBy (suc f) s = headersStep s (λ t. headersBy f t) (blockHeader s)
+
+-- the block headers at the front of s
+unfoldable pub headers : List ℕ → Headers
+headers s = headersBy (suc (length s)) s
+
+-- the same of a payload, which is no longer than a packet
+unfoldable pub redundancyHeaders : List ℕ → Headers
+redundancyHeaders s = cond (ltb maxPacket (length s)) (refused PacketLength) (headers s)
+
+-- the bytes of the headers, and of the redundant blocks
+unfoldable pub headersSize : List Redundant → ℕ
+headersSize [] = 1
+headersSize (b ∷ bs) = 4 + headersSize bs
+
+unfoldable pub redundantSize : List Redundant → ℕ
+redundantSize [] = 0
+redundantSize (b ∷ bs) = b .length + redundantSize bs
+
+unfoldable pub headersAnswer : Headers → HeadersRead
+headersAnswer (refused r) = HeadersRead.Refused r
+headersAnswer (headersOf bs t) = HeadersRead.Headers (record { size = headersSize bs; redundant = redundantSize bs })

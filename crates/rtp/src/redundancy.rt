@@ -1,0 +1,96 @@
+// Redundancy block headers (RFC 2198).
+use crate::bytes;
+use crate::header::MAX_PACKET;
+use crate::refusal::Refusal;
+ghost use mathlib.Core.Path.{_≡_};
+ghost use Prim.Native.Nat.{ℕ, _≤_};
+ghost use lib.ListN.{length};
+ghost use Rattle.rtp.specs.Sizes.{maxPacket};
+ghost use Rattle.rtp.specs.Redundancy.{blockHeader, headers, headersAnswer, redundancyHeaders, before};
+
+// The four-byte header of a redundant block.
+pub struct Redundant {
+    pub payload_type: u8,
+    pub offset: u32,
+    pub length: usize,
+}
+
+// One block header: of a redundant block, or the primary block's single byte, its payload type.
+pub enum BlockHeader {
+    Redundant(Redundant),
+    Primary(u8),
+    Refused(Refusal),
+}
+
+// All the block headers: their own bytes, and the bytes of the redundant blocks.
+pub struct HeaderSizes {
+    pub size: usize,
+    pub redundant: usize,
+}
+
+pub enum HeadersRead {
+    Headers(HeaderSizes),
+    Refused(Refusal),
+}
+
+// A redundant block's time: the packet's timestamp less the block's offset.
+pub fn block_time(timestamp: u32, offset: u32) -> u32
+    ensures { λ r. ⌜ r ≡ before timestamp offset ⌝ }
+{
+    std::num::wrapping_sub_u32(timestamp, offset)
+}
+
+// The block header at the front of s.
+pub fn read_block_header(s: &[u8]) -> BlockHeader
+    ensures { λ r. ⌜ r ≡ blockHeader (now (s .entry)) ⌝ }
+{
+    if s.len() == 0 {
+        return BlockHeader::Refused(Refusal::ContentsTruncated);
+    }
+    let first = s[0];
+    if first < 128 {
+        return BlockHeader::Primary(first);
+    }
+    if s.len() < 4 {
+        return BlockHeader::Refused(Refusal::ContentsTruncated);
+    }
+    let second = bytes::wide(s[1]);
+    let third = bytes::wide(s[2]);
+    let fourth = bytes::wide(s[3]);
+    BlockHeader::Redundant(Redundant {
+        payload_type: first % 128,
+        offset: (64 * second + third / 4) as u32,
+        length: 256 * (third % 4) + fourth,
+    })
+}
+
+// The block headers at the front of s, one after another up to the primary block's.
+pub(crate) fn headers_from(s: &[u8]) -> HeadersRead
+    requires { ⌜ length (now s) ≤ maxPacket ⌝ }
+    ensures { λ r. ⌜ r ≡ headersAnswer (headers (now (s .entry))) ⌝ }
+{
+    match read_block_header(s) {
+        BlockHeader::Refused(refusal) => HeadersRead::Refused(refusal),
+        BlockHeader::Primary(_) => HeadersRead::Headers(HeaderSizes {
+            size: 1,
+            redundant: 0,
+        }),
+        BlockHeader::Redundant(block) => match headers_from(&s[4..]) {
+            HeadersRead::Refused(refusal) => HeadersRead::Refused(refusal),
+            HeadersRead::Headers(rest) => HeadersRead::Headers(HeaderSizes {
+                size: 4 + rest.size,
+                redundant: block.length + rest.redundant,
+            }),
+        },
+    }
+}
+
+// The sizes of the block headers of a redundancy payload.
+pub fn read_headers(s: &[u8]) -> HeadersRead
+    ensures { λ r. ⌜ r ≡ headersAnswer (redundancyHeaders (now (s .entry))) ⌝ }
+{
+    if MAX_PACKET < s.len() {
+        return HeadersRead::Refused(Refusal::PacketLength);
+    }
+    headers_from(s)
+}
