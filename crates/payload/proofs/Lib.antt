@@ -1,0 +1,7 @@
+pub mod TableRule
+pub mod EntryLaws
+pub mod ContentsLaws
+pub mod RowLaws
+pub mod GroupLaws
+pub mod TableLaws
+pub mod PayloadLaws

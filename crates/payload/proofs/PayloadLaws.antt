@@ -1,0 +1,113 @@
+-- Laws of a payload, from what reading its table answered.
+use mathlib.Core.Path.{_≡_, refl, ap, sym, _∙_, subst}
+use mathlib.Core.List.{List, [], _∷_}
+use mathlib.Core.Bool.{true, false, cond}
+use Prim.Native.Nat.{ℕ, _+_, _-_, _*_, _≤_, _<_, _^_}
+use native.Mathlib.Omega.{arith}
+use lib.ListN.{length, length-append}
+use lib.Dec.{ltb, eqb}
+use borrow.Author.Tests.{eq-eqb, ne-eqb, lt-ltb, le-ltb}
+use Rattle.rtp.specs.Sizes.{rowWidth, rowArea, maxRows, maxPacket}
+use Rattle.rtp.specs.Areas.{over}
+use Rattle.rtp.specs.Ranges.{inRange}
+use Rattle.rtp.specs.declared.settings.Settings.{Settings}
+use Rattle.rtp.specs.declared.refusal.Refusal.{Refusal}
+use Rattle.rtp.specs.declared.refusal.Refusal.the-variants.{PacketLength, LengthMismatch, SettingsOutOfRange, AreaTooShort}
+use Rattle.rtp.proofs.AreaLaws.{over-none}
+use Rattle.payload.specs.declared.contents.Sizes.{Sizes}
+use Rattle.payload.specs.declared.contents.ContentsRead.{ContentsRead}
+use Rattle.payload.specs.declared.reading.PayloadRead.{PayloadRead}
+use Rattle.payload.specs.Frames.{stepOf}
+use Rattle.payload.specs.Contents.{Group, Contents, refused, groups, contents, rowsIn, sizeIn, framesIn, sizesAnswer}
+use Rattle.payload.specs.Rows.{tableRows, timeAfter}
+use Rattle.payload.specs.Payloads.{exact, payload, Rows, noRows, rowsOf, placedRows, payloadRows, rowsWords, rowsAnswer, askedRows}
+use Rattle.payload.specs.Room.{TableRoom, contentsWords}
+use Rattle.payload.proofs.ContentsLaws.{Small, Within, within}
+use Rattle.payload.proofs.GroupLaws.{length-group}
+
+-- as many rows as the table says
+pub length-table : (step ch time start : ℕ) (gs : List Group) → length (tableRows step ch time start gs) ≡ rowsIn ch gs
+unfolding tableRows rowsIn
+length-table step ch time start [] = refl
+length-table step ch time start (g ∷ gs) =
+    let e = length-table step ch (timeAfter step time (g .gaps)) (start + length (g .gaps) * ch * g .length) gs in
+    simp (length-append, length-group, e)
+
+same-sizes : (a b : Sizes) → ContentsRead.Contents a ≡ ContentsRead.Contents b → a ≡ b
+same-sizes a b h = cc
+
+exact-refused : (format ch n : ℕ) (r : Refusal) (p : Contents) → sizesAnswer format ch p ≡ ContentsRead.Refused r → exact format ch n p ≡ refused r
+unfolding sizesAnswer
+exact-refused format ch n r (refused q) h = cc
+exact-refused format ch n r (groups gs) h = let z : _≡_ {A = ℕ} 0 1 = cc in absurd (omega arith)
+
+-- what a table that was read is
+record Is (format ch n time at : ℕ) (p : Contents) (t : Sizes) : Type 0 where
+  whole : t .size + t .frames ≡ n → exact format ch n p ≡ p
+  part : (t .size + t .frames ≡ n → ⊥) → exact format ch n p ≡ refused LengthMismatch
+  rows : rowsAnswer (placedRows format ch time at p) ≡ PayloadRead.Rows (t .rows)
+  words : rowsWords (placedRows format ch time at p) ≡ contentsWords format ch time (at + t .size) p
+
+is : (format ch n time at : ℕ) (t : Sizes) (p : Contents) → sizesAnswer format ch p ≡ ContentsRead.Contents t → Is format ch n time at p t
+unfolding sizesAnswer placedRows rowsAnswer rowsWords contentsWords
+is format ch n time at t (refused r) h = let z : _≡_ {A = ℕ} 0 1 = cc in absurd (omega arith)
+is format ch n time at t (groups gs) h = subst (λ (x : Sizes). Is format ch n time at (groups gs) x) (same-sizes _ t h) (record {
+  whole = λ e. simp (eq-eqb _ _ e);
+  part = λ e. simp (ne-eqb _ _ e);
+  rows = ap PayloadRead.Rows (length-table (stepOf format) ch time (at + sizeIn format gs) gs);
+  words = refl;
+})
+
+-- the rows of a payload, by what reading its table answered
+module _ (format ch done time at : ℕ) (s : List ℕ) where
+  pub pay-refused : (r : Refusal) → sizesAnswer format ch (contents format ch done s) ≡ ContentsRead.Refused r → payloadRows format ch done time at s ≡ noRows r
+  unfolding payloadRows payload placedRows
+  pay-refused r h = rw (exact-refused format ch (length s) r (contents format ch done s) h)
+
+  module _ (t : Sizes) (h : sizesAnswer format ch (contents format ch done s) ≡ ContentsRead.Contents t) where
+    pub pay-part : (t .size + t .frames ≡ length s → ⊥) → payloadRows format ch done time at s ≡ noRows LengthMismatch
+    unfolding payloadRows payload placedRows
+    pay-part f = rw (is format ch (length s) time at t (contents format ch done s) h .part f)
+
+    pub pay-rows : t .size + t .frames ≡ length s → rowsAnswer (payloadRows format ch done time at s) ≡ PayloadRead.Rows (t .rows)
+    unfolding payloadRows payload
+    pay-rows f = let i = is format ch (length s) time at t (contents format ch done s) h in rw (i .whole f) (i .rows)
+
+    pub pay-words : t .size + t .frames ≡ length s → rowsWords (payloadRows format ch done time at s) ≡ contentsWords format ch time (at + t .size) (contents format ch done s)
+    unfolding payloadRows payload
+    pay-words f = let i = is format ch (length s) time at t (contents format ch done s) h in rw (i .whole f) (i .words)
+
+    pub pay-small : Small done (length s) t
+    pay-small = subst (λ (r : ContentsRead). Within done (length s) r) h (within format ch done s)
+
+    pub pay-room : (area : ℕ) → ch ≤ 256 → rowArea ≤ rowWidth * done + area → at + length s ≤ maxPacket → t .size + t .frames ≡ length s
+        → TableRoom ch (at + t .size) area (sizesAnswer format ch (contents format ch done s))
+    pay-room area few a b f = let w = pay-small in rw h (omega arith, omega arith, few)
+
+-- The payload of a call
+
+pub asked-out : (st : Settings) (done area time at : ℕ) (s : List ℕ) → inRange st ≡ false → askedRows st done area time at s ≡ noRows SettingsOutOfRange
+unfolding askedRows
+asked-out st done area time at s h = rw h
+
+module _ (st : Settings) (done area time at : ℕ) (s : List ℕ) (h : inRange st ≡ true) where
+  pub asked-short : rowWidth * done + area < rowArea → askedRows st done area time at s ≡ noRows AreaTooShort
+  unfolding askedRows
+  asked-short a = rw (h, lt-ltb (rowWidth * done + area) rowArea a)
+
+  pub asked-long : rowArea ≤ rowWidth * done + area → maxPacket < at + length s → askedRows st done area time at s ≡ noRows PacketLength
+  unfolding askedRows
+  asked-long a b = rw (h, le-ltb (rowWidth * done + area) rowArea a, lt-ltb maxPacket (at + length s) b)
+
+  pub asked-in : rowArea ≤ rowWidth * done + area → at + length s ≤ maxPacket → askedRows st done area time at s ≡ payloadRows (st .format) (st .channels) done time at s
+  unfolding askedRows
+  asked-in a b = rw (h, le-ltb (rowWidth * done + area) rowArea a, le-ltb maxPacket (at + length s) b)
+
+-- the answer and the words of a refusal
+pub answer-none : (x : Rows) (r : Refusal) → x ≡ noRows r → PayloadRead.Refused r ≡ rowsAnswer x
+unfolding rowsAnswer
+answer-none x r h = rw h
+
+pub words-none : (x : Rows) (r : Refusal) (l : List ℕ) → x ≡ noRows r → l ≡ over (rowsWords x) l
+unfolding rowsWords
+words-none x r l h = rw h (sym (over-none l))

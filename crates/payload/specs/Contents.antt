@@ -1,0 +1,118 @@
+-- Document 01, "G.719 tables of contents" and "GSM-HR tables": entries and tables, over the formats.
+use Prim.Native.Nat.{ℕ, zero, suc, _+_, _-_, _*_, _/_, _%_}
+use mathlib.Core.List.{List, [], _∷_}
+use mathlib.Core.Bool.{Bool, true, false, cond}
+use lib.ListN.{length, drop}
+use lib.Dec.{ltb, leb, eqb}
+use Rattle.rtp.specs.Sizes.{maxRows}
+use Rattle.rtp.specs.Numbers.{byteAt}
+use Rattle.rtp.specs.Ranges.{g719Interleaved, gsmHr}
+use Rattle.rtp.specs.declared.refusal.Refusal.{Refusal}
+use Rattle.rtp.specs.declared.refusal.Refusal.the-variants.{ContentsTruncated, ReservedCode, NoFrameBlocks, TooManyRows}
+use Rattle.payload.specs.declared.frames.Coded.{Coded}
+use Rattle.payload.specs.declared.contents.Entry.{Entry}
+use Rattle.payload.specs.declared.contents.EntryRead.{EntryRead}
+use Rattle.payload.specs.declared.contents.ContentsRead.{ContentsRead}
+use Rattle.payload.specs.Frames.{frameOf}
+
+-- One entry
+
+-- the bytes of an entry before its displacements
+abbrev pub minEntry : ℕ → ℕ
+minEntry format = cond (eqb format gsmHr) 1 2
+
+-- the frame code in the first byte: after F, L of 5 bits or a type of 3 bits; the bits below are reserved
+abbrev pub codeIn : ℕ → ℕ → ℕ
+codeIn format first = cond (eqb format gsmHr) (first / 16 % 8) (first / 4 % 32)
+
+-- the number of frame-blocks: the second byte, or one
+abbrev pub blocksIn : ℕ → List ℕ → ℕ
+blocksIn format s = cond (eqb format gsmHr) 1 (byteAt s 1)
+
+-- the bytes of an entry: interleaved has one 4-bit displacement per frame-block, and four padding bits if the number is odd
+abbrev pub entrySize : ℕ → ℕ → ℕ
+entrySize format blocks = cond (eqb format gsmHr) 1 (cond (eqb format g719Interleaved) (2 + (blocks + 1) / 2) 2)
+
+-- an entry of so many frame-blocks and bytes whose code stands for a frame, or is reserved
+abbrev pub codedEntry : Bool → ℕ → ℕ → Coded → EntryRead
+codedEntry more blocks size Coded.Reserved = EntryRead.Refused ReservedCode
+codedEntry more blocks size (Coded.Frame f) =
+    cond (eqb blocks 0) (EntryRead.Refused NoFrameBlocks)
+    (EntryRead.Entry (record { more = more; class = f .class; length = f .length; blocks = blocks; size = size }))
+
+-- the entry at the front of s
+unfoldable pub entryOf : ℕ → List ℕ → EntryRead
+entryOf format s =
+    cond (ltb (length s) (minEntry format)) (EntryRead.Refused ContentsTruncated)
+    (cond (ltb (length s) (entrySize format (blocksIn format s))) (EntryRead.Refused ContentsTruncated)
+    (codedEntry (leb 128 (byteAt s 0)) (blocksIn format s) (entrySize format (blocksIn format s)) (frameOf format (codeIn format (byteAt s 0)))))
+
+-- A table as parsed
+
+-- what an entry means: its frames' class and length, and for each frame-block the number of frame-blocks left out before it
+pub record Group : Type 0 where
+  pub class : ℕ
+  pub length : ℕ
+  pub gaps : List ℕ
+
+pub data Contents : Type 0 where
+  refused : Refusal → Contents
+  groups : List Group → Contents
+
+-- the k-th half byte of s, high half first
+abbrev pub halfAt : List ℕ → ℕ → ℕ
+halfAt s k = cond (eqb (k % 2) 0) (byteAt s (k / 2) / 16) (byteAt s (k / 2) % 16)
+
+-- how far n displacements reach into an entry
+abbrev pub gapEnd : ℕ → ℕ → ℕ
+gapEnd format n = cond (eqb format g719Interleaved) (2 + (n + 1) / 2) 0
+
+-- the frame-blocks left out before frame-block k of the entry at the front of s: the displacement; the first one, DIS1, is passed over
+unfoldable pub gapAt : ℕ → List ℕ → ℕ → ℕ
+gapAt format s k = cond (eqb k 0) 0 (cond (eqb format g719Interleaved) (halfAt (drop 2 s) k) 0)
+
+-- the gaps of n frame-blocks from k on
+unfoldable pub gapsFrom : ℕ → List ℕ → ℕ → ℕ → List ℕ
+gapsFrom format s k zero = []
+gapsFrom format s k (suc n) = gapAt format s k ∷ gapsFrom format s (k + 1) n
+
+unfoldable pub meaning : ℕ → List ℕ → Entry → Group
+meaning format s e = record { class = e .class; length = e .length; gaps = gapsFrom format s 0 (e .blocks) }
+
+abbrev pub prepend : Group → Contents → Contents
+prepend g (refused r) = refused r
+prepend g (groups gs) = groups (g ∷ gs)
+
+-- what the entry read at the front of s makes of the table, where `next` reads what follows
+abbrev pub contentsStep : ℕ → ℕ → ℕ → List ℕ → (ℕ → List ℕ → Contents) → EntryRead → Contents
+contentsStep format ch rows s next (EntryRead.Refused r) = refused r
+contentsStep format ch rows s next (EntryRead.Entry e) =
+    cond (ltb maxRows (rows + e .blocks * ch)) (refused TooManyRows)
+    (cond (e .more) (prepend (meaning format s e) (next (rows + e .blocks * ch) (drop (e .size) s)))
+    (groups (meaning format s e ∷ [])))
+
+-- by fuel
+unfoldable pub contentsBy : ℕ → ℕ → ℕ → ℕ → List ℕ → Contents
+contentsBy zero format ch rows s = refused ContentsTruncated
+contentsBy (suc f) format ch rows s = contentsStep format ch rows s (λ r t. contentsBy f format ch r t) (entryOf format s)
+
+-- the table at the front of s, after `rows` rows of the same packet; an entry with F set is followed by another
+unfoldable pub contents : ℕ → ℕ → ℕ → List ℕ → Contents
+contents format ch rows s = contentsBy (suc (length s)) format ch rows s
+
+-- the table's rows, its bytes and the bytes of the frames that follow
+unfoldable pub rowsIn : ℕ → List Group → ℕ
+rowsIn ch [] = 0
+rowsIn ch (g ∷ gs) = length (g .gaps) * ch + rowsIn ch gs
+
+unfoldable pub sizeIn : ℕ → List Group → ℕ
+sizeIn format [] = 0
+sizeIn format (g ∷ gs) = entrySize format (length (g .gaps)) + sizeIn format gs
+
+unfoldable pub framesIn : ℕ → List Group → ℕ
+framesIn ch [] = 0
+framesIn ch (g ∷ gs) = length (g .gaps) * ch * g .length + framesIn ch gs
+
+unfoldable pub sizesAnswer : ℕ → ℕ → Contents → ContentsRead
+sizesAnswer format ch (refused r) = ContentsRead.Refused r
+sizesAnswer format ch (groups gs) = ContentsRead.Contents (record { rows = rowsIn ch gs; size = sizeIn format gs; frames = framesIn ch gs })

@@ -1,0 +1,5 @@
+pub mod Frames
+pub mod Contents
+pub mod Rows
+pub mod Payloads
+pub mod Room

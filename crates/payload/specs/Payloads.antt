@@ -1,0 +1,57 @@
+-- A payload read into rows.
+use Prim.Native.Nat.{ℕ, _+_, _*_, _≤_, _<_}
+use mathlib.Core.List.{List, []}
+use mathlib.Core.Bool.{Bool, true, false, cond}
+use lib.ListN.{length}
+use lib.Dec.{ltb, eqb}
+use Rattle.rtp.specs.Sizes.{maxPacket, rowWidth, rowArea}
+use Rattle.rtp.specs.Ranges.{inRange}
+use Rattle.rtp.specs.declared.settings.Settings.{Settings}
+use Rattle.rtp.specs.declared.refusal.Refusal.{Refusal}
+use Rattle.rtp.specs.declared.refusal.Refusal.the-variants.{PacketLength, LengthMismatch, SettingsOutOfRange, AreaTooShort}
+use Rattle.payload.specs.declared.reading.PayloadRead.{PayloadRead}
+use Rattle.payload.specs.declared.contents.ContentsRead.{ContentsRead}
+use Rattle.payload.specs.Frames.{stepOf}
+use Rattle.payload.specs.Contents.{Contents, refused, groups, contents, rowsIn, sizeIn, framesIn, gapEnd}
+use Rattle.payload.specs.Rows.{Row, words, tableRows}
+
+-- a table and just the frames that it tells of, in n bytes
+abbrev pub exact : ℕ → ℕ → ℕ → Contents → Contents
+exact format ch n (refused r) = refused r
+exact format ch n (groups gs) = cond (eqb (sizeIn format gs + framesIn ch gs) n) (groups gs) (refused LengthMismatch)
+
+-- the payload s after `rows` rows of the same packet
+unfoldable pub payload : ℕ → ℕ → ℕ → List ℕ → Contents
+payload format ch rows s = exact format ch (length s) (contents format ch rows s)
+
+-- rows, or why there are none
+pub data Rows : Type 0 where
+  noRows : Refusal → Rows
+  rowsOf : List Row → Rows
+
+-- the rows of a payload that stands at `at` in its packet; its frames start after its table
+unfoldable pub placedRows : ℕ → ℕ → ℕ → ℕ → Contents → Rows
+placedRows format ch time at (refused r) = noRows r
+placedRows format ch time at (groups gs) = rowsOf (tableRows (stepOf format) ch time (at + sizeIn format gs) gs)
+
+unfoldable pub payloadRows : ℕ → ℕ → ℕ → ℕ → ℕ → List ℕ → Rows
+payloadRows format ch rows time at s = placedRows format ch time at (payload format ch rows s)
+
+-- the words of rows that were read: none of a refusal
+unfoldable pub rowsWords : Rows → List ℕ
+rowsWords (noRows r) = []
+rowsWords (rowsOf rs) = words rs
+
+-- the answer: the number of rows, or the refusal
+unfoldable pub rowsAnswer : Rows → PayloadRead
+rowsAnswer (noRows r) = PayloadRead.Refused r
+rowsAnswer (rowsOf rs) = PayloadRead.Rows (length rs)
+
+-- the payload of a call: the settings are asked first, then the area of so many words for all the rows that a packet may have, then the payload's length
+unfoldable pub askedRows : Settings → ℕ → ℕ → ℕ → ℕ → List ℕ → Rows
+askedRows st rows area time at s =
+    cond (inRange st)
+    (cond (ltb (rowWidth * rows + area) rowArea) (noRows AreaTooShort)
+    (cond (ltb maxPacket (at + length s)) (noRows PacketLength)
+    (payloadRows (st .format) (st .channels) rows time at s)))
+    (noRows SettingsOutOfRange)

@@ -1,0 +1,38 @@
+-- What the functions that write rows ask of their callers inside this crate: room in the area, and numbers that fit its words.
+use Prim.Native.Nat.{ℕ, _+_, _*_, _≤_, _<_, _^_}
+use mathlib.Core.List.{List, []}
+use lib.ListN.{length}
+use Rattle.rtp.specs.Sizes.{rowWidth}
+use Rattle.payload.specs.declared.contents.ContentsRead.{ContentsRead}
+use Rattle.payload.specs.Frames.{stepOf}
+use Rattle.payload.specs.Contents.{Contents, refused, groups, gapEnd}
+use Rattle.payload.specs.Rows.{words, tableRows}
+
+pub record RowRoom (channel class start size area : ℕ) : Type 0 where
+  pub area-fits : rowWidth ≤ area
+  pub classes : class ≤ 2
+  pub channels : channel < 256
+  pub frames-fit : start + size < 2 ^ 32
+
+pub record BlockRoom (count channel class start size area : ℕ) : Type 0 where
+  pub area-fits : rowWidth * count ≤ area
+  pub classes : class ≤ 2
+  pub channels : channel + count ≤ 256
+  pub frames-fit : start + count * size < 2 ^ 32
+
+pub record GroupRoom (format : ℕ) (s : List ℕ) (k count ch class start size area : ℕ) : Type 0 where
+  pub area-fits : rowWidth * (count * ch) ≤ area
+  pub classes : class ≤ 2
+  pub channels : ch ≤ 256
+  pub frames-fit : start + count * ch * size < 2 ^ 32
+  pub entry-fits : gapEnd format (k + count) ≤ length s
+  pub few : k + count < 256
+
+abbrev pub TableRoom : ℕ → ℕ → ℕ → ContentsRead → Type 0
+TableRoom ch start area (ContentsRead.Refused r) = ⊥
+TableRoom ch start area (ContentsRead.Contents t) = (rowWidth * t .rows ≤ area) × (start + t .frames < 2 ^ 32) × (ch ≤ 256)
+
+-- the words of a table whose frames start at `start`: none of a refusal
+unfoldable pub contentsWords : ℕ → ℕ → ℕ → ℕ → Contents → List ℕ
+contentsWords format ch time start (refused r) = []
+contentsWords format ch time start (groups gs) = words (tableRows (stepOf format) ch time start gs)

@@ -1,0 +1,52 @@
+-- Document 01, "A row is": frame rows, and the words that they take in a row area.
+use Prim.Native.Nat.{ℕ, zero, suc, _+_, _-_, _*_, _^_, _%_}
+use mathlib.Core.List.{List, [], _∷_, _++_}
+use lib.ListN.{length}
+use Rattle.payload.specs.Contents.{Group}
+
+-- timestamp, class (document 01's sort), channel, start in the packet and length
+pub record Row : Type 0 where
+  pub time : ℕ
+  pub class : ℕ
+  pub channel : ℕ
+  pub start : ℕ
+  pub length : ℕ
+
+-- its four words
+abbrev pub rowWords : Row → List ℕ
+rowWords r = r .time ∷ (256 * r .class + r .channel) ∷ r .start ∷ r .length ∷ []
+
+unfoldable pub words : List Row → List ℕ
+words [] = []
+words (r ∷ rs) = rowWords r ++ words rs
+
+-- where the frame-block after a gap of frame-blocks stands, when the next place is t
+abbrev pub placed : ℕ → ℕ → ℕ → ℕ
+placed step t gap = (t + gap * step) % 2 ^ 32
+
+-- the place after it
+abbrev pub after : ℕ → ℕ → ℕ → ℕ
+after step t gap = (placed step t gap + step) % 2 ^ 32
+
+unfoldable pub timeAfter : ℕ → ℕ → List ℕ → ℕ
+timeAfter step t [] = t
+timeAfter step t (g ∷ gs) = timeAfter step (after step t g) gs
+
+-- a frame-block: a row for each of n channels from c on, one frame after another
+unfoldable pub blockRows : ℕ → ℕ → ℕ → ℕ → ℕ → ℕ → List Row
+blockRows zero c time class start len = []
+blockRows (suc n) c time class start len =
+    record { time = time; class = class; channel = c; start = start; length = len } ∷ blockRows n (c + 1) time class (start + len) len
+
+-- a group's frame-blocks, one after another
+unfoldable pub groupRows : ℕ → ℕ → ℕ → ℕ → ℕ → ℕ → List ℕ → List Row
+groupRows step ch time class start len [] = []
+groupRows step ch time class start len (g ∷ gs) =
+    blockRows ch 0 (placed step time g) class start len ++ groupRows step ch (after step time g) class (start + ch * len) len gs
+
+-- a table's groups, one after another: a later group's first frame-block follows the last directly
+unfoldable pub tableRows : ℕ → ℕ → ℕ → ℕ → List Group → List Row
+tableRows step ch time start [] = []
+tableRows step ch time start (g ∷ gs) =
+    groupRows step ch time (g .class) start (g .length) (g .gaps)
+    ++ tableRows step ch (timeAfter step time (g .gaps)) (start + length (g .gaps) * ch * g .length) gs

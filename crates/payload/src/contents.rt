@@ -1,0 +1,163 @@
+// Tables of contents.
+use crate::frames;
+use crate::frames::Coded;
+use rtp::bytes;
+use rtp::refusal::Refusal;
+use rtp::settings::G719_INTERLEAVED;
+use rtp::settings::GSM_HR;
+ghost use mathlib.Core.Path.{_≡_};
+ghost use Prim.Native.Nat.{_+_, _<_, _≤_};
+ghost use lib.ListN.{length};
+ghost use Rattle.payload.specs.Contents.{minEntry, codeIn, blocksIn, entrySize, entryOf, contents, sizesAnswer, gapAt, gapEnd};
+
+// The most rows of a packet.
+pub const MAX_ROWS: usize = 128;
+
+// One table entry: whether another follows, the frames' class and length, the number of frame-blocks, and the entry's own bytes.
+pub struct Entry {
+    pub more: bool,
+    pub class: usize,
+    pub length: usize,
+    pub blocks: usize,
+    pub size: usize,
+}
+
+pub enum EntryRead {
+    Entry(Entry),
+    Refused(Refusal),
+}
+
+// A whole table: its rows, its own bytes, and the bytes of the frames that follow it.
+pub struct Sizes {
+    pub rows: usize,
+    pub size: usize,
+    pub frames: usize,
+}
+
+pub enum ContentsRead {
+    Contents(Sizes),
+    Refused(Refusal),
+}
+
+// The bytes that an entry has at least.
+fn min_entry(format: u8) -> usize
+    ensures { λ r. ⌜ r ≡ minEntry format ⌝ }
+{
+    if format == GSM_HR { 1 } else { 2 }
+}
+
+// The frame code in an entry's first byte.
+fn code_in(format: u8, first: usize) -> usize
+    ensures { λ r. ⌜ (r ≡ codeIn format first) × (r < 32) ⌝ }
+{
+    if format == GSM_HR {
+        first / 16 % 8
+    } else {
+        first / 4 % 32
+    }
+}
+
+// The number of frame-blocks of the entry at the front of s.
+fn blocks_in(format: u8, s: &[u8]) -> usize
+    requires { ⌜ minEntry format ≤ length (now s) ⌝ }
+    ensures { λ r. ⌜ (r ≡ blocksIn format (now (s .entry))) × (r < 256) ⌝ }
+{
+    if format == GSM_HR {
+        return 1;
+    }
+    bytes::wide(s[1])
+}
+
+// The bytes of an entry with so many frame-blocks.
+pub(crate) fn entry_size(format: u8, blocks: usize) -> usize
+    requires { ⌜ blocks < 256 ⌝ }
+    ensures { λ r. ⌜ r ≡ entrySize format blocks ⌝ }
+{
+    if format == GSM_HR {
+        return 1;
+    }
+    if format == G719_INTERLEAVED {
+        return 2 + (blocks + 1) / 2;
+    }
+    2
+}
+
+// The entry at the front of s.
+pub fn read_entry(format: u8, s: &[u8]) -> EntryRead
+    ensures { λ r. ⌜ r ≡ entryOf format (now (s .entry)) ⌝ }
+{
+    if s.len() < min_entry(format) {
+        return EntryRead::Refused(Refusal::ContentsTruncated);
+    }
+    let first = bytes::wide(s[0]);
+    let blocks = blocks_in(format, s);
+    let size = entry_size(format, blocks);
+    if s.len() < size {
+        return EntryRead::Refused(Refusal::ContentsTruncated);
+    }
+    match frames::frame_of(format, code_in(format, first)) {
+        Coded::Reserved => EntryRead::Refused(Refusal::ReservedCode),
+        Coded::Frame(frame) => {
+            if blocks == 0 {
+                return EntryRead::Refused(Refusal::NoFrameBlocks);
+            }
+            EntryRead::Entry(Entry {
+                more: 128 <= first,
+                class: frame.class,
+                length: frame.length,
+                blocks,
+                size,
+            })
+        }
+    }
+}
+
+// The table at the front of s, where `rows` rows came before it.
+pub fn read_contents(format: u8, channels: u8, rows: u32, s: &[u8]) -> ContentsRead
+    ensures { λ r. ⌜ r ≡ sizesAnswer format channels (contents format channels rows (now (s .entry))) ⌝ }
+{
+    match read_entry(format, s) {
+        EntryRead::Refused(refusal) => ContentsRead::Refused(refusal),
+        EntryRead::Entry(entry) => {
+            let here = entry.blocks * (channels as usize);
+            let so_far = (rows as usize) + here;
+            if MAX_ROWS < so_far {
+                return ContentsRead::Refused(Refusal::TooManyRows);
+            }
+            let frames = here * entry.length;
+            let size = entry.size;
+            if entry.more {
+                match read_contents(format, channels, so_far as u32, &s[size..]) {
+                    ContentsRead::Refused(refusal) => ContentsRead::Refused(refusal),
+                    ContentsRead::Contents(rest) => ContentsRead::Contents(Sizes {
+                        rows: here + rest.rows,
+                        size: size + rest.size,
+                        frames: frames + rest.frames,
+                    }),
+                }
+            } else {
+                ContentsRead::Contents(Sizes {
+                    rows: here,
+                    size,
+                    frames,
+                })
+            }
+        }
+    }
+}
+
+// The frame-blocks left out before frame-block k of the entry at the front of s.
+pub(crate) fn gap(format: u8, s: &[u8], k: usize) -> u32
+    requires { ⌜ gapEnd format (k + 1) ≤ length (now s) ⌝ }
+    ensures { λ r. ⌜ (r ≡ gapAt format (now (s .entry)) k) × (r < 16) ⌝ }
+{
+    if k == 0 {
+        return 0;
+    }
+    if format == G719_INTERLEAVED {
+        let pair = s[2 + k / 2] as u32;
+        if k % 2 == 0 { pair / 16 } else { pair % 16 }
+    } else {
+        0
+    }
+}

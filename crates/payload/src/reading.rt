@@ -1,0 +1,90 @@
+// A payload read into frame rows.
+use crate::contents;
+use crate::contents::ContentsRead;
+use crate::rows;
+use crate::rows::ROW_WIDTH;
+use rtp::header::MAX_PACKET;
+use rtp::refusal::Refusal;
+use rtp::settings;
+use rtp::settings::Settings;
+ghost use mathlib.Core.Path.{_≡_};
+ghost use lib.ListN.{length};
+ghost use Rattle.rtp.specs.Sizes.{rowArea};
+ghost use Rattle.rtp.specs.Areas.{over};
+ghost use Rattle.payload.specs.Payloads.{askedRows, rowsAnswer, rowsWords};
+
+// The words of an area that rows are read into.
+pub const ROW_AREA: usize = 512;
+
+// The number of rows, or why there are none.
+pub enum PayloadRead {
+    Rows(u32),
+    Refused(Refusal),
+}
+
+// Whether a payload can be read after `done` rows of its packet, and how many rows it gives.
+pub fn check_payload(asked: Settings, done: u32, s: &[u8]) -> PayloadRead
+    ensures { λ r. ⌜ r ≡ rowsAnswer (askedRows asked done rowArea 0 0 (now (s .entry))) ⌝ }
+{
+    if settings::in_range(asked) {
+        if MAX_PACKET < s.len() {
+            return PayloadRead::Refused(Refusal::PacketLength);
+        }
+        match contents::read_contents(asked.format, asked.channels, done, s) {
+            ContentsRead::Refused(refusal) => PayloadRead::Refused(refusal),
+            ContentsRead::Contents(sizes) => {
+                if sizes.size + sizes.frames == s.len() {
+                    PayloadRead::Rows(sizes.rows as u32)
+                } else {
+                    PayloadRead::Refused(Refusal::LengthMismatch)
+                }
+            }
+        }
+    } else {
+        PayloadRead::Refused(Refusal::SettingsOutOfRange)
+    }
+}
+
+// The payload s, which stands at `at` in its packet and after `done` of its rows: its rows at the front of the area, or a
+// refusal and the area unchanged.
+pub fn read_payload(
+    asked: Settings,
+    done: u32,
+    time: u32,
+    at: u32,
+    s: &[u8],
+    area: &mut [u32],
+) -> PayloadRead
+    ensures { λ r. ⌜ (r ≡ rowsAnswer (askedRows asked done (length (now (area .entry))) time at (now (s .entry))))
+        × (now (area .exit) ≡ over (rowsWords (askedRows asked done (length (now (area .entry))) time at (now (s .entry)))) (now (area .entry))) ⌝ }
+{
+    if settings::in_range(asked) {
+        if ROW_WIDTH * (done as usize) + area.len() < ROW_AREA {
+            return PayloadRead::Refused(Refusal::AreaTooShort);
+        }
+        if MAX_PACKET < (at as usize) + s.len() {
+            return PayloadRead::Refused(Refusal::PacketLength);
+        }
+        match contents::read_contents(asked.format, asked.channels, done, s) {
+            ContentsRead::Refused(refusal) => PayloadRead::Refused(refusal),
+            ContentsRead::Contents(sizes) => {
+                if sizes.size + sizes.frames == s.len() {
+                    rows::put_contents(
+                        area,
+                        s,
+                        asked.format,
+                        asked.channels as usize,
+                        done as usize,
+                        time,
+                        (at as usize) + sizes.size,
+                    );
+                    PayloadRead::Rows(sizes.rows as u32)
+                } else {
+                    PayloadRead::Refused(Refusal::LengthMismatch)
+                }
+            }
+        }
+    } else {
+        PayloadRead::Refused(Refusal::SettingsOutOfRange)
+    }
+}

@@ -1,0 +1,139 @@
+// Frame rows, written into a row area.
+use crate::contents;
+use crate::contents::EntryRead;
+use crate::frames;
+ghost use mathlib.Core.Path.{_≡_};
+ghost use lib.ListN.{length};
+ghost use Rattle.rtp.specs.Areas.{over};
+ghost use Rattle.payload.specs.Frames.{stepOf};
+ghost use Rattle.payload.specs.Contents.{gapsFrom, contents, sizesAnswer};
+ghost use Rattle.payload.specs.Rows.{rowWords, words, blockRows, groupRows, timeAfter};
+ghost use Rattle.payload.specs.Room.{RowRoom, BlockRoom, GroupRoom, TableRoom, contentsWords};
+
+// The words of a row.
+pub const ROW_WIDTH: usize = 4;
+
+// A row at the front of the area.
+fn put_row(rows: &mut [u32], time: u32, class: usize, channel: usize, start: usize, size: usize)
+    requires { ⌜ RowRoom channel class start size (length (now rows)) ⌝ }
+    ensures { λ _. ⌜ now (rows .exit) ≡ over (rowWords (record { time = time; class = class; channel = channel; start = start; length = size })) (now (rows .entry)) ⌝ }
+{
+    rows[0] = time;
+    rows[1] = (256 * class + channel) as u32;
+    rows[2] = start as u32;
+    rows[3] = size as u32;
+}
+
+// The rows of `count` channels of a frame-block, from `channel` on.
+fn put_block(
+    rows: &mut [u32],
+    count: usize,
+    channel: usize,
+    time: u32,
+    class: usize,
+    start: usize,
+    size: usize,
+)
+    requires { ⌜ BlockRoom count channel class start size (length (now rows)) ⌝ }
+    ensures { λ _. ⌜ now (rows .exit) ≡ over (words (blockRows count channel time class start size)) (now (rows .entry)) ⌝ }
+{
+    if count == 0 {
+        return;
+    }
+    put_row(rows, time, class, channel, start, size);
+    put_block(
+        &mut rows[ROW_WIDTH..],
+        count - 1,
+        channel + 1,
+        time,
+        class,
+        start + size,
+        size,
+    );
+}
+
+// The rows of `count` frame-blocks from the k-th on of the entry at the front of s; answers the time of the place after them.
+fn put_group(
+    rows: &mut [u32],
+    s: &[u8],
+    format: u8,
+    channels: usize,
+    k: usize,
+    count: usize,
+    time: u32,
+    class: usize,
+    start: usize,
+    size: usize,
+) -> u32
+    requires { ⌜ GroupRoom format (now s) k count channels class start size (length (now rows)) ⌝ }
+    ensures { λ r. ⌜ (r ≡ timeAfter (stepOf format) time (gapsFrom format (now (s .entry)) k count))
+        × (now (rows .exit) ≡ over (words (groupRows (stepOf format) channels time class start size (gapsFrom format (now (s .entry)) k count))) (now (rows .entry))) ⌝ }
+{
+    if count == 0 {
+        return time;
+    }
+    let skipped = frames::ticks(format, contents::gap(format, s, k));
+    let here = std::num::wrapping_add_u32(time, skipped);
+    put_block(rows, channels, 0, here, class, start, size);
+    let next = std::num::wrapping_add_u32(here, frames::step_of(format));
+    let width = ROW_WIDTH * channels;
+    put_group(
+        &mut rows[width..],
+        s,
+        format,
+        channels,
+        k + 1,
+        count - 1,
+        next,
+        class,
+        start + channels * size,
+        size,
+    )
+}
+
+// The rows of the table at the front of s, where `done` rows came before it, its first frame-block stands at `time` and its
+// frames start at `start`.
+pub(crate) fn put_contents(
+    rows: &mut [u32],
+    s: &[u8],
+    format: u8,
+    channels: usize,
+    done: usize,
+    time: u32,
+    start: usize,
+)
+    requires { ⌜ TableRoom channels start (length (now rows)) (sizesAnswer format channels (contents format channels done (now s))) ⌝ }
+    ensures { λ _. ⌜ now (rows .exit) ≡ over (contentsWords format channels time start (contents format channels done (now (s .entry)))) (now (rows .entry)) ⌝ }
+{
+    match contents::read_entry(format, s) {
+        EntryRead::Refused(_) => {}
+        EntryRead::Entry(entry) => {
+            let next = put_group(
+                rows,
+                s,
+                format,
+                channels,
+                0,
+                entry.blocks,
+                time,
+                entry.class,
+                start,
+                entry.length,
+            );
+            if entry.more {
+                let here = entry.blocks * channels;
+                let width = ROW_WIDTH * here;
+                let size = entry.size;
+                put_contents(
+                    &mut rows[width..],
+                    &s[size..],
+                    format,
+                    channels,
+                    done + here,
+                    next,
+                    start + here * entry.length,
+                );
+            }
+        }
+    }
+}
