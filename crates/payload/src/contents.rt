@@ -69,15 +69,14 @@ fn blocks_in(format: u8, s: &[u8]) -> usize
 }
 
 // The bytes of an entry with so many frame-blocks.
-pub(crate) fn entry_size(format: u8, blocks: usize) -> usize
-    requires { ⌜ blocks < 256 ⌝ }
+pub fn entry_size(format: u8, blocks: usize) -> usize
     ensures { λ r. ⌜ r ≡ entrySize format blocks ⌝ }
 {
     if format == GSM_HR {
         return 1;
     }
     if format == G719_INTERLEAVED {
-        return 2 + (blocks + 1) / 2;
+        return 2 + (blocks / 2 + blocks % 2);
     }
     2
 }

@@ -1,3 +1,4 @@
+use native.Mathlib.Omega.{arith}
 use Rattle.payload.specs.Contents.{entrySize}
 use borrow.Author.Tests.{le-ltb, lt-ltb, le-leb, lt-leb, eq-eqb, ne-eqb}
 use borrow.Author.Needs.{needs}
@@ -18,7 +19,7 @@ add-result-2 c = search needs
 
 returns-2 : tie.Need-returns-2
 unfolding entrySize
-returns-2 c = simp (ne-eqb _ _ (c .before .if1 .left), eq-eqb _ _ (c .if2 .taken))
+returns-2 c = simp (ne-eqb _ _ (c .before .if1 .left), eq-eqb _ _ (c .if2 .taken)) (omega arith)
 
 returns-3 : tie.Need-returns-3
 unfolding entrySize

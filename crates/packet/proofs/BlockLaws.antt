@@ -1,0 +1,226 @@
+-- Laws of the blocks of a redundancy payload: their rows by the first block header, and what these do not depend on.
+use mathlib.Core.Path.{_≡_, refl, ap, sym, _∙_, subst}
+use mathlib.Core.List.{List, [], _∷_}
+use mathlib.Core.Bool.{true}
+use Prim.Native.Nat.{ℕ, _+_, _-_, _*_, _≤_}
+use native.Mathlib.Omega.{arith}
+use lib.ListN.{length, take, drop, length-take, length-drop}
+use lib.Dec.{eqb}
+use borrow.Rule.Slice.PartMut.{putMid}
+use borrow.Author.Tests.{eq-eqb, ne-eqb, eqb-true, eqb-false}
+use Rattle.rtp.specs.Sizes.{maxPacket, maxRows, rowWidth, rowArea}
+use Rattle.rtp.specs.Areas.{over}
+use Rattle.rtp.specs.Ranges.{inRange}
+use Rattle.rtp.specs.Redundancy.{before, blockHeader, Headers, refused, headersOf, prepend, headers, headersAnswer}
+use Rattle.rtp.specs.declared.settings.Settings.{Settings}
+use Rattle.rtp.specs.declared.refusal.Refusal.{Refusal}
+use Rattle.rtp.specs.declared.redundancy.Redundant.{Redundant}
+use Rattle.rtp.specs.declared.redundancy.BlockHeader.{BlockHeader}
+use Rattle.rtp.specs.declared.redundancy.HeadersRead.{HeadersRead}
+use Rattle.rtp.proofs.TestLaws.{by-test}
+use Rattle.rtp.proofs.AreaLaws.{over-part}
+use Rattle.rtp.proofs.RedundancyLaws.{headers-step, at-redundant, ahead}
+use Rattle.payload.specs.declared.contents.ContentsRead.{ContentsRead}
+use Rattle.payload.specs.declared.reading.PayloadRead.{PayloadRead}
+use Rattle.payload.specs.Frames.{stepOf}
+use Rattle.payload.specs.Contents.{Contents, refused as unread, groups, contents, sizeIn, sizesAnswer}
+use Rattle.payload.specs.Payloads.{payload, Rows, noRows, rowsOf, placedRows, payloadRows, rowsAnswer, rowsWords, askedRows}
+use Rattle.payload.proofs.PayloadLaws.{length-table, pay-refused, pay-part, pay-rows, pay-small, asked-in}
+use Rattle.packet.specs.Blocks.{Block, cut, blockRows, thenRows, blocksRows}
+use Rattle.packet.specs.Room.{askedBlock, headedRows, blocksFrom, Headed, BlocksAsked, Taken, BlocksRoom}
+use Rattle.packet.proofs.AnswerLaws.{then-none, thenAnswer, then-answer, then-same, then-taken, Few, then-few, answer-words, then-words}
+
+-- a block of the bytes s
+abbrev pub block : ℕ → ℕ → ℕ → List ℕ → Block
+block type offset at s = record { type = type; offset = offset; at = at; bytes = s }
+
+-- How many rows there are depends on no time and no place
+
+placed-same : (format ch time time' at at' : ℕ) (p : Contents) → rowsAnswer (placedRows format ch time at p) ≡ rowsAnswer (placedRows format ch time' at' p)
+unfolding placedRows rowsAnswer
+placed-same format ch time time' at at' (unread r) = refl
+placed-same format ch time time' at at' (groups gs) =
+    ap PayloadRead.Rows (length-table (stepOf format) ch time (at + sizeIn format gs) gs ∙ sym (length-table (stepOf format) ch time' (at' + sizeIn format gs) gs))
+
+module _ (st : Settings) where
+  block-same : (done time time' type offset offset' at at' : ℕ) (s : List ℕ)
+      → rowsAnswer (blockRows st done time (block type offset at s)) ≡ rowsAnswer (blockRows st done time' (block type offset' at' s))
+  unfolding blockRows payloadRows
+  block-same done time time' type offset offset' at at' s =
+      by-test (eqb type (st .«payload_type»))
+      (λ a. by-test (eqb (length s) 0)
+      (λ b. rw (a, b))
+      (λ b. rw (a, b) (placed-same (st .format) (st .channels) (before time offset) (before time' offset') at at' (payload (st .format) (st .channels) done s))))
+      (λ a. rw a)
+
+  blocks-same : (bs : List Redundant) (done time time' type at at' : ℕ) (d : List ℕ)
+      → rowsAnswer (blocksRows st done time (cut bs type at d)) ≡ rowsAnswer (blocksRows st done time' (cut bs type at' d))
+  unfolding blocksRows cut
+  blocks-same [] done time time' type at at' d = then-same _ _ _ _ (block-same done time time' type 0 0 at at' d) (λ n. refl)
+  blocks-same (b ∷ bs) done time time' type at at' d =
+      then-same _ _ _ _ (block-same done time time' (b .«payload_type») (b .offset) (b .offset) at at' (take (b .length) d))
+      (λ n. blocks-same bs (done + n) time time' type (at + b .length) (at' + b .length) (drop (b .length) d))
+
+  pub from-same : (done time time' at at' : ℕ) (h d : List ℕ) → rowsAnswer (blocksFrom st done time at h d) ≡ rowsAnswer (blocksFrom st done time' at' h d)
+  unfolding blocksFrom
+  from-same done time time' at at' h d = headed-same (headers h)
+    where
+      headed-same : (x : Headers) → rowsAnswer (headedRows st done time at d x) ≡ rowsAnswer (headedRows st done time' at' d x)
+      headed-same (refused r) = refl
+      headed-same (headersOf bs type) = blocks-same bs done time time' type at at' d
+
+  -- No more rows than a packet has
+
+  pay-few : (done time at : ℕ) (s : List ℕ) → Few done (rowsAnswer (payloadRows (st .format) (st .channels) done time at s))
+  unfolding rowsAnswer
+  pay-few done time at s = table-few (sizesAnswer (st .format) (st .channels) (contents (st .format) (st .channels) done s)) refl
+    where
+      table-few : (r : ContentsRead) → sizesAnswer (st .format) (st .channels) (contents (st .format) (st .channels) done s) ≡ r
+          → Few done (rowsAnswer (payloadRows (st .format) (st .channels) done time at s))
+      table-few (ContentsRead.Refused r) h = rw (pay-refused (st .format) (st .channels) done time at s r h) tt
+      table-few (ContentsRead.Contents t) h =
+          by-test (eqb (t .size + t .frames) (length s))
+          (λ a. rw (pay-rows (st .format) (st .channels) done time at s t h (eqb-true _ _ a)) (pay-small (st .format) (st .channels) done time at s t h .few))
+          (λ a. rw (pay-part (st .format) (st .channels) done time at s t h (eqb-false _ _ a)) tt)
+
+  pub block-few : (done time : ℕ) (b : Block) → done ≤ maxRows → Few done (rowsAnswer (blockRows st done time b))
+  unfolding blockRows rowsAnswer
+  block-few done time b h =
+      by-test (eqb (b .type) (st .«payload_type»))
+      (λ x. by-test (eqb (length (b .bytes)) 0)
+      (λ y. rw (x, y) (omega arith))
+      (λ y. rw (x, y) (pay-few done (before time (b .offset)) (b .at) (b .bytes))))
+      (λ x. rw x (omega arith))
+
+  blocks-few : (bs : List Block) (done time : ℕ) → done ≤ maxRows → Few done (rowsAnswer (blocksRows st done time bs))
+  unfolding blocksRows rowsAnswer
+  blocks-few [] done time h = omega arith
+  blocks-few (b ∷ bs) done time h =
+      rw then-answer (then-few done (rowsAnswer (blockRows st done time b)) _ (block-few done time b h) (λ n k. blocks-few bs (done + n) time k))
+
+  pub from-few : (done time at : ℕ) (h d : List ℕ) → done ≤ maxRows → Few done (rowsAnswer (blocksFrom st done time at h d))
+  unfolding blocksFrom rowsAnswer
+  from-few done time at h d k = headed-few (headers h)
+    where
+      headed-few : (x : Headers) → Few done (rowsAnswer (headedRows st done time at d x))
+      headed-few (refused r) = tt
+      headed-few (headersOf bs type) = blocks-few (cut bs type at d) done time k
+
+-- The rows by the first block header
+
+pub headed-rest : (n : ℕ) (h : List ℕ) (e : Redundant) → blockHeader h ≡ BlockHeader.Redundant e → Headed n (headersAnswer (headers h))
+    → (e .length ≤ n) × Headed (n - e .length) (headersAnswer (headers (drop 4 h)))
+headed-rest n h e q k = both (headersAnswer (headers (drop 4 h))) (rw (at-redundant h e q) at k)
+  where
+    both : (x : HeadersRead) → Headed n (ahead e x) → (e .length ≤ n) × Headed (n - e .length) x
+    both (HeadersRead.Refused r) z = absurd z
+    both (HeadersRead.Headers s) z = (omega arith, omega arith)
+
+module _ (st : Settings) (done time at : ℕ) (h d : List ℕ) where
+  pub from-refused : (r : Refusal) → blockHeader h ≡ BlockHeader.Refused r → blocksFrom st done time at h d ≡ noRows r
+  unfolding blocksFrom
+  from-refused r q = rw (headers-step, q)
+
+  pub from-primary : (type : ℕ) → blockHeader h ≡ BlockHeader.Primary type → blocksFrom st done time at h d ≡ blockRows st done time (block type 0 at d)
+  unfolding blocksFrom blocksRows cut
+  from-primary type q = rw (headers-step, q) (then-none (blockRows st done time (block type 0 at d)))
+
+  pub from-redundant : (n : ℕ) (e : Redundant) → blockHeader h ≡ BlockHeader.Redundant e → Headed n (headersAnswer (headers (drop 4 h)))
+      → blocksFrom st done time at h d
+      ≡ thenRows (blockRows st done time (block (e .«payload_type») (e .offset) at (take (e .length) d))) (λ i. blocksFrom st (done + i) time (at + e .length) (drop 4 h) (drop (e .length) d))
+  unfolding blocksFrom blocksRows cut headersAnswer
+  from-redundant n e q k = rw (headers-step h, q) (rest (headers (drop 4 h)) k)
+    where
+      rest : (x : Headers) → Headed n (headersAnswer x) → headedRows st done time at d (prepend e x)
+          ≡ thenRows (blockRows st done time (block (e .«payload_type») (e .offset) at (take (e .length) d))) (λ i. headedRows st (done + i) time (at + e .length) (drop (e .length) d) x)
+      rest (refused r) z = absurd z
+      rest (headersOf bs type) z = refl
+
+-- A block of a call
+
+module _ (st : Settings) (done area time type offset at : ℕ) (s : List ℕ) where
+  pub asked-other : (type ≡ st .«payload_type» → ⊥) → askedBlock st done area time type offset at s ≡ rowsOf []
+  unfolding askedBlock
+  asked-other h = rw (ne-eqb _ _ h)
+
+  pub asked-empty : type ≡ st .«payload_type» → length s ≡ 0 → askedBlock st done area time type offset at s ≡ rowsOf []
+  unfolding askedBlock
+  asked-empty h k = rw (eq-eqb _ _ h, eq-eqb _ _ k)
+
+  pub asked-some : type ≡ st .«payload_type» → (length s ≡ 0 → ⊥) → askedBlock st done area time type offset at s ≡ askedRows st done area (before time offset) at s
+  unfolding askedBlock
+  asked-some h k = rw (eq-eqb _ _ h, ne-eqb _ _ k)
+
+  pub asked-block : inRange st ≡ true → rowArea ≤ rowWidth * done + area → at + length s ≤ maxPacket
+      → askedBlock st done area time type offset at s ≡ blockRows st done time (block type offset at s)
+  unfolding askedBlock blockRows
+  asked-block h a b = rw (asked-in st done area (before time offset) at s h a b)
+
+-- The blocks of a call: the primary block alone, or a redundant block and the rest
+
+module _ (st : Settings) (done area time at : ℕ) (h d : List ℕ) (a : BlocksAsked st done at h (length d)) (fits : rowArea ≤ rowWidth * done + area) where
+  pub asked-primary : (type : ℕ) → blockHeader h ≡ BlockHeader.Primary type → askedBlock st done area time type 0 at d ≡ blocksFrom st done time at h d
+  asked-primary type q = asked-block st done area time type 0 at d (a .settings) fits (a .inside) ∙ sym (from-primary st done time at h d type q)
+
+  module _ (e : Redundant) (q : blockHeader h ≡ BlockHeader.Redundant e) where
+    pub block-in : e .length ≤ length d
+    block-in = headed-rest (length d) h e q (a .headed) .0
+
+    asked-first : (offset : ℕ) → askedBlock st done area time (e .«payload_type») offset at (take (e .length) d) ≡ blockRows st done time (block (e .«payload_type») offset at (take (e .length) d))
+    asked-first offset = asked-block st done area time (e .«payload_type») offset at (take (e .length) d) (a .settings) fits (simp length-take (omega (arith, block-in, a .inside)))
+
+    pub first-few : (offset n : ℕ) → rowsAnswer (askedBlock st done area time (e .«payload_type») offset at (take (e .length) d)) ≡ PayloadRead.Rows n → done + n ≤ maxRows
+    first-few offset n k = subst (λ (x : PayloadRead). Few done x) (ap rowsAnswer (sym (asked-first offset)) ∙ k) (block-few st done time _ (a .few))
+
+    pub asked-rest : (n at' : ℕ) → done + n ≤ maxRows → at' ≤ at + e .length → BlocksAsked st (done + n) at' (drop 4 h) (length (drop (e .length) d))
+    asked-rest n at' f i = rw (length-drop (e .length) d) (record {
+      settings = a .settings;
+      few = f;
+      headed = headed-rest (length d) h e q (a .headed) .1;
+      inside = omega (arith, block-in, a .inside);
+    })
+
+    pub first-then : blocksFrom st done time at h d
+        ≡ thenRows (askedBlock st done area time (e .«payload_type») (e .offset) at (take (e .length) d)) (λ n. blocksFrom st (done + n) time (at + e .length) (drop 4 h) (drop (e .length) d))
+    first-then = rw (asked-first (e .offset)) (from-redundant st done time at h d (length d - e .length) e q (headed-rest (length d) h e q (a .headed) .1))
+
+-- their answer, where each is taken as at time 0 and place 0
+pub checked : (st : Settings) (done : ℕ) (h d : List ℕ) → BlocksAsked st done 0 h (length d) → (e : Redundant) → blockHeader h ≡ BlockHeader.Redundant e
+    → rowsAnswer (blocksFrom st done 0 0 h d)
+    ≡ thenAnswer (rowsAnswer (askedBlock st done rowArea 0 (e .«payload_type») 0 0 (take (e .length) d))) (λ n. rowsAnswer (blocksFrom st (done + n) 0 0 (drop 4 h) (drop (e .length) d)))
+checked st done h d a e q =
+    ap rowsAnswer (first-then st done rowArea 0 0 h d a (omega arith) e q)
+    ∙ then-same _ (askedBlock st done rowArea 0 (e .«payload_type») 0 0 (take (e .length) d)) _ (λ n. blocksFrom st (done + n) 0 0 (drop 4 h) (drop (e .length) d))
+    (ap rowsAnswer (asked-first st done rowArea 0 0 h d a (omega arith) e q (e .offset)) ∙ block-same st done 0 0 (e .«payload_type») (e .offset) 0 0 0 (take (e .length) d)
+    ∙ ap rowsAnswer (sym (asked-first st done rowArea 0 0 h d a (omega arith) e q 0)))
+    (λ n. from-same st (done + n) 0 0 (0 + e .length) 0 (drop 4 h) (drop (e .length) d))
+    ∙ then-answer _ _
+
+-- their words
+module _ (st : Settings) (done time at area : ℕ) (h d : List ℕ) (r : BlocksRoom st done time at h d area) (e : Redundant) (q : blockHeader h ≡ BlockHeader.Redundant e) where
+  abbrev First : Rows
+  First = askedBlock st done area time (e .«payload_type») (e .offset) at (take (e .length) d)
+
+  whole : blocksFrom st done time at h d ≡ thenRows First (λ n. blocksFrom st (done + n) time (at + e .length) (drop 4 h) (drop (e .length) d))
+  whole = first-then st done area time at h d (r .asked) (r .area-fits) e q
+
+  taken-whole : Taken (thenAnswer (rowsAnswer First) (λ n. rowsAnswer (blocksFrom st (done + n) time (at + e .length) (drop 4 h) (drop (e .length) d))))
+  taken-whole = subst (λ (x : PayloadRead). Taken x) (ap rowsAnswer whole ∙ then-answer _ _) (r .taken)
+
+  pub first-taken : (f : Refusal) → rowsAnswer First ≡ PayloadRead.Refused f → ⊥
+  first-taken f k = rw k at taken-whole
+
+  module _ (n : ℕ) (k : rowsAnswer First ≡ PayloadRead.Rows n) where
+    pub room-rest : BlocksRoom st (done + n) time (at + e .length) (drop 4 h) (drop (e .length) d) (area - rowWidth * n)
+    room-rest = record {
+      asked = asked-rest st done area time at h d (r .asked) (r .area-fits) e q n (at + e .length) (first-few st done area time at h d (r .asked) (r .area-fits) e q (e .offset) n k) (omega arith);
+      taken = then-taken (rowsAnswer First) (λ i. rowsAnswer (blocksFrom st (done + i) time (at + e .length) (drop 4 h) (drop (e .length) d))) n k taken-whole;
+      area-fits = omega (arith, r .area-fits);
+    }
+
+    pub put-rest : (l m z : List ℕ) → m ≡ over (rowsWords First) l
+        → z ≡ over (rowsWords (blocksFrom st (done + n) time (at + e .length) (drop 4 h) (drop (e .length) d))) (take (length m - rowWidth * n) (drop (rowWidth * n) m))
+        → putMid (rowWidth * n) (length m - rowWidth * n) m z ≡ over (rowsWords (blocksFrom st done time at h d)) l
+    put-rest l m z v w =
+        over-part _ _ l m z (rowWidth * n) (answer-words First n k) v w
+        ∙ ap (λ (x : List ℕ). over x l) (sym (ap rowsWords whole ∙ then-words First _ n k (room-rest .taken)))

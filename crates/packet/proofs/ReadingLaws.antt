@@ -1,0 +1,87 @@
+-- Laws of a packet's payload by its type, and of what reading a packet comes to.
+use mathlib.Core.Path.{_≡_, ap, sym, _∙_}
+use mathlib.Core.List.{List}
+use mathlib.Core.Bool.{true, false}
+use Prim.Native.Nat.{ℕ, _+_, _-_, _≤_, _<_}
+use native.Mathlib.Omega.{arith}
+use lib.ListN.{length, length-take, length-drop}
+use borrow.Author.Tests.{eq-eqb, ne-eqb, lt-ltb, le-ltb}
+use Rattle.rtp.specs.Areas.{over}
+use Rattle.rtp.specs.Sizes.{maxPacket, rowArea}
+use Rattle.rtp.specs.Ranges.{inRange}
+use Rattle.rtp.specs.Header.{header}
+use Rattle.rtp.specs.declared.settings.Settings.{Settings}
+use Rattle.rtp.specs.declared.header.Header.{Header}
+use Rattle.rtp.specs.declared.header.HeaderRead.{HeaderRead}
+use Rattle.rtp.specs.declared.refusal.Refusal.{Refusal}
+use Rattle.rtp.specs.declared.refusal.Refusal.the-variants.{UnknownPayloadType, SettingsOutOfRange, AreaTooShort}
+use Rattle.rtp.proofs.AreaLaws.{over-none}
+use Rattle.rtp.proofs.HeaderLaws.{within}
+use Rattle.payload.specs.declared.reading.PayloadRead.{PayloadRead}
+use Rattle.payload.specs.Payloads.{Rows, noRows, rowsOf, rowsAnswer, rowsWords, askedRows}
+use Rattle.payload.proofs.PayloadLaws.{asked-in}
+use Rattle.packet.specs.declared.reading.Reading.{Reading}
+use Rattle.packet.specs.Blocks.{redundantRows}
+use Rattle.packet.specs.Readings.{payloadIn, typedRows, Outcome, refused, outcomeOf, reading, readingNumbers, outcomeNumbers, outcomeWords}
+use Rattle.packet.proofs.AnswerLaws.{Gives}
+
+-- the payload lies inside the longest packet
+pub payload-fits : (s : List ℕ) (h : Header) → header s ≡ HeaderRead.Header h → h .start + length (payloadIn s h) ≤ maxPacket
+payload-fits s h q = let w = within s h q in simp (length-take, length-drop) (omega arith)
+
+module _ (st : Settings) (h : Header) (s : List ℕ) where
+  pub typed-plain : inRange st ≡ true → (area : ℕ) → rowArea ≤ area → header s ≡ HeaderRead.Header h → h .«payload_type» ≡ st .«payload_type»
+      → askedRows st 0 area (h .timestamp) (h .start) (payloadIn s h) ≡ typedRows st h (payloadIn s h)
+  unfolding typedRows
+  typed-plain i area f q e = asked-in st 0 area (h .timestamp) (h .start) (payloadIn s h) i (omega arith) (payload-fits s h q) ∙ rw (eq-eqb _ _ e)
+
+  module _ (n : h .«payload_type» ≡ st .«payload_type» → ⊥) where
+    pub typed-redundant : h .«payload_type» ≡ st .«redundancy_type» → redundantRows st (h .timestamp) (h .start) (payloadIn s h) ≡ typedRows st h (payloadIn s h)
+    unfolding typedRows
+    typed-redundant e = rw (ne-eqb _ _ n, eq-eqb _ _ e)
+
+    pub typed-other : (h .«payload_type» ≡ st .«redundancy_type» → ⊥) → typedRows st h (payloadIn s h) ≡ noRows UnknownPayloadType
+    unfolding typedRows
+    typed-other e = rw (ne-eqb _ _ n, ne-eqb _ _ e)
+
+-- Reading a packet
+
+pub reading-out : (st : Settings) (area : ℕ) (s : List ℕ) → inRange st ≡ false → reading st area s ≡ refused SettingsOutOfRange
+unfolding reading
+reading-out st area s i = rw i
+
+module _ (st : Settings) (area : ℕ) (s : List ℕ) (i : inRange st ≡ true) where
+  pub reading-short : area < rowArea → reading st area s ≡ refused AreaTooShort
+  unfolding reading
+  reading-short f = rw (i, lt-ltb _ _ f)
+
+  module _ (f : rowArea ≤ area) where
+    pub reading-refused : (r : Refusal) → header s ≡ HeaderRead.Refused r → reading st area s ≡ refused r
+    unfolding reading
+    reading-refused r q = rw (i, le-ltb area rowArea f, q)
+
+    pub reading-headed : (h : Header) → header s ≡ HeaderRead.Header h → reading st area s ≡ outcomeOf h (typedRows st h (payloadIn s h))
+    unfolding reading
+    reading-headed h q = rw (i, le-ltb area rowArea f, q)
+
+-- The answer r, with the area l left as m, is what reading came to
+
+abbrev pub Comes : Reading → List ℕ → List ℕ → Outcome → Type 0
+Comes r l m x = (readingNumbers r ≡ outcomeNumbers x) × (m ≡ over (outcomeWords x) l)
+
+pub comes-refused : (r : Refusal) (l : List ℕ) (x : Outcome) → x ≡ refused r → Comes (Reading.Refused r) l l x
+unfolding outcomeNumbers outcomeWords
+comes-refused r l x h = (rw h, rw h (sym (over-none l)))
+
+-- the answer under this header, from the payload's
+abbrev pub answerAs : Header → PayloadRead → Reading
+answerAs h (PayloadRead.Refused r) = Reading.Refused r
+answerAs h (PayloadRead.Rows n) = Reading.Read (record { rows = n; marker = h .marker; sequence = h .sequence; timestamp = h .timestamp; source = h .source })
+
+typed-comes : (h : Header) (p : PayloadRead) (l m : List ℕ) (x : Rows) → Gives p l m x → Comes (answerAs h p) l m (outcomeOf h x)
+unfolding rowsAnswer rowsWords outcomeNumbers outcomeWords
+typed-comes h p l m (noRows r) g = (ap (λ (q : PayloadRead). readingNumbers (answerAs h q)) (g .0), g .1)
+typed-comes h p l m (rowsOf rs) g = (ap (λ (q : PayloadRead). readingNumbers (answerAs h q)) (g .0), g .1)
+
+pub comes-typed : (h : Header) (p q : PayloadRead) (l m : List ℕ) (x : Rows) (y : Outcome) → y ≡ outcomeOf h x → Gives p l m x → p ≡ q → Comes (answerAs h q) l m y
+comes-typed h p q l m x y e g k = rw e (typed-comes h q l m x (sym k ∙ g .0, g .1))

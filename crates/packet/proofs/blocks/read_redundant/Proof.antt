@@ -1,0 +1,138 @@
+use denote.Ref.{now}
+use lib.ListN.{length, drop}
+use mathlib.Core.Path.{_≡_, ap, sym, _∙_}
+use native.Mathlib.Omega.{arith}
+use Rattle.rtp.specs.Areas.{over}
+use Rattle.rtp.specs.Redundancy.{redundancyHeaders, headersAnswer}
+use Rattle.rtp.specs.declared.redundancy.HeadersRead.{HeadersRead}
+use Rattle.rtp.proofs.AreaLaws.{part-to-end}
+use Rattle.rtp.proofs.RedundancyLaws.{Small}
+use Rattle.payload.specs.Payloads.{Rows, rowsAnswer, rowsWords}
+use Rattle.packet.specs.Blocks.{redundantRows}
+use Rattle.packet.specs.Room.{blocksFrom}
+use Rattle.packet.proofs.AnswerLaws.{gives-none, only-refusal}
+use Rattle.packet.proofs.SplitLaws.{split-refused, split-short, split-small, split-blocks, split-answer, split-asked, split-room}
+use borrow.Author.Needs.{needs}
+use Rattle.packet.proofs.blocks.read_redundant.Statement.{statement}
+use Rattle.packet.proofs.blocks.read_redundant.Tie as tie
+use Rattle.packet.proofs.blocks.read_redundant.Reads as reads
+use Rattle.packet.proofs.blocks.read_redundant.Lts as lts
+use Rattle.packet.proofs.blocks.check_blocks.Reads as check-blocks-reads
+use Rattle.packet.proofs.blocks.put_blocks.Reads as put-blocks-reads
+use Rattle.rtp.proofs.redundancy.read_headers.Reads as read-headers-reads
+
+-- the sizes of the block headers that were read
+sizes-at : (c : tie.After-sizes) → headersAnswer (redundancyHeaders (now (c .before .before .before .before .before .args .s))) ≡ HeadersRead.Headers (c .sizes .given .0 .0)
+sizes-at c = sym (c .before .before .read-headers .ensures) ∙ c .sizes .given .1
+
+small-at : (c : tie.After-sizes) → Small (length (now (c .before .before .before .before .before .args .s))) (c .sizes .given .0 .0)
+small-at c = let a = c .before .before .before .before .before .args in split-small (a .settings) (a .timestamp) (a .at) (now (a .s)) (c .before .before .before .before .before .pre .2) _ (sizes-at (c)) (λ i. c .before .before .before .before .shared-slice-known .given i .fits)
+
+-- the answer, as the call of check_blocks found it
+checked-at : (c : tie.After-check-blocks) → let a = c .before .before .before .before .before .before .before .before .before .before .args in
+    c .check-blocks .result ≡ rowsAnswer (blocksFrom (a .settings) 0 0 0 (now (a .s)) (drop (c .before .before .before .before .before .sizes .given .0 .0 .size) (now (a .s))))
+checked-at c = c .check-blocks .ensures ∙ rw (part-to-end (c .before .before .before .before .before .sizes .given .0 .0 .size) (now (c .before .before .before .before .before .before .before .before .before .before .args .s)))
+
+answer-at : (c : tie.After-check-blocks) → let a = c .before .before .before .before .before .before .before .before .before .before .args in
+    rowsAnswer (redundantRows (a .settings) (a .timestamp) (a .at) (now (a .s))) ≡ c .check-blocks .result
+answer-at c = let a = c .before .before .before .before .before .before .before .before .before .before .args in split-answer (a .settings) (a .timestamp) (a .at) (now (a .s)) (c .before .before .before .before .before .before .before .before .before .before .pre .2) _ (sizes-at (c .before .before .before .before .before)) (c .before .before .if1 .left) ∙ sym (checked-at c)
+
+read-headers-requires : tie.Need-read-headers-requires
+read-headers-requires c κs = search needs
+
+enum-known-refusal : tie.Need-enum-known-refusal
+enum-known-refusal c = search needs
+
+enum-known-sizes : tie.Need-enum-known-sizes
+enum-known-sizes c = search needs
+
+sub-if1 : tie.Need-sub-if1
+sub-if1 c = small-at (c .before) .within
+
+returns : tie.Need-returns
+returns c = let a = c .before .before .before .before .before .before .before .before .args in gives-none _ (now (a .rows)) _ (split-short (a .settings) (a .timestamp) (a .at) (now (a .s)) (c .before .before .before .before .before .before .before .before .pre .2) _ (sizes-at (c .before .before .before)) (c .if1 .taken))
+
+sub-check-blocks : tie.Need-sub-check-blocks
+sub-check-blocks c = small-at (c .before .before .before) .within
+
+part-check-blocks-start : tie.Need-part-check-blocks-start
+part-check-blocks-start c = omega (arith, small-at (c .before .before .before) .within)
+
+part-check-blocks-end : tie.Need-part-check-blocks-end
+part-check-blocks-end c = search needs
+
+check-blocks-requires : tie.Need-check-blocks-requires
+check-blocks-requires c κs =
+    let a = c .before .before .before .before .before .before .before .before .before .args in
+    rw (part-to-end (c .before .before .before .before .sizes .given .0 .0 .size) (now (a .s)))
+    (split-asked (a .settings) (a .timestamp) (a .at) (now (a .s)) (c .before .before .before .before .before .before .before .before .before .pre .2) _ (sizes-at (c .before .before .before .before)) (c .before .if1 .left) (c .before .before .before .before .before .before .before .before .before .pre .0) (small-at (c .before .before .before .before) .within) 0 (omega arith))
+
+enum-known-refusal-2 : tie.Need-enum-known-refusal-2
+enum-known-refusal-2 c = search needs
+
+enum-known-count : tie.Need-enum-known-count
+enum-known-count c = search needs
+
+cast-put-blocks : tie.Need-cast-put-blocks
+cast-put-blocks c = omega (arith, small-at (c .before .before .before .before .before .before .before .before) .within, c .before .before .before .before .before .before .before .before .before .before .before .before .before .pre .2)
+
+add-put-blocks : tie.Need-add-put-blocks
+add-put-blocks c = omega (arith, small-at (c .before .before .before .before .before .before .before .before) .within, c .before .before .before .before .before .before .before .before .before .before .before .before .before .pre .2)
+
+sub-put-blocks : tie.Need-sub-put-blocks
+sub-put-blocks c = small-at (c .before .before .before .before .before .before .before .before) .within
+
+part-put-blocks-start : tie.Need-part-put-blocks-start
+part-put-blocks-start c = omega (arith, small-at (c .before .before .before .before .before .before .before .before) .within)
+
+part-put-blocks-end : tie.Need-part-put-blocks-end
+part-put-blocks-end c = search needs
+
+put-blocks-requires : tie.Need-put-blocks-requires
+put-blocks-requires c κs =
+    let a = c .before .before .before .before .before .before .before .before .before .before .before .before .before .before .before .args in
+    rw (part-to-end (c .before .before .before .before .before .before .before .before .before .before .sizes .given .0 .0 .size) (now (a .s)))
+    (split-room (a .settings) (a .timestamp) (a .at) (now (a .s)) (c .before .before .before .before .before .before .before .before .before .before .before .before .before .before .before .pre .2) _ (sizes-at (c .before .before .before .before .before .before .before .before .before .before)) (c .before .before .before .before .before .before .before .if1 .left) (c .before .before .before .before .before .before .before .before .before .before .before .before .before .before .before .pre .0) (small-at (c .before .before .before .before .before .before .before .before .before .before) .within) _ _ (c .before .before .before .before .before .before .before .before .before .before .before .before .before .before .before .pre .1) (sym (checked-at (c .before .before .before .before .before)) ∙ c .before .before .before .count .given .1))
+
+returns-2 : tie.Need-returns-2
+returns-2 c = let a = c .before .before .before .before .before .before .args in gives-none _ (now (a .rows)) _ (split-refused (a .settings) (a .timestamp) (a .at) (now (a .s)) _ (sym (c .before .before .before .read-headers .ensures) ∙ c .before .refusal .given .1))
+
+returns-3 : tie.Need-returns-3
+returns-3 c = let a = c .before .before .before .before .before .before .before .before .before .before .before .before .before .args in gives-none _ (now (a .rows)) _ (only-refusal _ _ (answer-at (c .before .before .before) ∙ c .before .refusal2 .given .1))
+
+same-length : tie.Need-same-length
+same-length c = search needs
+
+returns-4 : tie.Need-returns-4
+returns-4 c =
+    let a = c .before .before .before .before .before .before .before .before .before .before .before .before .before .before .before .before .before .before .args in
+    let z = c .before .before .before .before .before .before .before .before .before .before .before .before .before .sizes .given .0 .0 in (
+      sym (answer-at (c .before .before .before .before .before .before .before .before) ∙ c .before .before .before .before .before .before .count .given .1),
+      (rw (part-to-end (z .size) (now (a .s))) at (c .before .before .put-blocks .ensures)) ∙ ap (λ (x : Rows). over (rowsWords x) (now (a .rows))) (sym (split-blocks (a .settings) (a .timestamp) (a .at) (now (a .s)) (c .before .before .before .before .before .before .before .before .before .before .before .before .before .before .before .before .before .before .pre .2) _ (sizes-at (c .before .before .before .before .before .before .before .before .before .before .before .before .before)) (c .before .before .before .before .before .before .before .before .before .before .if1 .left))),
+    )
+
+pub read-redundant-spec : {M : Type 1} → statement M
+read-redundant-spec =
+    tie.close
+    (tie.spec
+    read-headers-requires
+    enum-known-refusal
+    enum-known-sizes
+    sub-if1
+    returns
+    sub-check-blocks
+    part-check-blocks-start
+    part-check-blocks-end
+    check-blocks-requires
+    enum-known-refusal-2
+    enum-known-count
+    cast-put-blocks
+    add-put-blocks
+    sub-put-blocks
+    part-put-blocks-start
+    part-put-blocks-end
+    put-blocks-requires
+    returns-2
+    returns-3
+    same-length
+    returns-4)

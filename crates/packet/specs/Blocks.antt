@@ -1,0 +1,58 @@
+-- Document 01, "Redundancy": the blocks of a redundancy payload and their rows.
+use Prim.Native.Nat.{ℕ, _+_, _-_}
+use mathlib.Core.List.{List, [], _∷_, _++_}
+use mathlib.Core.Bool.{Bool, true, false, cond}
+use lib.ListN.{length, take, drop}
+use lib.Dec.{ltb, eqb}
+use Rattle.rtp.specs.Redundancy.{before, Headers, refused, headersOf, redundancyHeaders, headersSize, redundantSize}
+use Rattle.rtp.specs.declared.settings.Settings.{Settings}
+use Rattle.rtp.specs.declared.refusal.Refusal.{Refusal}
+use Rattle.rtp.specs.declared.refusal.Refusal.the-variants.{LengthMismatch}
+use Rattle.rtp.specs.declared.redundancy.Redundant.{Redundant}
+use Rattle.payload.specs.Rows.{Row}
+use Rattle.payload.specs.Payloads.{Rows, noRows, rowsOf, payloadRows}
+
+-- a block: its type, its offset, its place in the packet and its bytes
+pub record Block : Type 0 where
+  pub type : ℕ
+  pub offset : ℕ
+  pub at : ℕ
+  pub bytes : List ℕ
+
+-- the blocks of the bytes d, which stand at `at`, in header order; the primary block has offset 0 and takes all that remains
+unfoldable pub cut : List Redundant → ℕ → ℕ → List ℕ → List Block
+cut [] type at d = record { type = type; offset = 0; at = at; bytes = d } ∷ []
+cut (b ∷ bs) type at d =
+    record { type = b .«payload_type»; offset = b .offset; at = at; bytes = take (b .length) d } ∷ cut bs type (at + b .length) (drop (b .length) d)
+
+-- a block's rows after `done` rows of the packet: none of another type, and none of a block of length 0
+unfoldable pub blockRows : Settings → ℕ → ℕ → Block → Rows
+blockRows st done time b =
+    cond (eqb (b .type) (st .«payload_type»))
+    (cond (eqb (length (b .bytes)) 0) (rowsOf []) (payloadRows (st .format) (st .channels) done (before time (b .offset)) (b .at) (b .bytes)))
+    (rowsOf [])
+
+abbrev pub prependRows : List Row → Rows → Rows
+prependRows rs (noRows r) = noRows r
+prependRows rs (rowsOf qs) = rowsOf (rs ++ qs)
+
+-- rows, and those that `next` gives after so many
+abbrev pub thenRows : Rows → (ℕ → Rows) → Rows
+thenRows (noRows r) next = noRows r
+thenRows (rowsOf rs) next = prependRows rs (next (length rs))
+
+-- the blocks' rows, one after another; the first refusal decides
+unfoldable pub blocksRows : Settings → ℕ → ℕ → List Block → Rows
+blocksRows st done time [] = rowsOf []
+blocksRows st done time (b ∷ bs) = thenRows (blockRows st done time b) (λ n. blocksRows st (done + n) time bs)
+
+-- the payload s at `at`, whose block headers are these: their lengths are summed before any block is read
+abbrev pub splitRows : Settings → ℕ → ℕ → List ℕ → Headers → Rows
+splitRows st time at s (refused r) = noRows r
+splitRows st time at s (headersOf bs type) =
+    cond (ltb (length s - headersSize bs) (redundantSize bs)) (noRows LengthMismatch)
+    (blocksRows st 0 time (cut bs type (at + headersSize bs) (drop (headersSize bs) s)))
+
+-- a redundancy payload: all block headers are walked first
+unfoldable pub redundantRows : Settings → ℕ → ℕ → List ℕ → Rows
+redundantRows st time at s = splitRows st time at s (redundancyHeaders s)

@@ -1,0 +1,77 @@
+-- A packet read into rows: `reading` is the whole meaning of a call of `read`, refusals included.
+use Prim.Native.Nat.{ℕ, _-_}
+use mathlib.Core.List.{List, []}
+use mathlib.Core.Bool.{Bool, true, false, cond}
+use lib.ListN.{length, take, drop}
+use lib.Dec.{ltb, eqb}
+use Rattle.rtp.specs.Sizes.{rowArea}
+use Rattle.rtp.specs.Ranges.{inRange}
+use Rattle.rtp.specs.Refusals.{number}
+use Rattle.rtp.specs.Header.{header}
+use Rattle.rtp.specs.declared.settings.Settings.{Settings}
+use Rattle.rtp.specs.declared.header.Header.{Header}
+use Rattle.rtp.specs.declared.header.HeaderRead.{HeaderRead}
+use Rattle.rtp.specs.declared.refusal.Refusal.{Refusal}
+use Rattle.rtp.specs.declared.refusal.Refusal.the-variants.{UnknownPayloadType, SettingsOutOfRange, AreaTooShort}
+use Rattle.payload.specs.Rows.{Row, words}
+use Rattle.payload.specs.Payloads.{Rows, noRows, rowsOf, payloadRows}
+use Rattle.packet.specs.declared.reading.Reading.{Reading}
+use Rattle.packet.specs.Blocks.{redundantRows}
+
+-- the payload of a packet: what lies between its headers and its padding
+abbrev pub payloadIn : List ℕ → Header → List ℕ
+payloadIn s h = take (h .end - h .start) (drop (h .start) s)
+
+-- the rows of a payload by the packet's type: the payload type, the redundancy type, or neither
+unfoldable pub typedRows : Settings → Header → List ℕ → Rows
+typedRows st h p =
+    cond (eqb (h .«payload_type») (st .«payload_type»)) (payloadRows (st .format) (st .channels) 0 (h .timestamp) (h .start) p)
+    (cond (eqb (h .«payload_type») (st .«redundancy_type»)) (redundantRows st (h .timestamp) (h .start) p) (noRows UnknownPayloadType))
+
+-- what reading a packet comes to: a refusal, or the header and the rows
+pub data Outcome : Type 0 where
+  refused : Refusal → Outcome
+  readAs : Header → List Row → Outcome
+
+abbrev pub outcomeOf : Header → Rows → Outcome
+outcomeOf h (noRows r) = refused r
+outcomeOf h (rowsOf rs) = readAs h rs
+
+-- reading a packet under settings in range
+abbrev pub headedBy : Settings → List ℕ → HeaderRead → Outcome
+headedBy st s (HeaderRead.Refused r) = refused r
+headedBy st s (HeaderRead.Header h) = outcomeOf h (typedRows st h (payloadIn s h))
+
+-- reading the packet s into an area of so many words
+unfoldable pub reading : Settings → ℕ → List ℕ → Outcome
+reading st area s =
+    cond (inRange st)
+    (cond (ltb area rowArea) (refused AreaTooShort) (headedBy st s (header s)))
+    (refused SettingsOutOfRange)
+
+-- The answer in numbers: the refusal number or 0, then row count, M, sequence, timestamp and source, all 0 on refusal
+pub record Numbers : Type 0 where
+  pub refusal : ℕ
+  pub rows : ℕ
+  pub marker : ℕ
+  pub sequence : ℕ
+  pub timestamp : ℕ
+  pub source : ℕ
+
+abbrev pub refusedNumbers : Refusal → Numbers
+refusedNumbers r = record { refusal = number r; rows = 0; marker = 0; sequence = 0; timestamp = 0; source = 0 }
+
+-- of the code's answer, case by case
+abbrev pub readingNumbers : Reading → Numbers
+readingNumbers (Reading.Refused r) = refusedNumbers r
+readingNumbers (Reading.Read p) = record { refusal = 0; rows = p .rows; marker = p .marker; sequence = p .sequence; timestamp = p .timestamp; source = p .source }
+
+-- of what reading comes to
+unfoldable pub outcomeNumbers : Outcome → Numbers
+outcomeNumbers (refused r) = refusedNumbers r
+outcomeNumbers (readAs h rs) = record { refusal = 0; rows = length rs; marker = h .marker; sequence = h .sequence; timestamp = h .timestamp; source = h .source }
+
+-- the words written over the front of the row area: none on refusal
+unfoldable pub outcomeWords : Outcome → List ℕ
+outcomeWords (refused r) = []
+outcomeWords (readAs h rs) = words rs

@@ -1,0 +1,3 @@
+// Packets: read into frame rows.
+pub mod blocks;
+pub mod reading;

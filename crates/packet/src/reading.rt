@@ -1,0 +1,87 @@
+// A packet read into frame rows.
+use crate::blocks;
+use payload::reading;
+use payload::reading::PayloadRead;
+use payload::reading::ROW_AREA;
+use rtp::header;
+use rtp::header::Header;
+use rtp::header::HeaderRead;
+use rtp::refusal::Refusal;
+use rtp::settings::Settings;
+ghost use mathlib.Core.Path.{_≡_};
+ghost use mathlib.Core.Bool.{true};
+ghost use Prim.Native.Nat.{_≤_};
+ghost use lib.ListN.{length};
+ghost use Rattle.rtp.specs.Sizes.{rowArea};
+ghost use Rattle.rtp.specs.Areas.{over};
+ghost use Rattle.rtp.specs.Ranges.{inRange};
+ghost use Rattle.rtp.specs.Header.{header};
+ghost use Rattle.payload.specs.Payloads.{rowsAnswer, rowsWords};
+ghost use Rattle.rtp.specs.declared.header.HeaderRead.{HeaderRead};
+ghost use Rattle.packet.specs.Readings.{payloadIn, typedRows, reading, readingNumbers, outcomeNumbers, outcomeWords};
+
+// What a packet that was read says of itself: the number of its rows, and its header.
+pub struct Packet {
+    pub rows: u32,
+    pub marker: u8,
+    pub sequence: u16,
+    pub timestamp: u32,
+    pub source: u32,
+}
+
+pub enum Reading {
+    Read(Packet),
+    Refused(Refusal),
+}
+
+// The payload of a packet with this header, by the packet's type.
+fn read_typed(settings: Settings, head: Header, packet: &[u8], rows: &mut [u32]) -> PayloadRead
+    requires { ⌜ (inRange settings ≡ true) × (rowArea ≤ length (now rows)) × (header (now packet) ≡ HeaderRead.Header head) ⌝ }
+    ensures { λ r. ⌜ (r ≡ rowsAnswer (typedRows settings head (payloadIn (now (packet .entry)) head)))
+        × (now (rows .exit) ≡ over (rowsWords (typedRows settings head (payloadIn (now (packet .entry)) head))) (now (rows .entry))) ⌝ }
+{
+    let start = head.start;
+    let end = head.end;
+    let place = start as u32;
+    if head.payload_type == settings.payload_type {
+        return reading::read_payload(
+            settings,
+            0,
+            head.timestamp,
+            place,
+            &packet[start..end],
+            rows,
+        );
+    }
+    if head.payload_type == settings.redundancy_type {
+        return blocks::read_redundant(settings, head.timestamp, place, &packet[start..end], rows);
+    }
+    PayloadRead::Refused(Refusal::UnknownPayloadType)
+}
+
+// The packet's rows at the front of the area, with the row count and the header; or a refusal, and the area unchanged.
+pub fn read(settings: Settings, packet: &[u8], rows: &mut [u32]) -> Reading
+    ensures { λ r. ⌜ (readingNumbers r ≡ outcomeNumbers (reading settings (length (now (rows .entry))) (now (packet .entry))))
+        × (now (rows .exit) ≡ over (outcomeWords (reading settings (length (now (rows .entry))) (now (packet .entry)))) (now (rows .entry))) ⌝ }
+{
+    if rtp::settings::in_range(settings) {
+        if rows.len() < ROW_AREA {
+            return Reading::Refused(Refusal::AreaTooShort);
+        }
+        match header::read_header(packet) {
+            HeaderRead::Refused(refusal) => Reading::Refused(refusal),
+            HeaderRead::Header(head) => match read_typed(settings, head, packet, rows) {
+                PayloadRead::Refused(refusal) => Reading::Refused(refusal),
+                PayloadRead::Rows(count) => Reading::Read(Packet {
+                    rows: count,
+                    marker: head.marker,
+                    sequence: head.sequence,
+                    timestamp: head.timestamp,
+                    source: head.source,
+                }),
+            },
+        }
+    } else {
+        Reading::Refused(Refusal::SettingsOutOfRange)
+    }
+}
