@@ -1,4 +1,5 @@
 pub mod Frames
+pub mod Codes
 pub mod Contents
 pub mod Rows
 pub mod Payloads

@@ -1,4 +1,5 @@
 // The payload formats: frame tables, tables of contents, and a payload read into frame rows.
+pub mod codes;
 pub mod contents;
 pub mod frames;
 pub mod reading;

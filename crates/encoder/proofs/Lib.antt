@@ -1,0 +1,16 @@
+pub mod ListLaws
+pub mod PlanLaws
+pub mod CodeLaws
+pub mod EntryBackLaws
+pub mod TableBackLaws
+pub mod ByteLaws
+pub mod TableBlockLaws
+pub mod FrameLaws
+pub mod AttachLaws
+pub mod ShortestLaws
+pub mod TickLaws
+pub mod PlanBlockLaws
+pub mod PlanRowLaws
+pub mod PlanTableLaws
+pub mod ReadLaws
+pub mod WritingTheorems

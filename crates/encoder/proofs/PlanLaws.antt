@@ -1,0 +1,175 @@
+-- Laws of plans as the code holds them.
+use mathlib.Core.Path.{_≡_, refl, ap, sym, _∙_}
+use mathlib.Core.List.{List, [], _∷_}
+use mathlib.Core.Bool.{Bool, true, false, cond}
+use Prim.Native.Nat.{ℕ, zero, suc, _+_, _-_, _*_, _/_, _%_, _≤_, _<_}
+use native.Mathlib.Omega.{arith}
+use native.Mathlib.Nat.{mul-le-mul-left, mul-le-mul-right, suc-mul, one-mul, add-mul, add-zero}
+use lib.ListN.{length, getD, drop}
+use lib.Dec.{ltb, leb, eqb}
+use native.Mathlib.Numerals.{add-one}
+use borrow.Author.Tests.{lt-ltb, le-ltb, ltb-true, ltb-false, leb-true, leb-false, eqb-true, eqb-false, eq-eqb, ne-eqb}
+use Rattle.rtp.specs.Sizes.{maxRows, maxFrame, rowWidth}
+use Rattle.rtp.specs.Ranges.{g719Interleaved, gsmHr}
+use Rattle.rtp.specs.declared.refusal.Refusal.{Refusal}
+use Rattle.rtp.proofs.TestLaws.{by-test, not-both}
+use Rattle.payload.specs.Contents.{Group, Contents, refused, groups, entrySize, sizeIn, framesIn}
+use Rattle.payload.specs.Rows.{Row}
+use Rattle.encoder.specs.declared.plans.Plan.{Plan}
+use Rattle.encoder.specs.declared.plans.Planned.{Planned}
+use Rattle.payload.specs.Frames.{stepOf, noData, sound, gsmLength}
+use Rattle.payload.specs.Codes.{noCode, lengthCode, codeFor}
+use Rattle.encoder.specs.Plans.{maxPayload, gapBetween, starts, headGap, single, joins, attach, follows, planFrom, plan, nextChannel, fitting}
+use Rattle.encoder.specs.Lists.{rowsIn}
+use Rattle.encoder.proofs.ListLaws.{rows-none, rows-more}
+use Rattle.encoder.specs.Room.{rowAs, wordsAt, planAnswer, joinsPlan, attachPlan, SmallPlan, Small}
+
+-- the bytes of a frame-block stay small
+pub block-frames : (ch n : ℕ) → ch < 256 → n ≤ maxFrame → ch * n ≤ 81600
+block-frames ch n c s = let h : ch ≤ 255 = omega arith in omega (arith, mul-le-mul-left ch s, mul-le-mul-right {m = ch} {n = 255} maxFrame h)
+
+pub plan-frames : (format ch : ℕ) (p : Plan) → SmallPlan format ch maxRows p → ch < 256 → p .frames ≤ 10444800
+plan-frames format ch p s c = omega (arith, block-frames ch maxFrame c (omega arith), s .framed)
+
+-- an entry has at most three bytes for its first frame-block, and at most one more for each other
+pub size-grows : (format n : ℕ) → entrySize format n ≤ 2 + n
+size-grows format n =
+    by-test (eqb format gsmHr) (λ a. simp a (omega arith))
+    (λ a. by-test (eqb format g719Interleaved) (λ b. simp (a, b) (omega arith)) (λ b. simp (a, b) (omega arith)))
+
+pub size-next : (format n : ℕ) → entrySize format (n + 1) ≤ entrySize format n + 1
+size-next format n =
+    by-test (eqb format gsmHr) (λ a. simp a (omega arith))
+    (λ a. by-test (eqb format g719Interleaved) (λ b. simp (a, b) (omega arith)) (λ b. simp (a, b) (omega arith)))
+
+-- a frame-block before a plan, in the plan's numbers
+
+same-joins : (format ch : ℕ) (r : Row) (gap : ℕ) (g : Group) (gs : List Group) → joins format r g ≡ true → r .length ≡ g .length
+same-joins format ch r gap g gs h =
+    by-test (eqb format gsmHr) (λ a. absurd (no (rw a at h)))
+    (λ a. by-test (eqb (r .class) (g .class)) (λ b. by-test (eqb (r .length) (g .length)) (λ e. eqb-true (r .length) (g .length) e) (λ e. absurd (no (rw (a, b, e) at h))))
+    (λ b. absurd (no (rw (a, b) at h))))
+  where
+    no : _≡_ {A = Bool} false true → ⊥
+    no e = not-both false e refl
+
+frames-more : (n ch len : ℕ) → suc n * ch * len ≡ ch * len + n * ch * len
+frames-more n ch len = rw (suc-mul n ch, add-mul (n * ch) ch len) (omega arith)
+
+pub answer-attach : (format ch : ℕ) (r : Row) (gap : ℕ) (x : Contents) → planAnswer format ch (attach format r gap x) ≡ attachPlan format ch r gap (planAnswer format ch x)
+unfolding planAnswer sizeIn framesIn
+answer-attach format ch r gap (refused q) = refl
+answer-attach format ch r gap (groups []) = rw (one-mul ch, add-zero, add-zero)
+answer-attach format ch r gap (groups (g ∷ gs)) =
+    by-test (joins format r g)
+    (λ a.
+    let n = length (g .gaps) in
+    let t : entrySize format (suc n) + sizeIn format gs ≡ entrySize format (n + 1) + (entrySize format n + sizeIn format gs - entrySize format n) =
+    rw (add-one (length (g .gaps))) (omega arith) in
+    let f : suc n * ch * g .length + framesIn ch gs ≡ ch * r .length + (n * ch * g .length + framesIn ch gs) =
+    rw (same-joins format ch r gap g gs a, frames-more n ch (g .length)) (omega arith) in
+    rw (a, t, f, add-one n))
+    (λ a. by-test (eqb (headGap g) 0) (λ b. rw (a, b, one-mul ch)) (λ b. rw (a, b)))
+
+-- Bounds
+
+pub code-short : (format class n : ℕ) → codeFor format class n < noCode → n ≤ maxFrame
+unfolding codeFor lengthCode
+code-short format class n h =
+    by-test (eqb format gsmHr)
+    (λ a. by-test (eqb class noData)
+    (λ b. by-test (eqb n 0) (λ d. omega (arith, eqb-true n 0 d)) (λ d. absurd (omega (arith, rw (a, b, d) at h))))
+    (λ b. by-test (eqb n gsmLength) (λ d. omega (arith, eqb-true n gsmLength d)) (λ d. absurd (omega (arith, rw (a, b, d) at h)))))
+    (λ a. by-test (eqb class noData)
+    (λ b. by-test (eqb n 0) (λ d. omega (arith, eqb-true n 0 d)) (λ d. absurd (omega (arith, rw (a, b, d) at h))))
+    (λ b. by-test (eqb class sound)
+    (λ d. by-test (ltb n 80) (λ e. omega (arith, ltb-true n 80 e))
+    (λ e. by-test (leb n 220) (λ i. omega (arith, leb-true n 220 i))
+    (λ i. by-test (ltb n 240) (λ j. omega (arith, ltb-true n 240 j))
+    (λ j. by-test (leb n 320) (λ k. leb-true n 320 k) (λ k. absurd (omega (arith, rw (a, b, d, e, i, j, k) at h)))))))
+    (λ d. absurd (omega (arith, rw (a, b, d) at h)))))
+
+pub small-more : (format ch n : ℕ) (x : Planned) → Small format ch n x → Small format ch (suc n) x
+small-more format ch n (Planned.Table p) s = record { few = omega arith; entry = s .entry; tabled = omega arith; framed = rw suc-mul (omega arith) }
+small-more format ch n Planned.Empty s = tt
+small-more format ch n Planned.Unwritable s = tt
+
+pub small-weaker : (format ch m n : ℕ) (x : Planned) → m ≤ n → Small format ch m x → Small format ch n x
+small-weaker format ch m n (Planned.Table p) l s = record { few = omega arith; entry = s .entry; tabled = omega arith; framed = omega (arith, mul-le-mul-right {m = m} {n = n} (ch * maxFrame) l) }
+small-weaker format ch m n Planned.Empty l s = tt
+small-weaker format ch m n Planned.Unwritable l s = tt
+
+small-attach : (format ch n : ℕ) (r : Row) (gap : ℕ) (x : Planned) → r .length ≤ maxFrame → Small format ch n x → Small format ch (suc n) (attachPlan format ch r gap x)
+small-attach format ch n r gap Planned.Unwritable l s = tt
+small-attach format ch n r gap Planned.Empty l s =
+    record { few = omega arith; entry = omega arith; tabled = omega (arith, size-grows format 1); framed = rw suc-mul (omega (arith, mul-le-mul-left ch l)) }
+small-attach format ch n r gap (Planned.Table p) l s =
+    by-test (joinsPlan format r (p .class) (p .length) (p .gap))
+    (λ a. rw a (record {
+      few = omega arith;
+      entry = omega arith;
+      tabled = omega (arith, size-next format (p .blocks), s .entry, s .tabled);
+      framed = rw suc-mul (omega (arith, mul-le-mul-left ch l, s .framed));
+    }))
+    (λ a. by-test (eqb (p .gap) 0)
+    (λ b. rw (a, b) (record {
+      few = omega arith;
+      entry = omega arith;
+      tabled = omega (arith, size-grows format 1, s .tabled);
+      framed = rw suc-mul (omega (arith, mul-le-mul-left ch l, s .framed));
+    }))
+    (λ b. rw (a, b) tt))
+
+pub starts-short : (format previous : ℕ) (r : Row) → starts format previous r ≡ true → r .length ≤ maxFrame
+starts-short format previous r h =
+    by-test (ltb (codeFor format (r .class) (r .length)) noCode)
+    (λ a. code-short format (r .class) (r .length) (ltb-true _ _ a))
+    (λ a. absurd (not-both {P = ⊥} false (rw a at h) refl))
+
+pub follows-short : (format c : ℕ) (p r : Row) → c ≡ 0 → follows format c p r ≡ true → r .length ≤ maxFrame
+follows-short format c p r z h =
+    by-test (eqb (r .channel) c)
+    (λ a. starts-short format (p .time) r (rw (a, eq-eqb c 0 z) at h))
+    (λ a. absurd (not-both {P = ⊥} false (rw a at h) refl))
+
+pub small-plan : (format ch c : ℕ) (p : Row) (rs : List Row) → Small format ch (length rs) (planAnswer format ch (planFrom format ch c p rs))
+unfolding planFrom
+small-plan format ch c p [] = by-test (eqb c 0) (λ a. rw a (unfold planAnswer in tt)) (λ a. rw a (unfold planAnswer in tt))
+small-plan format ch c p (r ∷ rs) =
+    let ih = small-plan format ch (nextChannel ch c) r rs in
+    by-test (follows format c p r)
+    (λ a. by-test (eqb c 0)
+    (λ b. rw (a, b, answer-attach) (small-attach format ch (length rs) r (gapBetween (stepOf format) (p .time) (r .time)) (planAnswer format ch (planFrom format ch (nextChannel ch c) r rs)) (follows-short format c p r (eqb-true c 0 b) a) ih))
+    (λ b. rw (a, b) (small-more format ch (length rs) (planAnswer format ch (planFrom format ch (nextChannel ch c) r rs)) ih)))
+    (λ a. rw a (unfold planAnswer in tt))
+
+-- The plan of the rows in a word area, by its first row
+
+pub next-below : (ch c : ℕ) → c < ch → nextChannel ch c < ch
+next-below ch c h = by-test (eqb (c + 1) ch) (λ a. rw a (omega arith)) (λ a. rw a (omega (arith, eqb-false (c + 1) ch a)))
+
+module _ (format ch c : ℕ) (p : Row) (ws : List ℕ) where
+  pub plan-empty : length ws < rowWidth → c ≡ 0 → planAnswer format ch (planFrom format ch c p (rowsIn ws)) ≡ Planned.Empty
+  unfolding planFrom planAnswer
+  plan-empty h z = rw (rows-none ws h, eq-eqb c 0 z)
+
+  pub plan-cut : length ws < rowWidth → (c ≡ 0 → ⊥) → planAnswer format ch (planFrom format ch c p (rowsIn ws)) ≡ Planned.Unwritable
+  unfolding planFrom planAnswer
+  plan-cut h z = rw (rows-none ws h, ne-eqb c 0 z)
+
+  module _ (h : rowWidth ≤ length ws) where
+    pub plan-stop : follows format c p (rowAs (wordsAt ws 0)) ≡ false → planAnswer format ch (planFrom format ch c p (rowsIn ws)) ≡ Planned.Unwritable
+    unfolding planFrom planAnswer
+    plan-stop f = rw (rows-more ws h, f)
+
+    pub plan-start : follows format c p (rowAs (wordsAt ws 0)) ≡ true → c ≡ 0
+        → planAnswer format ch (planFrom format ch c p (rowsIn ws))
+        ≡ attachPlan format ch (rowAs (wordsAt ws 0)) (gapBetween (stepOf format) (p .time) (getD ws 0 0))
+        (planAnswer format ch (planFrom format ch (nextChannel ch c) (rowAs (wordsAt ws 0)) (rowsIn (drop rowWidth ws))))
+    unfolding planFrom
+    plan-start f z = rw (rows-more ws h, f, eq-eqb c 0 z) (answer-attach format ch (rowAs (wordsAt ws 0)) _ _)
+
+    pub plan-go : follows format c p (rowAs (wordsAt ws 0)) ≡ true → (c ≡ 0 → ⊥)
+        → planAnswer format ch (planFrom format ch c p (rowsIn ws)) ≡ planAnswer format ch (planFrom format ch (nextChannel ch c) (rowAs (wordsAt ws 0)) (rowsIn (drop rowWidth ws)))
+    unfolding planFrom
+    plan-go f z = rw (rows-more ws h, f, ne-eqb c 0 z)

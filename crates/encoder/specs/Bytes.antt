@@ -1,0 +1,40 @@
+-- The bytes of a plan and its frames. Reserved and padding bits, and every DIS1, are 0.
+use Prim.Native.Nat.{ℕ, _+_, _*_}
+use mathlib.Core.List.{List, [], _∷_, _++_}
+use mathlib.Core.Bool.{Bool, true, false, cond}
+use lib.ListN.{length, take, drop}
+use lib.Dec.{eqb}
+use Rattle.rtp.specs.Ranges.{g719Interleaved, gsmHr}
+use Rattle.payload.specs.Contents.{Group}
+use Rattle.payload.specs.Rows.{Row}
+use Rattle.payload.specs.Codes.{codeFor}
+
+-- 4-bit numbers in bytes, high half first, with four zero bits after an odd number
+unfoldable pub halves : List ℕ → List ℕ
+halves [] = []
+halves (a ∷ []) = 16 * a ∷ []
+halves (a ∷ b ∷ ns) = (16 * a + b) ∷ halves ns
+
+-- the bit F: another entry follows
+abbrev pub flag : Bool → ℕ
+flag more = cond more 128 0
+
+-- an entry's bytes; a plan's first gap in a group is 0, and so is its DIS1
+unfoldable pub entryBytes : ℕ → Bool → Group → List ℕ
+entryBytes format more g =
+    cond (eqb format gsmHr) ((flag more + 16 * codeFor format (g .class) (g .length)) ∷ [])
+    ((flag more + 4 * codeFor format (g .class) (g .length)) ∷ length (g .gaps) ∷ cond (eqb format g719Interleaved) (halves (g .gaps)) [])
+
+unfoldable pub tableBytes : ℕ → List Group → List ℕ
+tableBytes format [] = []
+tableBytes format (g ∷ []) = entryBytes format false g
+tableBytes format (g ∷ h ∷ gs) = entryBytes format true g ++ tableBytes format (h ∷ gs)
+
+-- a row's frame in the bytes that it points into
+abbrev pub frameIn : List ℕ → Row → List ℕ
+frameIn bytes r = take (r .length) (drop (r .start) bytes)
+
+-- the frames of a list, one after another
+unfoldable pub frames : List ℕ → List Row → List ℕ
+frames bytes [] = []
+frames bytes (r ∷ rs) = frameIn bytes r ++ frames bytes rs

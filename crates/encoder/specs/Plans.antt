@@ -1,0 +1,93 @@
+-- The table of contents that a frame list is written with: one entry for each longest run of frame-blocks of equal length (GSM-HR: one
+-- entry a frame), or none. A plan is a table as reading has it: a list of groups.
+use Prim.Native.Nat.{ℕ, zero, suc, _+_, _-_, _*_, _/_, _%_, _^_}
+use mathlib.Core.List.{List, [], _∷_}
+use mathlib.Core.Bool.{Bool, true, false, cond}
+use lib.ListN.{length, getD}
+use lib.Dec.{ltb, leb, eqb}
+use Rattle.rtp.specs.Sizes.{maxRows, minPacket, maxPacket}
+use Rattle.rtp.specs.Ranges.{g719Interleaved, gsmHr}
+use Rattle.rtp.specs.Redundancy.{before}
+use Rattle.rtp.specs.declared.refusal.Refusal.the-variants.{Unwritable}
+use Rattle.payload.specs.Frames.{stepOf}
+use Rattle.payload.specs.Contents.{Group, Contents, refused, groups, sizeIn, framesIn}
+use Rattle.payload.specs.Rows.{Row}
+use Rattle.payload.specs.Codes.{noCode, codeFor}
+
+-- the longest payload that is written alone: what a packet has room for after its header
+abbrev pub maxPayload : ℕ
+maxPayload = maxPacket - minPacket
+
+-- the ticks from the place after a frame-block's time to another time, modulo 2^32
+abbrev pub ticksAfter : ℕ → ℕ → ℕ → ℕ
+ticksAfter step previous time = before (before time step) previous
+
+-- the frame-blocks left out between a frame-block and the next
+abbrev pub gapBetween : ℕ → ℕ → ℕ → ℕ
+gapBetween step previous time = ticksAfter step previous time / step
+
+-- the most frame-blocks that an entry can leave out before one of its own
+abbrev pub maxGap : ℕ → ℕ
+maxGap format = cond (eqb format g719Interleaved) 15 0
+
+-- the channel after c of a frame-block of so many channels: the first of the next one after the last
+abbrev pub nextChannel : ℕ → ℕ → ℕ
+nextChannel ch c = cond (eqb (c + 1) ch) 0 (c + 1)
+
+-- a frame-block may start with this row after a frame-block at `previous`: the format has its class and length, and it stands a whole number of steps on
+abbrev pub starts : ℕ → ℕ → Row → Bool
+starts format previous r =
+    cond (ltb (codeFor format (r .class) (r .length)) noCode) (eqb (ticksAfter (stepOf format) previous (r .time) % stepOf format) 0) false
+
+-- a row goes on with the frame-block of the row before it: the same time, class and length
+abbrev pub continues : Row → Row → Bool
+continues p r = cond (eqb (r .time) (p .time)) (cond (eqb (r .class) (p .class)) (eqb (r .length) (p .length)) false) false
+
+-- a row that stands at channel c, after the row p
+abbrev pub follows : ℕ → ℕ → Row → Row → Bool
+follows format c p r = cond (eqb (r .channel) c) (cond (eqb c 0) (starts format (p .time) r) (continues p r)) false
+
+abbrev pub headGap : Group → ℕ
+headGap g = getD (g .gaps) 0 0
+
+-- one frame-block by itself, so many frame-blocks after the one before
+abbrev pub single : Row → ℕ → Group
+single r gap = record { class = r .class; length = r .length; gaps = gap ∷ [] }
+
+-- a frame-block and the group after it make one run: of equal class and length, no further apart than an entry can say, and GSM-HR has no runs
+abbrev pub joins : ℕ → Row → Group → Bool
+joins format r g =
+    cond (eqb format gsmHr) false
+    (cond (eqb (r .class) (g .class)) (cond (eqb (r .length) (g .length)) (leb (headGap g) (maxGap format)) false) false)
+
+-- a frame-block before a table: it joins the first run, or is a run of its own, which the next run must follow directly
+abbrev pub attach : ℕ → Row → ℕ → Contents → Contents
+attach format r gap (refused q) = refused q
+attach format r gap (groups []) = groups (single r gap ∷ [])
+attach format r gap (groups (g ∷ gs)) =
+    cond (joins format r g) (groups (record { class = g .class; length = g .length; gaps = gap ∷ g .gaps } ∷ gs))
+    (cond (eqb (headGap g) 0) (groups (single r gap ∷ g ∷ gs)) (refused Unwritable))
+
+-- the plan of the rows from channel c on, after the row p
+unfoldable pub planFrom : ℕ → ℕ → ℕ → Row → List Row → Contents
+planFrom format ch c p [] = cond (eqb c 0) (groups []) (refused Unwritable)
+planFrom format ch c p (r ∷ rs) =
+    cond (follows format c p r)
+    (cond (eqb c 0) (attach format r (gapBetween (stepOf format) (p .time) (r .time)) (planFrom format ch (nextChannel ch c) r rs)) (planFrom format ch (nextChannel ch c) r rs))
+    (refused Unwritable)
+
+-- a row one step before the first of a list, which the list's first frame-block follows directly
+abbrev pub stepBefore : ℕ → Row → Row
+stepBefore format r = record { time = before (r .time) (stepOf format); class = r .class; channel = r .channel; start = r .start; length = r .length }
+
+-- a table with its frames within the longest payload
+abbrev pub fitting : ℕ → ℕ → Contents → Contents
+fitting format ch (refused q) = refused q
+fitting format ch (groups gs) = cond (ltb maxPayload (sizeIn format gs + framesIn ch gs)) (refused Unwritable) (groups gs)
+
+-- the plan of a whole list: an empty one has none, nor has one of too many rows
+unfoldable pub plan : ℕ → ℕ → List Row → Contents
+plan format ch [] = refused Unwritable
+plan format ch (r ∷ rs) =
+    cond (ltb maxRows (length (r ∷ rs))) (refused Unwritable)
+    (fitting format ch (planFrom format ch 0 (stepBefore format r) (r ∷ rs)))

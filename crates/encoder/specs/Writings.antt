@@ -1,0 +1,63 @@
+-- A payload written alone: `writing` is the whole meaning of a call of `write_payload`, refusals included.
+use Prim.Native.Nat.{ℕ}
+use mathlib.Core.List.{List, [], _++_}
+use mathlib.Core.Bool.{Bool, true, false, cond}
+use lib.ListN.{length}
+use lib.Dec.{ltb}
+use Rattle.rtp.specs.Ranges.{inRange}
+use Rattle.rtp.specs.Refusals.{number}
+use Rattle.rtp.specs.declared.settings.Settings.{Settings}
+use Rattle.rtp.specs.declared.refusal.Refusal.{Refusal}
+use Rattle.rtp.specs.declared.refusal.Refusal.the-variants.{SettingsOutOfRange, RowOutsideBytes, Unwritable, AreaTooShort}
+use Rattle.payload.specs.Contents.{Contents, refused, groups}
+use Rattle.payload.specs.Rows.{Row}
+use Rattle.encoder.specs.declared.writing.Written.{Written}
+use Rattle.encoder.specs.Lists.{rowsIn, whole, outside}
+use Rattle.encoder.specs.Plans.{plan}
+use Rattle.encoder.specs.Bytes.{tableBytes, frames}
+
+-- bytes to be written, or why there are none
+pub data Encoded : Type 0 where
+  noBytes : Refusal → Encoded
+  bytesOf : List ℕ → Encoded
+
+abbrev pub plannedBytes : ℕ → List ℕ → List Row → Contents → Encoded
+plannedBytes format bytes rs (refused q) = noBytes q
+plannedBytes format bytes rs (groups gs) = bytesOf (tableBytes format gs ++ frames bytes rs)
+
+-- the canonical payload of a frame list
+unfoldable pub encoded : Settings → List ℕ → List Row → Encoded
+encoded st bytes rs = plannedBytes (st .format) bytes rs (plan (st .format) (st .channels) rs)
+
+-- the area has room for all the bytes
+abbrev pub roomFor : ℕ → Encoded → Encoded
+roomFor area (noBytes q) = noBytes q
+roomFor area (bytesOf p) = cond (ltb area (length p)) (noBytes AreaTooShort) (bytesOf p)
+
+-- writing a list of so many words into an area of so many bytes: the order is 11, 14, 13, 12
+unfoldable pub writing : Settings → List ℕ → List ℕ → ℕ → Encoded
+writing st ws bytes area =
+    cond (inRange st)
+    (cond (outside (length bytes) (rowsIn ws)) (noBytes RowOutsideBytes)
+    (cond (whole ws) (roomFor area (encoded st bytes (rowsIn ws))) (noBytes Unwritable)))
+    (noBytes SettingsOutOfRange)
+
+-- The answer in numbers: the refusal number or 0, and the byte count, 0 on refusal
+pub record Numbers : Type 0 where
+  pub refusal : ℕ
+  pub count : ℕ
+
+-- of the code's answer, case by case
+abbrev pub writtenNumbers : Written → Numbers
+writtenNumbers (Written.Refused r) = record { refusal = number r; count = 0 }
+writtenNumbers (Written.Bytes n) = record { refusal = 0; count = n }
+
+-- of what writing comes to
+unfoldable pub encodedNumbers : Encoded → Numbers
+encodedNumbers (noBytes r) = record { refusal = number r; count = 0 }
+encodedNumbers (bytesOf p) = record { refusal = 0; count = length p }
+
+-- the bytes written over the front of the area: none on refusal
+unfoldable pub encodedBytes : Encoded → List ℕ
+encodedBytes (noBytes r) = []
+encodedBytes (bytesOf p) = p

@@ -1,0 +1,4 @@
+// Payloads written from frame rows.
+pub mod lists;
+pub mod plans;
+pub mod writing;
