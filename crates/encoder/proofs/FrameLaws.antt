@@ -65,7 +65,7 @@ length-plains (r ∷ rs) = rw (length-plains rs)
 
 -- Frames of rows that lie inside their bytes
 
-past : (t b : Bool) → cond t true b ≡ false → (t ≡ false) × (b ≡ false)
+pub past : (t b : Bool) → cond t true b ≡ false → (t ≡ false) × (b ≡ false)
 past true b h = not-both true refl h
 past false b h = (refl, h)
 

@@ -10,34 +10,9 @@ use lib.Dec.{ltb}
 use borrow.Author.Tests.{lt-ltb, le-ltb}
 use Rattle.rtp.specs.Sizes.{rowWidth}
 use Rattle.payload.specs.Rows.{Row}
+pub use Rattle.payload.proofs.RowLaws.{rows-none, rows-more, length-rows}
 use Rattle.encoder.specs.Lists.{rowOf, rowsIn, outside}
 use Rattle.encoder.specs.Room.{wordsAt, rowAs}
-
--- fewer words than a row are no row
-pub rows-none : (ws : List ℕ) → length ws < rowWidth → rowsIn ws ≡ []
-unfolding rowsIn
-rows-none [] h = refl
-rows-none (a ∷ []) h = refl
-rows-none (a ∷ b ∷ []) h = refl
-rows-none (a ∷ b ∷ c ∷ []) h = refl
-rows-none (a ∷ b ∷ c ∷ d ∷ ws) h = absurd (omega arith)
-
--- the first row and the others
-pub rows-more : (ws : List ℕ) → rowWidth ≤ length ws → rowsIn ws ≡ rowAs (wordsAt ws 0) ∷ rowsIn (drop rowWidth ws)
-unfolding rowsIn
-rows-more [] h = absurd (omega arith)
-rows-more (a ∷ []) h = absurd (omega arith)
-rows-more (a ∷ b ∷ []) h = absurd (omega arith)
-rows-more (a ∷ b ∷ c ∷ []) h = absurd (omega arith)
-rows-more (a ∷ b ∷ c ∷ d ∷ ws) h = refl
-
-pub length-rows : (ws : List ℕ) → length (rowsIn ws) ≡ length ws / rowWidth
-unfolding rowsIn
-length-rows [] = refl
-length-rows (a ∷ []) = refl
-length-rows (a ∷ b ∷ []) = refl
-length-rows (a ∷ b ∷ c ∷ []) = refl
-length-rows (a ∷ b ∷ c ∷ d ∷ ws) = let e = length-rows ws in omega arith
 
 -- some row is outside, from a word of the area on
 module _ (n : ℕ) (ws : List ℕ) (at : ℕ) where

@@ -17,7 +17,8 @@ use Rattle.payload.specs.Contents.{Group, Contents, refused, groups, contents, 
 use Rattle.payload.specs.Rows.{Row, tableRows}
 use Rattle.payload.specs.Payloads.{exact, payload, rowsOf, placedRows, payloadRows}
 use Rattle.payload.proofs.ContentsLaws.{Small, within}
-use Rattle.encoder.specs.Lists.{rowsIn, whole, outside}
+use Rattle.payload.specs.Rows.{rowsIn}
+use Rattle.encoder.specs.Lists.{whole, outside}
 use Rattle.encoder.specs.Plans.{maxPayload, plan}
 use Rattle.encoder.specs.Bytes.{tableBytes, frames}
 use Rattle.encoder.specs.Writings.{noBytes, bytesOf, plannedBytes, encoded, roomFor, writing}
@@ -32,7 +33,7 @@ use Rattle.encoder.proofs.ReadLaws.{read-runs}
 
 -- The list's times, and the settings' channels
 
-times : (ws : List ℕ) → Words ws → Times (rowsIn ws)
+pub times : (ws : List ℕ) → Words ws → Times (rowsIn ws)
 unfolding rowsIn
 times [] h = tt
 times (a ∷ []) h = tt

@@ -6,18 +6,7 @@ use lib.ListN.{length}
 use lib.Dec.{ltb, eqb}
 use Rattle.rtp.specs.Sizes.{rowWidth}
 use Rattle.payload.specs.Rows.{Row}
-
--- the row of four words
-abbrev pub rowOf : ℕ → ℕ → ℕ → ℕ → Row
-rowOf time tag start size = record { time = time; class = tag / 256; channel = tag % 256; start = start; length = size }
-
--- the whole rows of a word area; words left over are no row
-unfoldable pub rowsIn : List ℕ → List Row
-rowsIn [] = []
-rowsIn (a ∷ []) = []
-rowsIn (a ∷ b ∷ []) = []
-rowsIn (a ∷ b ∷ c ∷ []) = []
-rowsIn (a ∷ b ∷ c ∷ d ∷ ws) = rowOf a b c d ∷ rowsIn ws
+pub use Rattle.payload.specs.Rows.{rowOf, rowsIn}
 
 -- a word area that is a whole number of rows
 abbrev pub whole : List ℕ → Bool

@@ -1,16 +1,16 @@
 -- Laws of rows, and of a frame-block's.
 use mathlib.Core.Path.{_≡_, refl, ap, sym, _∙_}
 use mathlib.Core.List.{List, [], _∷_, _++_, append-assoc}
-use Prim.Native.Nat.{ℕ, zero, suc, _+_, _-_, _*_, _≤_, _<_, _^_}
+use Prim.Native.Nat.{ℕ, zero, suc, _+_, _-_, _*_, _/_, _%_, _≤_, _<_, _^_}
 use native.Mathlib.Omega.{arith}
 use native.Mathlib.Nat.{suc-mul}
 use native.Mathlib.Numerals.{sub-one}
-use lib.ListN.{length, take, drop, length-append}
+use lib.ListN.{length, getD, take, drop, length-append}
 use borrow.Rule.Slice.PartMut.{putMid}
 use Rattle.rtp.specs.Sizes.{rowWidth}
 use Rattle.rtp.specs.Areas.{over}
 use Rattle.rtp.proofs.AreaLaws.{over-none, over-part}
-use Rattle.payload.specs.Rows.{Row, rowWords, words, blockRows}
+use Rattle.payload.specs.Rows.{Row, rowWords, words, rowOf, rowsIn, blockRows}
 use Rattle.payload.specs.Room.{RowRoom, BlockRoom}
 
 pub length-words : (rs : List Row) → length (words rs) ≡ rowWidth * length rs
@@ -56,3 +56,52 @@ module _ (n c time class start len : ℕ) (l : List ℕ) where
       → e ≡ over (words (blockRows (n - 1) (c + 1) time class (start + len) len)) (take (length m - rowWidth) (drop rowWidth m))
       → putMid rowWidth (length m - rowWidth) m e ≡ over (words (blockRows n c time class start len)) l
   block-put h m e a b = over-part _ _ l m e rowWidth refl a b ∙ ap (λ (w : List ℕ). over w l) (sym (block-more n c time class start len h))
+
+-- the channel of a row of a list
+abbrev pub channelAt : List Row → ℕ → ℕ
+channelAt [] i = 0
+channelAt (r ∷ rs) zero = r .channel
+channelAt (r ∷ rs) (suc i) = channelAt rs i
+
+-- rows read off their words again
+pub rows-words : (rs : List Row) → ((i : ℕ) → i < length rs → channelAt rs i < 256) → rowsIn (words rs) ≡ rs
+unfolding words rowsIn
+rows-words [] h = refl
+rows-words (r ∷ rs) h =
+    let c : r .channel < 256 = h 0 (omega arith) in
+    let ih = rows-words rs (λ i l. h (suc i) (omega arith)) in
+    λ j. record {
+      time = r .time;
+      class = (let e : (256 * r .class + r .channel) / 256 ≡ r .class = omega arith in e) j;
+      channel = (let e : (256 * r .class + r .channel) % 256 ≡ r .channel = omega arith in e) j;
+      start = r .start;
+      length = r .length;
+    } ∷ ih j
+
+-- Rows in a word area
+
+-- fewer words than a row are no row
+pub rows-none : (ws : List ℕ) → length ws < rowWidth → rowsIn ws ≡ []
+unfolding rowsIn
+rows-none [] h = refl
+rows-none (a ∷ []) h = refl
+rows-none (a ∷ b ∷ []) h = refl
+rows-none (a ∷ b ∷ c ∷ []) h = refl
+rows-none (a ∷ b ∷ c ∷ d ∷ ws) h = absurd (omega arith)
+
+-- the first row and the others
+pub rows-more : (ws : List ℕ) → rowWidth ≤ length ws → rowsIn ws ≡ rowOf (getD ws 0 0) (getD ws 1 0) (getD ws 2 0) (getD ws 3 0) ∷ rowsIn (drop rowWidth ws)
+unfolding rowsIn
+rows-more [] h = absurd (omega arith)
+rows-more (a ∷ []) h = absurd (omega arith)
+rows-more (a ∷ b ∷ []) h = absurd (omega arith)
+rows-more (a ∷ b ∷ c ∷ []) h = absurd (omega arith)
+rows-more (a ∷ b ∷ c ∷ d ∷ ws) h = refl
+
+pub length-rows : (ws : List ℕ) → length (rowsIn ws) ≡ length ws / rowWidth
+unfolding rowsIn
+length-rows [] = refl
+length-rows (a ∷ []) = refl
+length-rows (a ∷ b ∷ []) = refl
+length-rows (a ∷ b ∷ c ∷ []) = refl
+length-rows (a ∷ b ∷ c ∷ d ∷ ws) = let e = length-rows ws in omega arith

@@ -1,5 +1,5 @@
 -- Document 01, "A row is": frame rows, and the words that they take in a row area.
-use Prim.Native.Nat.{ℕ, zero, suc, _+_, _-_, _*_, _^_, _%_}
+use Prim.Native.Nat.{ℕ, zero, suc, _+_, _-_, _*_, _^_, _/_, _%_}
 use mathlib.Core.List.{List, [], _∷_, _++_}
 use lib.ListN.{length}
 use Rattle.payload.specs.Contents.{Group}
@@ -19,6 +19,18 @@ rowWords r = r .time ∷ (256 * r .class + r .channel) ∷ r .start ∷ r .lengt
 unfoldable pub words : List Row → List ℕ
 words [] = []
 words (r ∷ rs) = rowWords r ++ words rs
+
+-- the row of four words
+abbrev pub rowOf : ℕ → ℕ → ℕ → ℕ → Row
+rowOf time tag start size = record { time = time; class = tag / 256; channel = tag % 256; start = start; length = size }
+
+-- the whole rows of a word area; words left over are no row
+unfoldable pub rowsIn : List ℕ → List Row
+rowsIn [] = []
+rowsIn (a ∷ []) = []
+rowsIn (a ∷ b ∷ []) = []
+rowsIn (a ∷ b ∷ c ∷ []) = []
+rowsIn (a ∷ b ∷ c ∷ d ∷ ws) = rowOf a b c d ∷ rowsIn ws
 
 -- where the frame-block after a gap of frame-blocks stands, when the next place is t
 abbrev pub placed : ℕ → ℕ → ℕ → ℕ

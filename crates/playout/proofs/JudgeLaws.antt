@@ -1,0 +1,110 @@
+-- The cases of a judgement, and what a judgement leaves as it was.
+use mathlib.Core.Path.{_≡_, refl, _∙_}
+use mathlib.Core.List.{List, [], _∷_}
+use mathlib.Core.Bool.{Bool, true, false, cond}
+use mathlib.Core.Option.{Option, none, some}
+use Prim.Native.Nat.{ℕ, _+_, _≤_, _<_}
+use native.Mathlib.Omega.{arith}
+use lib.ListN.{length}
+use lib.Dec.{ltb}
+use borrow.Author.Tests.{ltb-true, ltb-false}
+use Rattle.playout.specs.declared.verdict.Verdict.{Verdict}
+use Rattle.playout.specs.declared.verdict.Verdict.the-variants.{Late, Far, Repeated, Better, NoRoom, Inserted}
+use Rattle.playout.specs.Sizes.{slots}
+use Rattle.playout.specs.Copies.{Copy, better}
+use Rattle.playout.specs.Entries.{Entry, Held, view, entryOf, sideOfEntry, held, freeSlot, always, placed}
+use Rattle.playout.specs.Verdicts.{isLate, isFar, Judged, keeps, lays, judgeHeld, judge, Counts, counted, judgeAll}
+use Rattle.playout.proofs.MergeLaws.{put-longer, put-level}
+
+-- the entry that holds the pair of a copy
+abbrev pub heldOf : Copy → List Entry → Option Entry
+heldOf c es = held (sideOfEntry (entryOf c 0)) es
+
+module _ (h : Held) (s : List ℕ) (c : Copy) where
+  -- a case for each verdict, with what it says
+  pub judge-cases : (P : Judged → Type 0)
+      → (isLate h c ≡ true → P (keeps h s Late))
+      → (isLate h c ≡ false → isFar h c ≡ true → P (keeps h s Far))
+      → (isLate h c ≡ false → isFar h c ≡ false → (e : Entry) → heldOf c (h .entries) ≡ some e → better c (view s e) ≡ false → P (keeps h s Repeated))
+      → (isLate h c ≡ false → isFar h c ≡ false → (e : Entry) → heldOf c (h .entries) ≡ some e → better c (view s e) ≡ true → P (lays c (e .slot) h s Better))
+      → (isLate h c ≡ false → isFar h c ≡ false → heldOf c (h .entries) ≡ none → slots ≤ length (h .entries) → P (keeps h s NoRoom))
+      → (isLate h c ≡ false → isFar h c ≡ false → heldOf c (h .entries) ≡ none → length (h .entries) < slots → P (lays c (freeSlot (h .entries)) h s Inserted))
+      → P (judge h s c)
+  unfolding judge judgeHeld
+  judge-cases P late far repeated better-one no-room inserted = at (isLate h c) refl (isFar h c) refl
+    where
+      found : isLate h c ≡ false → isFar h c ≡ false → (e : Entry) → heldOf c (h .entries) ≡ some e → (b : Bool) → better c (view s e) ≡ b → P (cond b (lays c (e .slot) h s Better) (keeps h s Repeated))
+      found u v e w true q = better-one u v e w q
+      found u v e w false q = repeated u v e w q
+
+      missing : isLate h c ≡ false → isFar h c ≡ false → heldOf c (h .entries) ≡ none → (b : Bool) → ltb (length (h .entries)) slots ≡ b → P (cond b (lays c (freeSlot (h .entries)) h s Inserted) (keeps h s NoRoom))
+      missing u v w true q = inserted u v w (ltb-true (length (h .entries)) slots q)
+      missing u v w false q = no-room u v w (ltb-false (length (h .entries)) slots q)
+
+      by-held : isLate h c ≡ false → isFar h c ≡ false → (o : Option Entry) → heldOf c (h .entries) ≡ o → P (judgeHeld c h s o)
+      by-held u v none w = missing u v w (ltb (length (h .entries)) slots) refl
+      by-held u v (some e) w = found u v e w (better c (view s e)) refl
+
+      at : (l : Bool) → isLate h c ≡ l → (f : Bool) → isFar h c ≡ f → P (cond l (keeps h s Late) (cond f (keeps h s Far) (judgeHeld c h s (heldOf c (h .entries)))))
+      at true u f v = late u
+      at false u true v = far u v
+      at false u false v = by-held u v (heldOf c (h .entries)) refl
+
+  -- the last pair stays
+  pub judge-last : (judge h s c .held .drawn ≡ h .drawn) × (judge h s c .held .lastTime ≡ h .lastTime) × (judge h s c .held .lastChannel ≡ h .lastChannel)
+  judge-last =
+      judge-cases (λ j. (j .held .drawn ≡ h .drawn) × (j .held .lastTime ≡ h .lastTime) × (j .held .lastChannel ≡ h .lastChannel))
+      (λ u. (refl, refl, refl)) (λ u v. (refl, refl, refl)) (λ u v e w q. (refl, refl, refl)) (λ u v e w q. (refl, refl, refl)) (λ u v w q. (refl, refl, refl))
+      (λ u v w q. (refl, refl, refl))
+
+-- ---- how many entries
+-- no more than there are slots
+pub judge-room : (h : Held) (s : List ℕ) (c : Copy) → length (h .entries) ≤ slots → length (judge h s c .held .entries) ≤ slots
+unfolding placed entryOf
+judge-room h s c l =
+    judge-cases h s c (λ j. length (j .held .entries) ≤ slots)
+    (λ u. l) (λ u v. l) (λ u v e w q. l)
+    (λ u v e w q. omega (arith, put-level sideOfEntry always (entryOf c (e .slot)) (h .entries) e w))
+    (λ u v w q. l)
+    (λ u v w q. omega (arith, put-longer sideOfEntry always (entryOf c (freeSlot (h .entries))) (h .entries) w))
+
+-- the entries that a verdict adds
+abbrev pub added : Verdict → ℕ
+added Late = 0
+added Far = 0
+added Repeated = 0
+added Better = 0
+added NoRoom = 0
+added Inserted = 1
+
+pub judge-count : (h : Held) (s : List ℕ) (c : Copy) → length (judge h s c .held .entries) ≡ length (h .entries) + added (judge h s c .verdict)
+unfolding placed entryOf
+judge-count h s c =
+    judge-cases h s c (λ j. length (j .held .entries) ≡ length (h .entries) + added (j .verdict))
+    (λ u. omega arith) (λ u v. omega arith) (λ u v e w q. omega arith)
+    (λ u v e w q. omega (arith, put-level sideOfEntry always (entryOf c (e .slot)) (h .entries) e w))
+    (λ u v w q. omega arith)
+    (λ u v w q. omega (arith, put-longer sideOfEntry always (entryOf c (freeSlot (h .entries))) (h .entries) w))
+
+counted-added : (n : Counts) (v : Verdict) → counted n v .inserted ≡ n .inserted + added v
+counted-added n Late = omega arith
+counted-added n Far = omega arith
+counted-added n Repeated = omega arith
+counted-added n Better = omega arith
+counted-added n NoRoom = omega arith
+counted-added n Inserted = refl
+
+-- the entries grow by what is counted as inserted
+pub judgeAll-count : (h : Held) (s : List ℕ) (n : Counts) (cs : List Copy) → length (judgeAll h s n cs .held .entries) + n .inserted ≡ length (h .entries) + judgeAll h s n cs .counts .inserted
+unfolding judgeAll
+judgeAll-count h s n [] = refl
+judgeAll-count h s n (c ∷ cs) =
+    omega (arith, judgeAll-count (judge h s c .held) (judge h s c .store) (counted n (judge h s c .verdict)) cs, judge-count h s c, counted-added n (judge h s c .verdict))
+
+pub judgeAll-last : (h : Held) (s : List ℕ) (n : Counts) (cs : List Copy) → (judgeAll h s n cs .held .drawn ≡ h .drawn) × (judgeAll h s n cs .held .lastTime ≡ h .lastTime) × (judgeAll h s n cs .held .lastChannel ≡ h .lastChannel)
+unfolding judgeAll
+judgeAll-last h s n [] = (refl, refl, refl)
+judgeAll-last h s n (c ∷ cs) =
+    let r = judgeAll-last (judge h s c .held) (judge h s c .store) (counted n (judge h s c .verdict)) cs in
+    let j = judge-last h s c in
+    (r .0 ∙ j .0, r .1 ∙ j .1, r .2 ∙ j .2)

@@ -1,0 +1,10 @@
+pub mod MergeLaws
+pub mod CountLaws
+pub mod RankLaws
+pub mod WrapLaws
+pub mod StoreLaws
+pub mod SlotLaws
+pub mod JudgeLaws
+pub mod SoundLaws
+pub mod PlayoutLaws
+pub mod ExactLaws

@@ -1,0 +1,259 @@
+-- What is gathered from nothing held is the playout list of the copies accepted, and there is one playout list.
+use mathlib.Core.Path.{_≡_, refl, sym, ap, _∙_}
+use mathlib.Core.Logic.{_⊎_, inl, inr, ⊎-elim}
+use mathlib.Core.List.{List, [], _∷_, map, List·Memᴰ, List·Memᴰ·head as here, List·Memᴰ·tail as there, List·Memᴰ·not-nil as nowhere, List·Memᴰ·cases-cons as cases, Memᴰ·cast}
+use mathlib.Core.Bool.{Bool, true, false, _||_, true≢false}
+use mathlib.Core.Option.{none, Option·map, Option·none-ne-some as none≢some, Option·some-injective}
+use Prim.Native.Nat.{ℕ, _^_, _≤_, _<_, compare, Ordering, Ordering·lt, Ordering·eq, Ordering·gt}
+use native.Mathlib.Omega.{arith}
+use lib.ListN.{length, length-map}
+use lib.Dec.{ltb}
+use borrow.Author.Tests.{lt-ltb}
+use Rattle.playout.specs.declared.verdict.Verdict.{Verdict}
+use Rattle.playout.specs.declared.verdict.Verdict.the-variants.{Late, Far, Repeated, Better, NoRoom, Inserted}
+use Rattle.playout.specs.Sizes.{slots, storeSize}
+use Rattle.playout.specs.Pairs.{half, ahead}
+use Rattle.playout.specs.Copies.{Copy, side, rank, betterFrame, better}
+use Rattle.playout.specs.Entries.{Entry, Held, view, views, entryOf, put, held, freeSlot}
+use Rattle.playout.specs.Verdicts.{allWithin, fits, judge, Counts, noCounts, counted, Gathered, judgeAll}
+use Rattle.playout.specs.Lists.{Ascending, SamePair, Playout, WithinStretch, Distinct, AtMost}
+use Rattle.playout.proofs.MergeLaws.{Cmp, cmp, Ranks, byKey, Asc, Chain, Agree, asc-chain, chain-asc, asc-one, put-longer, put-same, held-map, put-cong, Bests, bests-none, bests-like, bests-put, bests-one}
+use Rattle.playout.proofs.RankLaws.{greater-self, greater-chain, greater-turn, better-equal}
+use Rattle.playout.proofs.WrapLaws.{Near, place, same-place, place-near, order-place}
+use Rattle.playout.proofs.SlotLaws.{laid-views}
+use Rattle.playout.proofs.JudgeLaws.{heldOf, judge-cases, judge-last}
+use Rattle.playout.proofs.SoundLaws.{IsFrame, Frames, Sound, fresh, fresh-sound, entryPlace, Sorted, rising-sorted, found-clash, free-clash, judge-sound}
+
+-- ---- a verdict after which the best of the copy's pair is held
+abbrev pub Settled : Verdict → Type 0
+Settled Late = ⊥
+Settled Far = ⊥
+Settled Repeated = Unit {0}
+Settled Better = Unit {0}
+Settled NoRoom = ⊥
+Settled Inserted = Unit {0}
+
+module _ (h : Held) (s : List ℕ) (c : Copy) where
+  held-views : held (side c) (views s (h .entries)) ≡ Option·map (view s) (heldOf c (h .entries))
+  unfolding view entryOf
+  held-views = held-map (side c) (view s) (h .entries)
+
+  -- the copies held, with this one in its place
+  pub judge-views : Sound h s → IsFrame c → Settled (judge h s c .verdict) → views (judge h s c .store) (judge h s c .held .entries) ≡ put side better c (views s (h .entries))
+  judge-views S F =
+      judge-cases h s c (λ j. Settled (j .verdict) → views (j .store) (j .held .entries) ≡ put side better c (views s (h .entries)))
+      (λ u z. absurd z) (λ u v z. absurd z)
+      (λ u v e w q z. sym (put-same side better c (views s (h .entries)) (view s e) (held-views ∙ ap (Option·map (view s)) w) q))
+      (λ u v e w q z. let f = found-clash h s c S F e w in laid-views c (h .entries) s (S .room) (F .size) (e .slot) (f .0) (S .own-slots) (λ y m. S .each y m .size) (f .1) (λ y p. rw (← (Option·some-injective e y (sym w ∙ unfold entryOf in p))) q))
+      (λ u v w q z. absurd z)
+      (λ u v w q z. let f = free-clash h s c S F q in laid-views c (h .entries) s (S .room) (F .size) (freeSlot (h .entries)) (f .0) (S .own-slots) (λ y m. S .each y m .size) (f .1) (λ y p. absurd (none≢some y (sym w ∙ unfold entryOf in p))))
+
+-- ---- copies within the stretch from b
+abbrev pub copyPlace : ℕ → Copy → ℕ
+copyPlace b x = place b (x .time) (x .channel)
+
+pub record InStretch (b : ℕ) (x : Copy) : Type 0 where
+  pub frame : IsFrame x
+  pub near : ahead (x .time) b < half
+
+pub near-copy : (b : ℕ) (x : Copy) → InStretch b x → Near b (x .time) (x .channel)
+near-copy b x u = record { word = u .frame .word; octet = u .frame .octet; near = u .near }
+
+or-true : (p : Bool) → (p || true) ≡ true
+or-true true = refl
+or-true false = refl
+
+within-all : (b : ℕ) (es : List Entry) → ((e : Entry) → List·Memᴰ e es → ahead (e .time) b < half) → allWithin b es ≡ true
+unfolding allWithin
+within-all b [] f = refl
+within-all b (h ∷ t) f = rw (lt-ltb (ahead (h .time) b) half (f h (here refl)), within-all b t (λ e m. f e (there m)))
+
+pub mem-map : {A B : Type 0} (f : A → B) (l : List A) (a : A) → List·Memᴰ a l → List·Memᴰ (f a) (map f l)
+mem-map f (x ∷ l) a (here e) = here (ap f e)
+mem-map f (x ∷ l) a (there m) = there (mem-map f l a m)
+
+module _ (b : ℕ) (lb : b < 2 ^ 32) where
+  pub place-same : (x y : Copy) → SamePair x y → copyPlace b x ≡ copyPlace b y
+  place-same x y e = rw (e .0, e .1)
+
+  pub ranks : Ranks (InStretch b) (copyPlace b) better
+  unfolding betterFrame
+  ranks = record {
+    self = λ x. greater-self (rank (x .class) (x .bytes));
+    chain = λ x y z. greater-chain (rank (x .class) (x .bytes)) (rank (y .class) (y .bytes)) (rank (z .class) (z .bytes));
+    turn = λ x y. greater-turn (rank (x .class) (x .bytes)) (rank (y .class) (y .bytes));
+    equal = λ x y u v e. better-equal x y (u .frame .class) (v .frame .class) (same-place b lb (near-copy b x u) (near-copy b y v) e);
+  }
+
+  abbrev pub Best : (Copy → Type 0) → List Copy → Type 0
+  Best P l = Bests (copyPlace b) better ranks P l
+
+  -- a copy in the stretch of the entries fits
+  fits-stretch : (t c : ℕ) (es : List Entry) → Near b t c → Sorted b es → fits t es ≡ true
+  unfolding fits
+  fits-stretch t c [] N S = refl
+  fits-stretch t c (e ∷ es) N S = go (compare (place b t c) (entryPlace b e)) (cmp (place b t c) (entryPlace b e))
+    where
+      at-e : Near b (e .time) (e .channel)
+      at-e = S .near e (here refl)
+
+      no-earlier : place b t c < entryPlace b e → (y : Entry) → (y ≡ e) ⊎ List·Memᴰ y es → place b t c ≤ entryPlace b y
+      no-earlier l y (inl q) = omega (arith, ap (entryPlace b) q)
+      no-earlier l y (inr m) = omega (arith, S .asc .0 y m)
+
+      go : (o : Ordering) → Cmp o (place b t c) (entryPlace b e) → (ltb (ahead t (e .time)) half || allWithin t (e ∷ es)) ≡ true
+      go Ordering·lt l = rw (within-all t (e ∷ es) (λ y m. place-near b lb (S .near y m) N (no-earlier l y (cases m)))) (or-true (ltb (ahead t (e .time)) half))
+      go Ordering·eq l = rw (lt-ltb (ahead t (e .time)) half (place-near b lb N at-e (omega arith)))
+      go Ordering·gt l = rw (lt-ltb (ahead t (e .time)) half (place-near b lb N at-e (omega arith)))
+
+  distinct : (l : List Copy) → Asc (copyPlace b) l → Distinct l
+  distinct [] s = tt
+  distinct (h ∷ t) s = (λ e m p. omega (arith, s .0 e m, place-same h e p), distinct t (s .1))
+
+  -- ---- one copy judged, where nothing was drawn
+  module _ (h : Held) (s : List ℕ) (c : Copy) (S : Sound h s) (fresh-one : h .drawn ≡ false) {P : Copy → Type 0} (okc : InStretch b c) (ok : (x : Copy) → P x → InStretch b x) (B : Best P (views s (h .entries))) where
+    okl : (y : Copy) → List·Memᴰ y (views s (h .entries)) → InStretch b y
+    okl y m = ok y (B .from y m)
+
+    sorted : Sorted b (h .entries)
+    sorted = rising-sorted b lb (h .entries) (λ e m. unfold view in near-copy b (view s e) (okl (view s e) (mem-map (view s) (h .entries) e m))) (S .rising)
+
+    pub put-is : put side better c (views s (h .entries)) ≡ put (byKey (copyPlace b)) better c (views s (h .entries))
+    put-is = put-cong side (byKey (copyPlace b)) better c (views s (h .entries)) (λ y m. order-place b lb (near-copy b c okc) (near-copy b y (okl y m)))
+
+    pub settled : (heldOf c (h .entries) ≡ none → length (h .entries) < slots) → Settled (judge h s c .verdict)
+    settled room =
+        judge-cases h s c (λ j. Settled (j .verdict))
+        (λ u. true≢false (sym u ∙ rw fresh-one))
+        (λ u v. true≢false (sym v ∙ rw (fresh-one, fits-stretch (c .time) (c .channel) (h .entries) (near-copy b c okc) sorted)))
+        (λ u v e w q. tt) (λ u v e w q. tt)
+        (λ u v w q. omega (arith, room w))
+        (λ u v w q. tt)
+
+    pub more : Best (λ x. (x ≡ c) ⊎ P x) (put side better c (views s (h .entries)))
+    more = rw put-is (bests-put (copyPlace b) better ranks c B)
+
+    -- a pair that is not held has room
+    pub room-for : (accepted : List Copy) → AtMost slots accepted → List·Memᴰ c accepted → ((x : Copy) → P x → List·Memᴰ x accepted) → heldOf c (h .entries) ≡ none → length (h .entries) < slots
+    room-for accepted few m own w =
+        omega (
+          arith,
+          few (put side better c (views s (h .entries))) (λ d n. mine d (more .from d n)) (distinct (put side better c (views s (h .entries))) (more .asc)),
+          put-longer side better c (views s (h .entries)) (held-views h s c ∙ ap (Option·map (view s)) w),
+          length-map (h .entries) (view s),
+        )
+      where
+        mine : (d : Copy) → (d ≡ c) ⊎ P d → List·Memᴰ d accepted
+        mine d (inl e) = Memᴰ·cast e m
+        mine d (inr p) = own d p
+
+-- ---- what is counted
+abbrev pub NoLoss : Counts → Counts → Type 0
+NoLoss n m = (m .late ≡ n .late) × (m .far ≡ n .far) × (m .noRoom ≡ n .noRoom)
+
+pub settled-counts : (n : Counts) (v : Verdict) → Settled v → NoLoss n (counted n v)
+settled-counts n Late z = absurd z
+settled-counts n Far z = absurd z
+settled-counts n Repeated z = (refl, refl, refl)
+settled-counts n Better z = (refl, refl, refl)
+settled-counts n NoRoom z = absurd z
+settled-counts n Inserted z = (refl, refl, refl)
+
+-- ---- copies judged in turn, where nothing was drawn
+module _ (b : ℕ) (lb : b < 2 ^ 32) (accepted : List Copy) (ok : (x : Copy) → List·Memᴰ x accepted → InStretch b x) where
+  module _ (few : AtMost slots accepted) where
+    abbrev Gathers : (Copy → Type 0) → List Copy → Counts → Gathered → Type 0
+    Gathers P cs n g = Best b lb (λ x. List·Memᴰ x cs ⊎ P x) (views (g .store) (g .held .entries)) × NoLoss n (g .counts)
+
+    gathers : {P : Copy → Type 0} (cs : List Copy) (h : Held) (s : List ℕ) (n : Counts) → Sound h s → h .drawn ≡ false → ((x : Copy) → List·Memᴰ x cs → List·Memᴰ x accepted) → ((x : Copy) → P x → List·Memᴰ x accepted) → Best b lb P (views s (h .entries)) → Gathers P cs n (judgeAll h s n cs)
+    unfolding judgeAll
+    gathers [] h s n S d all own B = (bests-like (copyPlace b) better (ranks b lb) (λ x p. inr p) (λ x q. ⊎-elim (λ m. absurd (nowhere m)) (λ p. p) q) B, (refl, refl, refl))
+    gathers {P} (c ∷ cs) h s n S d all own B =
+        let m = all c (here refl) in
+        let okp : (x : Copy) → P x → InStretch b x = λ x p. ok x (own x p) in
+        let z = settled b lb h s c S d (ok c m) okp B (room-for b lb h s c S d (ok c m) okp B accepted few m own) in
+        let N : Best b lb (λ x. (x ≡ c) ⊎ P x) (views (judge h s c .store) (judge h s c .held .entries)) = rw (judge-views h s c S (ok c m .frame) z) (more b lb h s c S d (ok c m) okp B) in
+        let r =
+        gathers cs (judge h s c .held) (judge h s c .store) (counted n (judge h s c .verdict)) (judge-sound h s c S (ok c m .frame)) (judge-last h s c .0 ∙ d) (λ x k. all x (there k))
+        (λ x o. ⊎-elim (λ (q : x ≡ c). Memᴰ·cast q m) (own x) o) N in
+        let k = settled-counts n (judge h s c .verdict) z in
+        (bests-like (copyPlace b) better (ranks b lb) (λ x. merge x) (λ x. split x) (r .0), (r .1 .0 ∙ k .0, r .1 .1 ∙ k .1, r .1 .2 ∙ k .2))
+      where
+        merge : (x : Copy) → List·Memᴰ x cs ⊎ ((x ≡ c) ⊎ P x) → List·Memᴰ x (c ∷ cs) ⊎ P x
+        merge x (inl m) = inl (there m)
+        merge x (inr (inl e)) = inl (here e)
+        merge x (inr (inr p)) = inr p
+
+        split : (x : Copy) → List·Memᴰ x (c ∷ cs) ⊎ P x → List·Memᴰ x cs ⊎ ((x ≡ c) ⊎ P x)
+        split x (inl (here e)) = inr (inl e)
+        split x (inl (there m)) = inl m
+        split x (inr p) = inr (inr p)
+
+  -- the two forms of the playout list
+  of-ascending : (l : List Copy) → Ascending l → Chain side l
+  of-ascending [] s = tt
+  of-ascending (d ∷ []) s = tt
+  of-ascending (d ∷ e ∷ l) s = (s .0, of-ascending (e ∷ l) (s .1))
+
+  to-ascending : (l : List Copy) → Chain side l → Ascending l
+  to-ascending [] s = tt
+  to-ascending (d ∷ []) s = tt
+  to-ascending (d ∷ e ∷ l) s = (s .0, to-ascending (e ∷ l) (s .1))
+
+  agree : (l : List Copy) → ((x : Copy) → List·Memᴰ x l → List·Memᴰ x accepted) → Agree side (copyPlace b) l
+  agree l v x y m n = order-place b lb (near-copy b x (ok x (v x m))) (near-copy b y (ok y (v y n)))
+
+  pub to-playout : (ds : List Copy) → Best b lb (λ x. List·Memᴰ x accepted) ds → Playout accepted ds
+  to-playout ds B = record {
+    ascending = to-ascending ds (asc-chain side (copyPlace b) ds (agree ds (B .from)) (B .asc));
+    copies = B .from;
+    all = λ x m. let t = B .top x m in (t .0, t .1, same-place b lb (near-copy b (t .0) (ok (t .0) (B .from (t .0) (t .1)))) (near-copy b x (ok x m)) (t .2));
+    best = λ d x m n p. let t = B .top x n in rw (asc-one (copyPlace b) ds (B .asc) (t .0) d (t .1) m (t .2 ∙ sym (place-same b lb d x p))) at (t .3);
+  }
+
+  pub of-playout : (ds : List Copy) → Playout accepted ds → Best b lb (λ x. List·Memᴰ x accepted) ds
+  of-playout ds D = record {
+    asc = chain-asc side (copyPlace b) ds (agree ds (D .copies)) (of-ascending ds (D .ascending));
+    from = D .copies;
+    top = λ x m. let t = D .all x m in (t .0, t .1, place-same b lb (t .0) x (t .2), D .best (t .0) x (t .1) m (t .2));
+  }
+
+-- ---- the statements
+-- copies judged from nothing held
+abbrev pub gathered : List ℕ → List Copy → Gathered
+gathered s cs = judgeAll fresh s noCounts cs
+
+pub in-stretch : (cs : List Copy) → Frames cs → (W : WithinStretch cs) → (x : Copy) → List·Memᴰ x cs → InStretch (W .base) x
+in-stretch cs F W x m = record { frame = F x m; near = W .within x m }
+
+module _ (s : List ℕ) (cs : List Copy) (l : storeSize ≤ length s) (F : Frames cs) (W : WithinStretch cs) (few : AtMost slots cs) where
+  whole : Gathers (W .base) (W .word) cs (in-stretch cs F W) few (λ x. ⊥) cs noCounts (gathered s cs)
+  whole = gathers (W .base) (W .word) cs (in-stretch cs F W) few cs fresh s noCounts (fresh-sound s l) refl (λ x m. m) (λ x p. absurd p) (bests-none (copyPlace (W .base)) better (ranks (W .base) (W .word)) (λ x p. p))
+
+  pub playout-of : Playout cs (views (gathered s cs .store) (gathered s cs .held .entries))
+  playout-of =
+      to-playout (W .base) (W .word) cs (in-stretch cs F W) (views (gathered s cs .store) (gathered s cs .held .entries))
+      (bests-like (copyPlace (W .base)) better (ranks (W .base) (W .word)) (λ x o. ⊎-elim (λ m. m) (λ p. absurd p) o) (λ x m. inl m) (whole .0))
+
+  -- and no copy is late, far or without room
+  pub premises-settled : NoLoss noCounts (gathered s cs .counts)
+  premises-settled = whole .1
+
+-- the same copies, in whatever order and however often, have the same playout list
+pub playout-like : (a b l : List Copy) → ((x : Copy) → List·Memᴰ x a → List·Memᴰ x b) → ((x : Copy) → List·Memᴰ x b → List·Memᴰ x a) → Playout a l → Playout b l
+playout-like a b l f g D = record {
+  ascending = D .ascending;
+  copies = λ d m. f d (D .copies d m);
+  all = λ x m. D .all x (g x m);
+  best = λ d x m n. D .best d x m (g x n);
+}
+
+pub playout-unique : (a b l m : List Copy) → Frames a → WithinStretch a → ((x : Copy) → List·Memᴰ x a → List·Memᴰ x b) → ((x : Copy) → List·Memᴰ x b → List·Memᴰ x a) → Playout a l → Playout b m → l ≡ m
+playout-unique a b l m F W f g D E =
+    bests-one (copyPlace (W .base)) better (ranks (W .base) (W .word)) (in-stretch a F W) l m
+    (of-playout (W .base) (W .word) a (in-stretch a F W) l D)
+    (of-playout (W .base) (W .word) a (in-stretch a F W) m (playout-like b a m g f E))
+
+-- the first entry drawn leaves the rest of the copies
+pub views-first : (s : List ℕ) (e : Entry) (es : List Entry) → views s (e ∷ es) ≡ view s e ∷ views s es
+views-first s e es = refl

@@ -1,0 +1,9 @@
+// The verdict on a frame that is offered.
+pub enum Verdict {
+    Late,
+    Far,
+    Repeated,
+    Better,
+    NoRoom,
+    Inserted,
+}

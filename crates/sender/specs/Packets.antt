@@ -1,0 +1,88 @@
+-- A packet written: `sending` is the whole meaning of a call of `write_packet`, refusals included.
+use Prim.Native.Nat.{ℕ, _+_, _*_, _/_, _%_}
+use mathlib.Core.List.{List, [], _∷_, _++_}
+use mathlib.Core.Bool.{Bool, true, false, cond}
+use lib.ListN.{length}
+use lib.Dec.{ltb, eqb}
+use Rattle.rtp.specs.Sizes.{maxPacket, maxRows, rowWidth}
+use Rattle.rtp.specs.Ranges.{inRange, noRedundancy}
+use Rattle.rtp.specs.declared.settings.Settings.{Settings}
+use Rattle.rtp.specs.declared.refusal.Refusal.the-variants.{SettingsOutOfRange, RowOutsideBytes, Unwritable}
+use Rattle.payload.specs.Rows.{Row}
+use Rattle.encoder.specs.Lists.{rowsIn, outside}
+use Rattle.encoder.specs.Writings.{Encoded, noBytes, bytesOf, roomFor}
+use Rattle.sender.specs.Parts.{maxRedundant, total, primaryTime, Part, Parts, noParts, partsOf, parts}
+
+-- numbers in two and four bytes, big-endian
+abbrev pub two : ℕ → List ℕ
+two n = (n / 256 % 256) ∷ (n % 256) ∷ []
+
+abbrev pub four : ℕ → List ℕ
+four n = (n / 16777216 % 256) ∷ (n / 65536 % 256) ∷ (n / 256 % 256) ∷ (n % 256) ∷ []
+
+-- what the caller gives for the header; a marker other than 0 is set
+pub record Heading : Type 0 where
+  pub marker : ℕ
+  pub sequence : ℕ
+  pub source : ℕ
+
+abbrev pub markerBit : ℕ → ℕ
+markerBit m = cond (eqb m 0) 0 128
+
+-- the twelve bytes of a header with no CC, X or P
+abbrev pub headerBytes : Heading → ℕ → ℕ → List ℕ
+headerBytes h type time = 128 ∷ (markerBit (h .marker) + type) ∷ (two (h .sequence) ++ (four time ++ four (h .source)))
+
+-- the four bytes of a redundant block's header: F and type, offset 14 bits, length 10 bits
+abbrev pub blockHeaderBytes : ℕ → Part → List ℕ
+blockHeaderBytes type b =
+    (128 + type) ∷ (b .offset / 64) ∷ (4 * (b .offset % 64) + length (b .bytes) / 256) ∷ (length (b .bytes) % 256) ∷ []
+
+unfoldable pub headersBytes : ℕ → List Part → List ℕ
+headersBytes type [] = type ∷ []
+headersBytes type (b ∷ bs) = blockHeaderBytes type b ++ headersBytes type bs
+
+unfoldable pub blocksBytes : List Part → List ℕ → List ℕ
+blocksBytes [] p = p
+blocksBytes (b ∷ bs) p = b .bytes ++ blocksBytes bs p
+
+-- with no redundant list the packet is plain
+unfoldable pub bodyBytes : Settings → List Part → List ℕ → List ℕ
+bodyBytes st [] p = p
+bodyBytes st (b ∷ bs) p = headersBytes (st .«payload_type») (b ∷ bs) ++ blocksBytes (b ∷ bs) p
+
+abbrev pub packetType : Settings → List Part → ℕ
+packetType st [] = st .«payload_type»
+packetType st (b ∷ bs) = st .«redundancy_type»
+
+-- redundant lists come with a redundancy type
+abbrev pub redundancyMissing : Settings → List Part → Bool
+redundancyMissing st [] = false
+redundancyMissing st (b ∷ bs) = eqb (st .«redundancy_type») noRedundancy
+
+-- a packet is within 2,048 bytes
+abbrev pub withinPacket : List ℕ → Encoded
+withinPacket p = cond (ltb maxPacket (length p)) (noBytes Unwritable) (bytesOf p)
+
+abbrev pub assembledFrom : Settings → Heading → ℕ → Parts → Encoded
+assembledFrom st h time noParts = noBytes Unwritable
+assembledFrom st h time (partsOf bs p) =
+    cond (redundancyMissing st bs) (noBytes Unwritable) (withinPacket (headerBytes h (packetType st bs) time ++ bodyBytes st bs p))
+
+-- one to five counts, which make up the area, and at most 128 rows in all
+abbrev pub countsFit : List ℕ → List ℕ → Bool
+countsFit counts ws =
+    cond (eqb (length counts) 0) false
+    (cond (ltb (maxRedundant + 1) (length counts)) false
+    (cond (eqb (length ws) (rowWidth * total counts)) (cond (ltb maxRows (total counts)) false true) false))
+
+unfoldable pub assembled : Settings → Heading → List ℕ → List ℕ → List Row → Encoded
+assembled st h counts bytes rs = assembledFrom st h (primaryTime counts rs) (parts st bytes (primaryTime counts rs) counts rs)
+
+-- writing a packet into an area of so many bytes: the order is 11, 14, 13, 12
+unfoldable pub sending : Settings → Heading → List ℕ → List ℕ → List ℕ → ℕ → Encoded
+sending st h counts ws bytes area =
+    cond (inRange st)
+    (cond (outside (length bytes) (rowsIn ws)) (noBytes RowOutsideBytes)
+    (cond (countsFit counts ws) (roomFor area (assembled st h counts bytes (rowsIn ws))) (noBytes Unwritable)))
+    (noBytes SettingsOutOfRange)

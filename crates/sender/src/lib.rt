@@ -1,0 +1,1 @@
+// Packets written from frame rows.
