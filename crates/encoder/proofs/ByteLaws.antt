@@ -16,7 +16,7 @@ use Rattle.payload.specs.Codes.{codeFor}
 use Rattle.encoder.specs.Plans.{headGap}
 use Rattle.encoder.specs.Bytes.{halves, flag, entryBytes, tableBytes, frameIn, frames}
 use Rattle.encoder.specs.Claims.{Bytes}
-use Rattle.encoder.proofs.CodeLaws.{code-small}
+use Rattle.payload.proofs.CodeLaws.{code-small}
 use Rattle.encoder.proofs.EntryBackLaws.{Run, small-gaps}
 use Rattle.encoder.proofs.TableBackLaws.{Runs}
 

@@ -16,7 +16,7 @@ use Rattle.payload.specs.Contents.{entrySize, entryOf, Group, halfAt, gapAt, ga
 use Rattle.payload.specs.Codes.{noCode, codeFor}
 use Rattle.encoder.specs.Plans.{maxGap, headGap}
 use Rattle.encoder.specs.Bytes.{halves, flag, entryBytes}
-use Rattle.encoder.proofs.CodeLaws.{code-back, code-small}
+use Rattle.payload.proofs.CodeLaws.{code-back, code-small}
 
 -- a run of frame-blocks that an entry can say, but for the gap before it
 pub record Run (format : ℕ) (g : Group) : Type 0 where

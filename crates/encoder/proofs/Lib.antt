@@ -1,6 +1,14 @@
 pub mod ListLaws
 pub mod PlanLaws
-pub mod CodeLaws
+pub mod BlockLaws
+pub mod RunLaws
+pub mod StoreLaws
+pub mod GapLaws
+pub mod EntryLaws
+pub mod TableLaws
+pub mod FrameBytesLaws
+pub mod PayloadLaws
+pub mod WritingLaws
 pub mod EntryBackLaws
 pub mod TableBackLaws
 pub mod ByteLaws

@@ -1,17 +1,16 @@
 -- Laws of plans as the code holds them.
 use mathlib.Core.Path.{_≡_, refl, ap, sym, _∙_}
 use mathlib.Core.List.{List, [], _∷_}
-use mathlib.Core.Bool.{Bool, true, false, cond}
-use Prim.Native.Nat.{ℕ, zero, suc, _+_, _-_, _*_, _/_, _%_, _≤_, _<_}
+use mathlib.Core.Bool.{true, false, cond}
+use Prim.Native.Nat.{ℕ, suc, _+_, _-_, _*_, _/_, _≤_, _<_}
 use native.Mathlib.Omega.{arith}
 use native.Mathlib.Nat.{mul-le-mul-left, mul-le-mul-right, suc-mul, one-mul, add-mul, add-zero}
 use lib.ListN.{length, getD, drop}
 use lib.Dec.{ltb, leb, eqb}
 use native.Mathlib.Numerals.{add-one}
-use borrow.Author.Tests.{lt-ltb, le-ltb, ltb-true, ltb-false, leb-true, leb-false, eqb-true, eqb-false, eq-eqb, ne-eqb}
+use borrow.Author.Tests.{lt-ltb, le-ltb, ltb-true, leb-true, eqb-true, eqb-false, eq-eqb, ne-eqb}
 use Rattle.rtp.specs.Sizes.{maxRows, maxFrame, rowWidth}
 use Rattle.rtp.specs.Ranges.{g719Interleaved, gsmHr}
-use Rattle.rtp.specs.declared.refusal.Refusal.{Refusal}
 use Rattle.rtp.proofs.TestLaws.{by-test, not-both}
 use Rattle.payload.specs.Contents.{Group, Contents, refused, groups, entrySize, sizeIn, framesIn}
 use Rattle.payload.specs.Rows.{Row}
@@ -19,9 +18,9 @@ use Rattle.encoder.specs.declared.plans.Plan.{Plan}
 use Rattle.encoder.specs.declared.plans.Planned.{Planned}
 use Rattle.payload.specs.Frames.{stepOf, noData, sound, gsmLength}
 use Rattle.payload.specs.Codes.{noCode, lengthCode, codeFor}
-use Rattle.encoder.specs.Plans.{maxPayload, gapBetween, starts, headGap, single, joins, attach, follows, planFrom, plan, nextChannel, fitting}
+use Rattle.encoder.specs.Plans.{maxPayload, gapBetween, starts, headGap, maxGap, joins, attach, follows, planFrom, plan, nextChannel, stepBefore, fitting}
 use Rattle.encoder.specs.Lists.{rowsIn}
-use Rattle.encoder.proofs.ListLaws.{rows-none, rows-more}
+use Rattle.encoder.proofs.ListLaws.{rows-none, rows-more, length-rows}
 use Rattle.encoder.specs.Room.{rowAs, wordsAt, planAnswer, joinsPlan, attachPlan, SmallPlan, Small}
 
 -- the bytes of a frame-block stay small
@@ -44,16 +43,21 @@ size-next format n =
 
 -- a frame-block before a plan, in the plan's numbers
 
-same-joins : (format ch : ℕ) (r : Row) (gap : ℕ) (g : Group) (gs : List Group) → joins format r g ≡ true → r .length ≡ g .length
-same-joins format ch r gap g gs h =
-    by-test (eqb format gsmHr) (λ a. absurd (no (rw a at h)))
-    (λ a. by-test (eqb (r .class) (g .class)) (λ b. by-test (eqb (r .length) (g .length)) (λ e. eqb-true (r .length) (g .length) e) (λ e. absurd (no (rw (a, b, e) at h))))
-    (λ b. absurd (no (rw (a, b) at h))))
-  where
-    no : _≡_ {A = Bool} false true → ⊥
-    no e = not-both false e refl
+pub record Joins (format : ℕ) (r : Row) (g : Group) : Type 0 where
+  pub class : r .class ≡ g .class
+  pub length : r .length ≡ g .length
+  pub near : headGap g ≤ maxGap format
 
-frames-more : (n ch len : ℕ) → suc n * ch * len ≡ ch * len + n * ch * len
+pub joins-true : (format : ℕ) (r : Row) (g : Group) → joins format r g ≡ true → Joins format r g
+joins-true format r g h =
+    by-test (eqb format gsmHr) (λ a. not-both false (rw a at h) refl)
+    (λ a. by-test (eqb (r .class) (g .class))
+    (λ b. by-test (eqb (r .length) (g .length))
+    (λ d. record { class = eqb-true (r .class) (g .class) b; length = eqb-true (r .length) (g .length) d; near = leb-true (headGap g) (maxGap format) (rw (a, b, d) at h) })
+    (λ d. not-both false (rw (a, b, d) at h) refl))
+    (λ b. not-both false (rw (a, b) at h) refl))
+
+pub frames-more : (n ch len : ℕ) → suc n * ch * len ≡ ch * len + n * ch * len
 frames-more n ch len = rw (suc-mul n ch, add-mul (n * ch) ch len) (omega arith)
 
 pub answer-attach : (format ch : ℕ) (r : Row) (gap : ℕ) (x : Contents) → planAnswer format ch (attach format r gap x) ≡ attachPlan format ch r gap (planAnswer format ch x)
@@ -67,7 +71,7 @@ answer-attach format ch r gap (groups (g ∷ gs)) =
     let t : entrySize format (suc n) + sizeIn format gs ≡ entrySize format (n + 1) + (entrySize format n + sizeIn format gs - entrySize format n) =
     rw (add-one (length (g .gaps))) (omega arith) in
     let f : suc n * ch * g .length + framesIn ch gs ≡ ch * r .length + (n * ch * g .length + framesIn ch gs) =
-    rw (same-joins format ch r gap g gs a, frames-more n ch (g .length)) (omega arith) in
+    rw (joins-true format r g a .length, frames-more n ch (g .length)) (omega arith) in
     rw (a, t, f, add-one n))
     (λ a. by-test (eqb (headGap g) 0) (λ b. rw (a, b, one-mul ch)) (λ b. rw (a, b)))
 
@@ -173,3 +177,38 @@ module _ (format ch c : ℕ) (p : Row) (ws : List ℕ) where
         → planAnswer format ch (planFrom format ch c p (rowsIn ws)) ≡ planAnswer format ch (planFrom format ch (nextChannel ch c) (rowAs (wordsAt ws 0)) (rowsIn (drop rowWidth ws)))
     unfolding planFrom
     plan-go f z = rw (rows-more ws h, f, ne-eqb c 0 z)
+
+-- The plan of a whole list
+
+-- `fitting` by the numbers of the first run
+abbrev pub fittingPlan : Planned → Planned
+fittingPlan Planned.Unwritable = Planned.Unwritable
+fittingPlan Planned.Empty = Planned.Empty
+fittingPlan (Planned.Table p) = cond (ltb maxPayload (p .table + p .frames)) Planned.Unwritable (Planned.Table p)
+
+answer-fitting : (format ch : ℕ) (x : Contents) → planAnswer format ch (fitting format ch x) ≡ fittingPlan (planAnswer format ch x)
+unfolding planAnswer
+answer-fitting format ch (refused q) = refl
+answer-fitting format ch (groups []) = unfold sizeIn framesIn in refl
+answer-fitting format ch (groups (g ∷ gs)) =
+    by-test (ltb maxPayload (sizeIn format (g ∷ gs) + framesIn ch (g ∷ gs))) (λ a. rw a) (λ a. rw a)
+
+module _ (format ch : ℕ) (ws : List ℕ) where
+  pub list-none : length ws < rowWidth → planAnswer format ch (plan format ch (rowsIn ws)) ≡ Planned.Unwritable
+  unfolding plan planAnswer
+  list-none h = rw (rows-none ws h)
+
+  module _ (h : rowWidth ≤ length ws) where
+    pub list-many : maxRows < length ws / rowWidth → planAnswer format ch (plan format ch (rowsIn ws)) ≡ Planned.Unwritable
+    unfolding plan planAnswer
+    list-many m = rw (rows-more ws h, lt-ltb maxRows (length (rowAs (wordsAt ws 0) ∷ rowsIn (drop rowWidth ws))) (omega (arith, length-rows ws, ap (λ (l : List Row). length l) (rows-more ws h))))
+
+    pub list-plan : length ws / rowWidth ≤ maxRows → plan format ch (rowsIn ws) ≡ fitting format ch (planFrom format ch 0 (stepBefore format (rowAs (wordsAt ws 0))) (rowsIn ws))
+    unfolding plan
+    list-plan m =
+        let l : length (rowAs (wordsAt ws 0) ∷ rowsIn (drop rowWidth ws)) ≤ maxRows = omega (arith, length-rows ws, ap (λ (l : List Row). length l) (rows-more ws h)) in
+        rw (rows-more ws h, le-ltb maxRows (length (rowAs (wordsAt ws 0) ∷ rowsIn (drop rowWidth ws))) l)
+
+    pub list-answer : length ws / rowWidth ≤ maxRows → (x : Planned) → x ≡ planAnswer format ch (planFrom format ch 0 (stepBefore format (rowAs (wordsAt ws 0))) (rowsIn ws))
+        → planAnswer format ch (plan format ch (rowsIn ws)) ≡ fittingPlan x
+    list-answer m x e = ap (planAnswer format ch) (list-plan m) ∙ answer-fitting format ch (planFrom format ch 0 (stepBefore format (rowAs (wordsAt ws 0))) (rowsIn ws)) ∙ ap fittingPlan (sym e)

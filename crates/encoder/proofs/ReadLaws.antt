@@ -20,7 +20,7 @@ use Rattle.payload.proofs.EntryLaws.{past, fair}
 use Rattle.payload.proofs.ContentsLaws.{contents-step, shorter, blocks-of}
 use Rattle.payload.specs.Codes.{noCode, codeFor}
 use Rattle.encoder.specs.Plans.{maxGap, headGap}
-use Rattle.encoder.proofs.CodeLaws.{code-some}
+use Rattle.payload.proofs.CodeLaws.{code-some}
 use Rattle.encoder.proofs.EntryBackLaws.{Run}
 use Rattle.encoder.proofs.TableBackLaws.{Runs}
 use Rattle.encoder.proofs.AttachLaws.{same-groups}

@@ -1,18 +1,22 @@
 -- Plans as the code holds them, and what the functions that plan and write ask of one another inside this crate.
-use Prim.Native.Nat.{ℕ, zero, suc, _+_, _-_, _*_, _≤_, _<_}
+use Prim.Native.Nat.{ℕ, zero, suc, _+_, _-_, _*_, _/_, _≤_, _<_}
+use mathlib.Core.Path.{_≡_}
 use mathlib.Core.List.{List, [], _∷_}
-use mathlib.Core.Bool.{Bool, true, false, cond}
-use lib.ListN.{length, getD}
+use mathlib.Core.Bool.{Bool, false, cond}
+use lib.ListN.{length, getD, drop}
 use lib.Dec.{leb, eqb}
-use Rattle.rtp.specs.Sizes.{maxRows, maxFrame}
+use Rattle.rtp.specs.Sizes.{maxRows, maxFrame, rowWidth}
 use Rattle.rtp.specs.Ranges.{gsmHr}
 use Rattle.payload.specs.Contents.{Group, Contents, refused, groups, entrySize, sizeIn, framesIn}
+use Rattle.payload.specs.Frames.{stepOf}
 use Rattle.payload.specs.Rows.{Row}
 use Rattle.encoder.specs.declared.lists.RowWords.{RowWords}
 use Rattle.encoder.specs.declared.plans.Plan.{Plan}
 use Rattle.encoder.specs.declared.plans.Planned.{Planned}
-use Rattle.encoder.specs.Lists.{rowOf}
-use Rattle.encoder.specs.Plans.{maxGap, headGap}
+use Rattle.encoder.specs.Lists.{rowOf, rowsIn, outside}
+use Rattle.payload.specs.Codes.{noCode, codeFor}
+use Rattle.encoder.specs.Plans.{maxGap, headGap, gapBetween, joins, planFrom, plan}
+use Rattle.encoder.specs.Bytes.{flag, tableBytes}
 
 -- the words of the row at a word of the area
 abbrev pub wordsAt : List ℕ → ℕ → RowWords
@@ -89,3 +93,104 @@ pub record Attachable (format ch : ℕ) (r : Row) (rest : Planned) : Type 0 wher
   pub channels : ch < 256
   pub short : r .length ≤ maxFrame
   pub small : Small format ch maxRows rest
+
+-- Frames
+
+-- the bytes of a list's frames
+unfoldable pub lengthsIn : List Row → ℕ
+lengthsIn [] = 0
+lengthsIn (r ∷ rs) = r .length + lengthsIn rs
+
+-- every frame lies in its bytes, and the area has room for them all
+pub record FramesRoom (bytes : ℕ) (rs : List Row) (area : ℕ) : Type 0 where
+  pub inside : outside bytes rs ≡ false
+  pub room : lengthsIn rs ≤ area
+
+-- Runs
+
+-- a row of which only the time counts: the last one of a frame-block that another follows
+abbrev pub timed : ℕ → Row
+timed time = record { time = time; class = 0; channel = 0; start = 0; length = 0 }
+
+-- the frame-blocks of a table's first run, where a frame-block before the table joins it
+abbrev pub joined : ℕ → Row → Contents → ℕ
+joined format r (refused q) = 0
+joined format r (groups []) = 0
+joined format r (groups (g ∷ gs)) = cond (joins format r g) (length (g .gaps)) 0
+
+-- there is a plan
+abbrev pub Accepted : Contents → Type 0
+Accepted (refused q) = ⊥
+Accepted (groups gs) = Unit {0}
+
+pub record RunRoom (format ch : ℕ) (r : Row) (ws : List ℕ) : Type 0 where
+  pub some : 0 < ch
+  pub channels : ch < 256
+  pub planned : Accepted (planFrom format ch 0 r (rowsIn ws))
+
+-- the gaps of n frame-blocks of so many words each, the first after a frame-block at `previous`
+unfoldable pub blockGaps : ℕ → ℕ → ℕ → ℕ → List ℕ → List ℕ
+blockGaps step width zero previous ws = []
+blockGaps step width (suc n) previous ws = gapBetween step previous (getD ws 0 0) ∷ blockGaps step width n (getD ws 0 0) (drop width ws)
+
+-- the group of the run of n frame-blocks at the front
+abbrev pub runGroup : ℕ → ℕ → ℕ → ℕ → List ℕ → Group
+runGroup format width n previous ws =
+    record { class = rowAs (wordsAt ws 0) .class; length = rowAs (wordsAt ws 0) .length; gaps = blockGaps (stepOf format) width n previous ws }
+
+-- Entries and tables
+
+-- an entry's first byte
+abbrev pub firstByte : ℕ → Bool → ℕ → ℕ → ℕ
+firstByte format more class n = cond (eqb format gsmHr) (flag more + 16 * codeFor format class n) (flag more + 4 * codeFor format class n)
+
+-- each of them fits in half a byte
+abbrev pub Halves : List ℕ → Type 0
+Halves [] = Unit {0}
+Halves (a ∷ ns) = (a < 16) × Halves ns
+
+pub record GapRoom (format width blocks previous : ℕ) (ws : List ℕ) (area : ℕ) : Type 0 where
+  pub wide : 0 < width
+  pub words : width * blocks ≤ length ws
+  pub small : Halves (blockGaps (stepOf format) width blocks previous ws)
+  pub room : (blocks + 1) / 2 ≤ area
+
+pub record EntryRoom (format width blocks previous : ℕ) (ws : List ℕ) (area : ℕ) : Type 0 where
+  pub row : rowWidth ≤ length ws
+  pub coded : codeFor format (rowAs (wordsAt ws 0) .class) (rowAs (wordsAt ws 0) .length) < noCode
+  pub wide : 0 < width
+  pub words : width * blocks ≤ length ws
+  pub small : Halves (blockGaps (stepOf format) width blocks previous ws)
+  pub few : blocks < 256
+  pub room : entrySize format blocks ≤ area
+
+-- a table's first frame-block follows directly
+abbrev pub Direct : List Group → Type 0
+Direct [] = Unit {0}
+Direct (g ∷ gs) = headGap g ≡ 0
+
+abbrev pub PlanRoom : ℕ → ℕ → Contents → Type 0
+PlanRoom format area (refused q) = ⊥
+PlanRoom format area (groups gs) = Direct gs × (sizeIn format gs ≤ area)
+
+pub record TableRoom (format ch previous : ℕ) (ws : List ℕ) (area : ℕ) : Type 0 where
+  pub some : 0 < ch
+  pub channels : ch < 256
+  pub few : length ws < rowWidth * maxRows + rowWidth
+  pub planned : PlanRoom format area (planFrom format ch 0 (timed previous) (rowsIn ws))
+
+-- the bytes of a plan: none where there is none
+unfoldable pub planBytes : ℕ → Contents → List ℕ
+planBytes format (refused q) = []
+planBytes format (groups gs) = tableBytes format gs
+
+-- a table of so many bytes, and its frames after it, in an area
+abbrev pub WholePlan : ℕ → ℕ → ℕ → ℕ → Contents → Type 0
+WholePlan format ch table area (refused q) = ⊥
+WholePlan format ch table area (groups gs) = (table ≡ sizeIn format gs) × (table + framesIn ch gs ≤ area)
+
+pub record PayloadRoom (format ch table bytes : ℕ) (ws : List ℕ) (area : ℕ) : Type 0 where
+  pub some : 0 < ch
+  pub channels : ch < 256
+  pub inside : outside bytes (rowsIn ws) ≡ false
+  pub planned : WholePlan format ch table area (plan format ch (rowsIn ws))

@@ -1,5 +1,5 @@
 -- A payload written alone: `writing` is the whole meaning of a call of `write_payload`, refusals included.
-use Prim.Native.Nat.{ℕ}
+use Prim.Native.Nat.{ℕ, _+_}
 use mathlib.Core.List.{List, [], _++_}
 use mathlib.Core.Bool.{Bool, true, false, cond}
 use lib.ListN.{length}
@@ -9,7 +9,7 @@ use Rattle.rtp.specs.Refusals.{number}
 use Rattle.rtp.specs.declared.settings.Settings.{Settings}
 use Rattle.rtp.specs.declared.refusal.Refusal.{Refusal}
 use Rattle.rtp.specs.declared.refusal.Refusal.the-variants.{SettingsOutOfRange, RowOutsideBytes, Unwritable, AreaTooShort}
-use Rattle.payload.specs.Contents.{Contents, refused, groups}
+use Rattle.payload.specs.Contents.{Contents, refused, groups, sizeIn, framesIn}
 use Rattle.payload.specs.Rows.{Row}
 use Rattle.encoder.specs.declared.writing.Written.{Written}
 use Rattle.encoder.specs.Lists.{rowsIn, whole, outside}
@@ -61,3 +61,18 @@ encodedNumbers (bytesOf p) = record { refusal = 0; count = length p }
 unfoldable pub encodedBytes : Encoded → List ℕ
 encodedBytes (noBytes r) = []
 encodedBytes (bytesOf p) = p
+
+-- Measuring: the byte count of a list's payload, or why it has none. Whether the rows lie inside the bytes that they point into is not asked.
+
+abbrev pub refusedNumbers : Refusal → Numbers
+refusedNumbers r = record { refusal = number r; count = 0 }
+
+abbrev pub plannedNumbers : ℕ → ℕ → Contents → Numbers
+plannedNumbers format ch (refused r) = refusedNumbers r
+plannedNumbers format ch (groups gs) = record { refusal = 0; count = sizeIn format gs + framesIn ch gs }
+
+unfoldable pub measured : Settings → List ℕ → Numbers
+measured st ws =
+    cond (inRange st)
+    (cond (whole ws) (plannedNumbers (st .format) (st .channels) (plan (st .format) (st .channels) (rowsIn ws))) (refusedNumbers Unwritable))
+    (refusedNumbers SettingsOutOfRange)

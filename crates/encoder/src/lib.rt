@@ -1,4 +1,5 @@
 // Payloads written from frame rows.
 pub mod lists;
 pub mod plans;
+pub mod tables;
 pub mod writing;

@@ -1,4 +1,5 @@
 // Frame lists: the rows in a word area.
+use payload::rows::ROW_WIDTH;
 ghost use mathlib.Core.Path.{_≡_};
 ghost use Prim.Native.Nat.{_+_, _^_, _≤_, _<_};
 ghost use lib.ListN.{length};
@@ -27,7 +28,7 @@ pub(crate) fn row_at(rows: &[u32], at: usize) -> RowWords
     }
 }
 
-fn wide(x: u32) -> usize
+pub(crate) fn wide(x: u32) -> usize
     ensures { λ r. ⌜ (r ≡ x) × (r < 2 ^ 32) ⌝ }
 {
     x as usize
@@ -38,12 +39,12 @@ pub fn any_outside(rows: &[u32], n: usize) -> bool
     ensures { λ r. ⌜ r ≡ outside n (rowsIn (now (rows .entry))) ⌝ }
 {
     let mut at = 0;
-    while 4 <= rows.len() - at {
+    while ROW_WIDTH <= rows.len() - at {
         let end = wide(rows[at + 2]) + wide(rows[at + 3]);
         if n < end {
             return true;
         }
-        at += 4;
+        at += ROW_WIDTH;
     }
     false
 }

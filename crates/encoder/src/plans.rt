@@ -217,3 +217,33 @@ fn plan_from(format: u8, channels: u32, c: u32, previous: RowWords, rows: &[u32]
 
 // The longest payload that is written alone.
 pub const MAX_PAYLOAD: usize = MAX_PACKET - MIN_PACKET;
+
+// The plan of a whole list.
+pub(crate) fn plan_list(format: u8, channels: u8, rows: &[u32]) -> Planned
+    requires { ⌜ 0 < channels ⌝ }
+    ensures { λ r. ⌜ r ≡ planAnswer format channels (plan format channels (rowsIn (now (rows .entry)))) ⌝ }
+{
+    if rows.len() < ROW_WIDTH {
+        return Planned::Unwritable;
+    }
+    if MAX_ROWS < rows.len() / ROW_WIDTH {
+        return Planned::Unwritable;
+    }
+    let first = lists::row_at(rows, 0);
+    let before = RowWords {
+        time: redundancy::block_time(first.time, frames::step_of(format)),
+        tag: first.tag,
+        start: first.start,
+        length: first.length,
+    };
+    match plan_from(format, channels as u32, 0, before, rows) {
+        Planned::Table(plan) => {
+            if MAX_PAYLOAD < plan.table + plan.frames {
+                return Planned::Unwritable;
+            }
+            Planned::Table(plan)
+        }
+        Planned::Empty => Planned::Empty,
+        Planned::Unwritable => Planned::Unwritable,
+    }
+}

@@ -5,3 +5,5 @@ pub mod RowLaws
 pub mod GroupLaws
 pub mod TableLaws
 pub mod PayloadLaws
+pub mod CodeLaws
+pub mod RowFactLaws

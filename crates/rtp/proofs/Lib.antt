@@ -2,3 +2,4 @@ pub mod TestLaws
 pub mod AreaLaws
 pub mod HeaderLaws
 pub mod RedundancyLaws
+pub mod RefusalLaws

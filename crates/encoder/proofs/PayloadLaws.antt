@@ -1,0 +1,170 @@
+-- Laws of a whole payload: its plan, its bytes, and the room that they need.
+use mathlib.Core.Path.{_≡_, refl, ap, sym, _∙_, subst}
+use mathlib.Core.List.{List, [], _∷_, _++_}
+use mathlib.Core.Bool.{false}
+use Prim.Native.Nat.{ℕ, _+_, _-_, _*_, _/_, _%_, _^_, _≤_, _<_}
+use native.Mathlib.Omega.{arith}
+use native.Mathlib.Nat.{zero-div}
+use lib.ListN.{length, getD, take, drop, length-append}
+use lib.Dec.{ltb, eqb}
+use borrow.Author.Tests.{ltb-true, ltb-false}
+use borrow.Rule.Slice.PartMut.{putMid}
+use Rattle.rtp.specs.Sizes.{rowWidth, maxRows}
+use Rattle.rtp.specs.Areas.{over}
+use Rattle.rtp.specs.Redundancy.{before}
+use Rattle.rtp.specs.declared.refusal.Refusal.{Refusal}
+use Rattle.rtp.specs.declared.refusal.Refusal.the-variants.{Unwritable}
+use Rattle.rtp.proofs.TestLaws.{by-test}
+use Rattle.rtp.proofs.AreaLaws.{over-part}
+use Rattle.payload.specs.Frames.{stepOf}
+use Rattle.payload.specs.Contents.{Group, Contents, refused, groups, sizeIn, framesIn}
+use Rattle.payload.specs.Rows.{Row}
+use Rattle.encoder.specs.Lists.{rowsIn, outside}
+use Rattle.encoder.specs.Plans.{maxPayload, gapBetween, headGap, joins, attach, follows, nextChannel, planFrom, stepBefore, fitting, plan}
+use Rattle.encoder.specs.Bytes.{tableBytes, frames}
+use Rattle.encoder.specs.Writings.{plannedBytes, encodedBytes}
+use Rattle.encoder.specs.Room.{rowAs, wordsAt, FramesRoom, timed, Direct, PlanRoom, TableRoom, planBytes, WholePlan, PayloadRoom}
+use Rattle.encoder.proofs.ListLaws.{rows-none, rows-more, length-rows}
+use Rattle.encoder.proofs.BlockLaws.{no-plan, plan-time, frames-all}
+use Rattle.encoder.proofs.RunLaws.{first-gap}
+use Rattle.encoder.proofs.EntryLaws.{length-table}
+use Rattle.encoder.proofs.FrameBytesLaws.{length-frames}
+
+-- Where there is no plan, the reason is 13
+
+abbrev Plain : Contents → Type 0
+Plain (refused q) = q ≡ Unwritable
+Plain (groups gs) = Unit {0}
+
+plain-attach : (format : ℕ) (r : Row) (gap : ℕ) (x : Contents) → Plain x → Plain (attach format r gap x)
+plain-attach format r gap (refused q) h = h
+plain-attach format r gap (groups []) h = tt
+plain-attach format r gap (groups (g ∷ gs)) h =
+    by-test (joins format r g) (λ a. rw a tt) (λ a. by-test (eqb (headGap g) 0) (λ b. rw (a, b) tt) (λ b. rw (a, b) refl))
+
+plain-from : (format ch c : ℕ) (p : Row) (rs : List Row) → Plain (planFrom format ch c p rs)
+unfolding planFrom
+plain-from format ch c p [] = by-test (eqb c 0) (λ a. rw a tt) (λ a. rw a refl)
+plain-from format ch c p (r ∷ rs) =
+    let i = plain-from format ch (nextChannel ch c) r rs in
+    by-test (follows format c p r)
+    (λ a. by-test (eqb c 0) (λ b. rw (a, b) (plain-attach format r _ (planFrom format ch (nextChannel ch c) r rs) i)) (λ b. rw (a, b) i))
+    (λ a. rw a refl)
+
+plain-fitting : (format ch : ℕ) (x : Contents) → Plain x → Plain (fitting format ch x)
+plain-fitting format ch (refused q) h = h
+plain-fitting format ch (groups gs) h = by-test (ltb maxPayload (sizeIn format gs + framesIn ch gs)) (λ a. rw a refl) (λ a. rw a tt)
+
+plain-plan : (format ch : ℕ) (rs : List Row) → Plain (plan format ch rs)
+unfolding plan
+plain-plan format ch [] = refl
+plain-plan format ch (r ∷ rs) =
+    by-test (ltb maxRows (length (r ∷ rs))) (λ a. rw a refl) (λ a. rw a (plain-fitting format ch (planFrom format ch 0 (stepBefore format r) (r ∷ rs)) (plain-from format ch 0 (stepBefore format r) (r ∷ rs))))
+
+pub plan-refused : (format ch : ℕ) (rs : List Row) (q : Refusal) → plan format ch rs ≡ refused q → q ≡ Unwritable
+plan-refused format ch rs q e = subst (λ (x : Contents). Plain x) e (plain-plan format ch rs)
+
+-- What a plan says of a whole list
+
+pub record Listed (format ch : ℕ) (ws : List ℕ) (gs : List Group) : Type 0 where
+  pub row : rowWidth ≤ length ws
+  pub few : length ws < rowWidth * maxRows + rowWidth
+  pub planned : planFrom format ch 0 (stepBefore format (rowAs (wordsAt ws 0))) (rowsIn ws) ≡ groups gs
+  pub fits : sizeIn format gs + framesIn ch gs ≤ maxPayload
+
+fitted : (format ch : ℕ) (x : Contents) (gs : List Group) → fitting format ch x ≡ groups gs → (x ≡ groups gs) × (sizeIn format gs + framesIn ch gs ≤ maxPayload)
+fitted format ch (refused q) gs h = absurd (no-plan h)
+fitted format ch (groups hs) gs h =
+    by-test (ltb maxPayload (sizeIn format hs + framesIn ch hs))
+    (λ a. absurd (no-plan (rw a at h)))
+    (λ a.
+    let e : groups hs ≡ groups gs = rw a at h in
+    let s : hs ≡ gs = cc in
+    (e, subst (λ (k : List Group). sizeIn format k + framesIn ch k ≤ maxPayload) s (ltb-false maxPayload (sizeIn format hs + framesIn ch hs) a)))
+
+pub listed : (format ch : ℕ) (ws : List ℕ) (gs : List Group) → plan format ch (rowsIn ws) ≡ groups gs → Listed format ch ws gs
+unfolding plan
+listed format ch ws gs h =
+    by-test (ltb (length ws) rowWidth)
+    (λ a. absurd (no-plan (rw (rows-none ws (ltb-true (length ws) rowWidth a)) at h)))
+    (λ a.
+    let l = ltb-false (length ws) rowWidth a in
+    let m = rows-more ws l in
+    let k = length-rows ws in
+    let n = ap (λ (s : List Row). length s) m in
+    by-test (ltb maxRows (length (rowAs (wordsAt ws 0) ∷ rowsIn (drop rowWidth ws))))
+    (λ b. absurd (no-plan (rw (m, b) at h)))
+    (λ b.
+    let f = fitted format ch (planFrom format ch 0 (stepBefore format (rowAs (wordsAt ws 0))) (rowAs (wordsAt ws 0) ∷ rowsIn (drop rowWidth ws))) gs (rw (m, b) at h) in
+    record {
+      row = l;
+      few = omega (arith, ltb-false maxRows (length (rowAs (wordsAt ws 0) ∷ rowsIn (drop rowWidth ws))) b);
+      planned = ap (planFrom format ch 0 (stepBefore format (rowAs (wordsAt ws 0)))) m ∙ f .0;
+      fits = f .1;
+    }))
+
+-- the first frame-block stands at the list's own time
+gap-none : (step time : ℕ) → gapBetween step (before time step) time ≡ 0
+gap-none step time =
+    let x = before time step in
+    let e : (x + 2 ^ 32 - x) % 2 ^ 32 ≡ 0 = omega arith in
+    ap (λ (n : ℕ). n / step) e ∙ zero-div step
+
+pub list-direct : (format ch : ℕ) (ws : List ℕ) (gs : List Group) → 0 < ch → planFrom format ch 0 (stepBefore format (rowAs (wordsAt ws 0))) (rowsIn ws) ≡ groups gs → Direct gs
+list-direct format ch ws [] l h = tt
+list-direct format ch ws (g ∷ gs) l h = first-gap format ch (stepBefore format (rowAs (wordsAt ws 0))) ws g gs l h ∙ gap-none (stepOf format) (getD ws 0 0)
+
+-- the bytes are as many as the plan says
+pub length-bytes : (format ch : ℕ) (ws bytes : List ℕ) (gs : List Group) → 0 < ch → outside (length bytes) (rowsIn ws) ≡ false → plan format ch (rowsIn ws) ≡ groups gs
+    → length (tableBytes format gs ++ frames bytes (rowsIn ws)) ≡ sizeIn format gs + framesIn ch gs
+length-bytes format ch ws bytes gs l o h =
+    length-append (tableBytes format gs) (frames bytes (rowsIn ws))
+    ∙ ap (λ (n : ℕ). n + length (frames bytes (rowsIn ws))) (length-table format gs)
+    ∙ ap (λ (n : ℕ). sizeIn format gs + n) (length-frames bytes (rowsIn ws) o ∙ frames-all format ch (stepBefore format (rowAs (wordsAt ws 0))) (rowsIn ws) gs l (listed format ch ws gs h .planned))
+
+-- The table and the frames, written one after the other
+
+record Whole (format ch table area : ℕ) (x : Contents) : Type 0 where
+  table-groups : List Group
+  planned : x ≡ groups table-groups
+  size : table ≡ sizeIn format table-groups
+  fits : table + framesIn ch table-groups ≤ area
+
+whole-plan : (format ch table area : ℕ) (x : Contents) → WholePlan format ch table area x → Whole format ch table area x
+whole-plan format ch table area (refused q) w = absurd w
+whole-plan format ch table area (groups gs) w = record { table-groups = gs; planned = refl; size = w .0; fits = w .1 }
+
+module _ (format ch table : ℕ) (ws bytes : List ℕ) (area : ℕ) (r : PayloadRoom format ch table (length bytes) ws area) where
+  it : Whole format ch table area (plan format ch (rowsIn ws))
+  it = whole-plan format ch table area (plan format ch (rowsIn ws)) (r .planned)
+
+  in-list : Listed format ch ws (it .table-groups)
+  in-list = listed format ch ws (it .table-groups) (it .planned)
+
+  pub payload-row : rowWidth ≤ length ws
+  payload-row = in-list .row
+
+  pub payload-table : table ≤ area
+  payload-table = omega (arith, it .fits)
+
+  from-before : planFrom format ch 0 (timed (before (getD ws 0 0) (stepOf format))) (rowsIn ws) ≡ groups (it .table-groups)
+  from-before = plan-time format ch (timed (before (getD ws 0 0) (stepOf format))) (stepBefore format (rowAs (wordsAt ws 0))) (rowsIn ws) refl ∙ in-list .planned
+
+  pub table-room : TableRoom format ch (before (getD ws 0 0) (stepOf format)) ws area
+  table-room = record {
+    some = r .some;
+    channels = r .channels;
+    few = in-list .few;
+    planned = subst (λ (x : Contents). PlanRoom format area x) (sym from-before) (list-direct format ch ws (it .table-groups) (r .some) (in-list .planned), omega (arith, it .size, it .fits));
+  }
+
+  pub frames-room : FramesRoom (length bytes) (rowsIn ws) (area - table)
+  frames-room = record { inside = r .inside; room = omega (arith, frames-all format ch (stepBefore format (rowAs (wordsAt ws 0))) (rowsIn ws) (it .table-groups) (r .some) (in-list .planned), it .fits) }
+
+  pub put-both : (l m z : List ℕ) → m ≡ over (planBytes format (planFrom format ch 0 (timed (before (getD ws 0 0) (stepOf format))) (rowsIn ws))) l
+      → z ≡ over (frames bytes (rowsIn ws)) (take (length m - table) (drop table m))
+      → putMid table (length m - table) m z ≡ over (encodedBytes (plannedBytes format bytes (rowsIn ws) (plan format ch (rowsIn ws)))) l
+  unfolding planBytes encodedBytes
+  put-both l m z p q =
+      over-part (tableBytes format (it .table-groups)) (frames bytes (rowsIn ws)) l m z table (length-table format (it .table-groups) ∙ sym (it .size)) (p ∙ ap (λ (x : Contents). over (planBytes format x) l) from-before) q
+      ∙ ap (λ (x : Contents). over (encodedBytes (plannedBytes format bytes (rowsIn ws) x)) l) (sym (it .planned))

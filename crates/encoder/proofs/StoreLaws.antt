@@ -1,0 +1,38 @@
+-- Laws of stores into an area that is written over from its front.
+use mathlib.Core.Path.{_≡_, refl, ap, sym, _∙_}
+use mathlib.Core.List.{List, [], _∷_, _++_}
+use Prim.Native.Nat.{ℕ, suc, _+_, _≤_, _<_}
+use native.Mathlib.Omega.{arith}
+use native.Mathlib.Numerals.{add-one}
+use lib.ListN.{length, getD, take, drop, set}
+use lib.Seq.{take-all, length-take-le, take-suc, drop-cons, set-at, append-snoc}
+use Rattle.rtp.specs.Areas.{over}
+
+-- the first i elements of s over the front
+pub over-taken : (s l : List ℕ) (i : ℕ) → i ≤ length s → over (take i s) l ≡ take i s ++ drop i l
+unfolding over
+over-taken s l i h = ap (λ (n : ℕ). take i s ++ drop n l) (length-take-le i s h)
+
+-- and one more
+pub over-next : (s l : List ℕ) (i : ℕ) → i < length s → length s ≤ length l → set (over (take i s) l) i (getD s i 0) ≡ over (take (i + 1) s) l
+over-next s l i h k =
+    ap (λ (m : List ℕ). set m i (getD s i 0)) (over-taken s l i (omega arith) ∙ ap (λ (r : List ℕ). take i s ++ r) (drop-cons l i 0 (omega arith)))
+    ∙ set-at (take i s) (getD l i 0) (drop (suc i) l) (getD s i 0) i (length-take-le i s (omega arith))
+    ∙ sym (append-snoc (take i s) (getD s i 0) (drop (suc i) l))
+    ∙ ap (λ (r : List ℕ). r ++ drop (suc i) l) (sym (take-suc s i 0 h))
+    ∙ sym (ap (λ (n : ℕ). over (take n s) l) (add-one i) ∙ over-taken s l (suc i) h)
+
+pub over-whole : (s l : List ℕ) (i : ℕ) → length s ≤ i → over (take i s) l ≡ over s l
+over-whole s l i h = ap (λ (m : List ℕ). over m l) (take-all i s h)
+
+-- one store and two at the front
+pub over-one : (l : List ℕ) (a : ℕ) → 1 ≤ length l → set l 0 a ≡ over (a ∷ []) l
+unfolding over
+over-one [] a h = absurd (omega arith)
+over-one (x ∷ l) a h = refl
+
+pub over-two : (l : List ℕ) (a b : ℕ) → 2 ≤ length l → set (set l 0 a) 1 b ≡ over (a ∷ b ∷ []) l
+unfolding over
+over-two [] a b h = absurd (omega arith)
+over-two (x ∷ []) a b h = absurd (omega arith)
+over-two (x ∷ y ∷ l) a b h = refl

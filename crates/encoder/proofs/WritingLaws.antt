@@ -1,0 +1,179 @@
+-- Laws of writing and measuring a payload, case by case.
+use mathlib.Core.Path.{_≡_, refl, ap, sym, _∙_, subst}
+use mathlib.Core.List.{List, [], _∷_, _++_}
+use mathlib.Core.Bool.{true, false}
+use Prim.Native.Nat.{ℕ, _+_, _%_, _≤_, _<_}
+use native.Mathlib.Omega.{arith}
+use lib.ListN.{length}
+use lib.Dec.{eqb}
+use borrow.Author.Tests.{lt-ltb, le-ltb, eqb-false, eq-eqb, ne-eqb}
+use Rattle.rtp.specs.Sizes.{rowWidth}
+use Rattle.rtp.specs.Areas.{over}
+use Rattle.rtp.specs.Ranges.{inRange}
+use Rattle.rtp.specs.declared.settings.Settings.{Settings}
+use Rattle.rtp.specs.declared.refusal.Refusal.{Refusal}
+use Rattle.rtp.specs.declared.refusal.Refusal.the-variants.{SettingsOutOfRange, RowOutsideBytes, Unwritable, AreaTooShort}
+use Rattle.rtp.proofs.TestLaws.{by-test, not-both}
+use Rattle.rtp.proofs.AreaLaws.{over-none}
+use Rattle.payload.specs.Contents.{Group, Contents, refused, groups, sizeIn, framesIn}
+use Rattle.encoder.specs.declared.plans.Plan.{Plan}
+use Rattle.encoder.specs.declared.plans.Planned.{Planned}
+use Rattle.encoder.specs.declared.writing.Written.{Written}
+use Rattle.encoder.specs.Lists.{rowsIn, whole, outside}
+use Rattle.encoder.specs.Plans.{maxPayload, plan}
+use Rattle.encoder.specs.Bytes.{tableBytes, frames}
+use Rattle.encoder.specs.Writings.{Encoded, noBytes, bytesOf, plannedBytes, encoded, roomFor, writing, writtenNumbers, encodedNumbers, encodedBytes, plannedNumbers, refusedNumbers, measured}
+use Rattle.encoder.specs.Room.{planAnswer, WholePlan, PayloadRoom}
+use Rattle.encoder.proofs.TableLaws.{some-group}
+use Rattle.encoder.proofs.PayloadLaws.{plan-refused, listed, length-bytes}
+
+pub in-range-some : (st : Settings) → inRange st ≡ true → 0 < st .channels
+unfolding inRange
+in-range-some st h = by-test (eqb (st .channels) 0) (λ a. not-both false (rw a at h) refl) (λ a. omega (arith, eqb-false (st .channels) 0 a))
+
+-- The plan that an answer stands for
+
+abbrev tableOf : Planned → ℕ
+tableOf (Planned.Table p) = p .table
+tableOf Planned.Empty = 0
+tableOf Planned.Unwritable = 0
+
+abbrev framesOf : Planned → ℕ
+framesOf (Planned.Table p) = p .frames
+framesOf Planned.Empty = 0
+framesOf Planned.Unwritable = 0
+
+pub record Answered (format ch : ℕ) (x : Contents) (p : Plan) : Type 0 where
+  pub table-groups : List Group
+  pub planned : x ≡ groups table-groups
+  pub table : p .table ≡ sizeIn format table-groups
+  pub frames : p .frames ≡ framesIn ch table-groups
+
+pub answered : (format ch : ℕ) (x : Contents) (p : Plan) → Planned.Table p ≡ planAnswer format ch x → Answered format ch x p
+unfolding planAnswer
+answered format ch (refused q) p e = let z : _≡_ {A = ℕ} 0 1 = cc in absurd (omega arith)
+answered format ch (groups []) p e = let z : _≡_ {A = ℕ} 0 1 = cc in absurd (omega arith)
+answered format ch (groups (g ∷ gs)) p e = record { table-groups = g ∷ gs; planned = refl; table = ap tableOf e; frames = ap framesOf e }
+
+pub unanswered : (format ch : ℕ) (ws : List ℕ) → Planned.Unwritable ≡ planAnswer format ch (plan format ch (rowsIn ws)) → plan format ch (rowsIn ws) ≡ refused Unwritable
+unanswered format ch ws e = by-plan (plan format ch (rowsIn ws)) refl e
+  where
+    by-plan : (x : Contents) → plan format ch (rowsIn ws) ≡ x → Planned.Unwritable ≡ planAnswer format ch x → plan format ch (rowsIn ws) ≡ refused Unwritable
+    by-plan (refused q) x y = x ∙ ap refused (plan-refused format ch (rowsIn ws) q x)
+    by-plan (groups []) x y = let z : _≡_ {A = ℕ} 0 1 = unfold planAnswer in cc in absurd (omega arith)
+    by-plan (groups (g ∷ gs)) x y = let z : _≡_ {A = ℕ} 0 1 = unfold planAnswer in cc in absurd (omega arith)
+
+pub not-empty : (format ch : ℕ) (ws : List ℕ) → 0 < ch → Planned.Empty ≡ planAnswer format ch (plan format ch (rowsIn ws)) → ⊥
+not-empty format ch ws l e = by-plan (plan format ch (rowsIn ws)) refl e
+  where
+    by-plan : (x : Contents) → plan format ch (rowsIn ws) ≡ x → Planned.Empty ≡ planAnswer format ch x → ⊥
+    by-plan (refused q) x y = let z : _≡_ {A = ℕ} 0 1 = unfold planAnswer in cc in absurd (omega arith)
+    by-plan (groups []) x y = let d = listed format ch ws [] x in some-group format ch _ ws l (d .row) (d .planned)
+    by-plan (groups (g ∷ gs)) x y = let z : _≡_ {A = ℕ} 0 1 = unfold planAnswer in cc in absurd (omega arith)
+
+-- Writing
+
+pub refused-pair : (x : Encoded) (q : Refusal) (l : List ℕ) → x ≡ noBytes q → (writtenNumbers (Written.Refused q) ≡ encodedNumbers x) × (l ≡ over (encodedBytes x) l)
+unfolding encodedNumbers encodedBytes
+refused-pair x q l e = (rw e, rw e (sym (over-none l)))
+
+pub writing-out : (st : Settings) (ws bytes : List ℕ) (area : ℕ) → inRange st ≡ false → writing st ws bytes area ≡ noBytes SettingsOutOfRange
+unfolding writing
+writing-out st ws bytes area h = rw h
+
+module _ (st : Settings) (ws bytes : List ℕ) (area : ℕ) (i : inRange st ≡ true) where
+  pub writing-outside : outside (length bytes) (rowsIn ws) ≡ true → writing st ws bytes area ≡ noBytes RowOutsideBytes
+  unfolding writing
+  writing-outside o = rw (i, o)
+
+  module _ (o : outside (length bytes) (rowsIn ws) ≡ false) where
+    pub writing-cut : (length ws % rowWidth ≡ 0 → ⊥) → writing st ws bytes area ≡ noBytes Unwritable
+    unfolding writing
+    writing-cut w = rw (i, o, ne-eqb (length ws % rowWidth) 0 w)
+
+    module _ (w : length ws % rowWidth ≡ 0) where
+      writing-planned : writing st ws bytes area ≡ roomFor area (plannedBytes (st .format) bytes (rowsIn ws) (plan (st .format) (st .channels) (rowsIn ws)))
+      unfolding writing encoded
+      writing-planned = rw (i, o, eq-eqb (length ws % rowWidth) 0 w)
+
+      pub writing-none : plan (st .format) (st .channels) (rowsIn ws) ≡ refused Unwritable → writing st ws bytes area ≡ noBytes Unwritable
+      writing-none e = writing-planned ∙ ap (λ (x : Contents). roomFor area (plannedBytes (st .format) bytes (rowsIn ws) x)) e
+
+      module _ (p : Plan) (d : Answered (st .format) (st .channels) (plan (st .format) (st .channels) (rowsIn ws)) p) where
+        bytes-of : plannedBytes (st .format) bytes (rowsIn ws) (plan (st .format) (st .channels) (rowsIn ws)) ≡ bytesOf (tableBytes (st .format) (d .table-groups) ++ frames bytes (rowsIn ws))
+        bytes-of = ap (plannedBytes (st .format) bytes (rowsIn ws)) (d .planned)
+
+        size-of : length (tableBytes (st .format) (d .table-groups) ++ frames bytes (rowsIn ws)) ≡ p .table + p .frames
+        size-of = length-bytes (st .format) (st .channels) ws bytes (d .table-groups) (in-range-some st i) o (d .planned) ∙ omega (arith, d .table, d .frames)
+
+        pub writing-short : area < p .table + p .frames → writing st ws bytes area ≡ noBytes AreaTooShort
+        writing-short l = writing-planned ∙ ap (roomFor area) bytes-of ∙ rw (size-of, lt-ltb area (p .table + p .frames) l)
+
+        pub writing-all : p .table + p .frames ≤ area → writing st ws bytes area ≡ plannedBytes (st .format) bytes (rowsIn ws) (plan (st .format) (st .channels) (rowsIn ws))
+        writing-all l =
+            let n : length (tableBytes (st .format) (d .table-groups) ++ frames bytes (rowsIn ws)) ≤ area = omega (arith, size-of) in
+            writing-planned ∙ ap (roomFor area) bytes-of ∙ rw (le-ltb area (length (tableBytes (st .format) (d .table-groups) ++ frames bytes (rowsIn ws))) n) (sym bytes-of)
+
+        pub numbers-all : p .table + p .frames ≤ area → writtenNumbers (Written.Bytes (p .table + p .frames)) ≡ encodedNumbers (writing st ws bytes area)
+        unfolding encodedNumbers
+        numbers-all l = sym (ap encodedNumbers (writing-all l ∙ bytes-of) ∙ rw size-of)
+
+        pub payload-room : st .channels < 256 → p .table + p .frames ≤ area → PayloadRoom (st .format) (st .channels) (p .table) (length bytes) ws area
+        payload-room c l = record {
+          some = in-range-some st i;
+          channels = c;
+          inside = o;
+          planned = subst (λ (x : Contents). WholePlan (st .format) (st .channels) (p .table) area x) (sym (d .planned)) (d .table, omega (arith, d .frames));
+        }
+
+-- Measuring
+
+pub measured-out : (st : Settings) (ws : List ℕ) → inRange st ≡ false → refusedNumbers SettingsOutOfRange ≡ measured st ws
+unfolding measured
+measured-out st ws h = rw h
+
+module _ (st : Settings) (ws : List ℕ) (i : inRange st ≡ true) where
+  pub measured-cut : (length ws % rowWidth ≡ 0 → ⊥) → refusedNumbers Unwritable ≡ measured st ws
+  unfolding measured
+  measured-cut w = rw (i, ne-eqb (length ws % rowWidth) 0 w)
+
+  module _ (w : length ws % rowWidth ≡ 0) where
+    pub measured-plan : measured st ws ≡ plannedNumbers (st .format) (st .channels) (plan (st .format) (st .channels) (rowsIn ws))
+    unfolding measured
+    measured-plan = rw (i, eq-eqb (length ws % rowWidth) 0 w)
+
+    pub measured-none : plan (st .format) (st .channels) (rowsIn ws) ≡ refused Unwritable → refusedNumbers Unwritable ≡ measured st ws
+    measured-none e = sym (measured-plan ∙ ap (plannedNumbers (st .format) (st .channels)) e)
+
+    pub measured-all : (p : Plan) → Answered (st .format) (st .channels) (plan (st .format) (st .channels) (rowsIn ws)) p → writtenNumbers (Written.Bytes (p .table + p .frames)) ≡ measured st ws
+    measured-all p d = sym (measured-plan ∙ ap (plannedNumbers (st .format) (st .channels)) (d .planned) ∙ rw (← (d .table), ← (d .frames)))
+
+-- what is measured is what is encoded, where the rows lie inside their bytes
+pub numbers-encoded : (st : Settings) (ws bytes : List ℕ) → 0 < st .channels → outside (length bytes) (rowsIn ws) ≡ false
+    → encodedNumbers (encoded st bytes (rowsIn ws)) ≡ plannedNumbers (st .format) (st .channels) (plan (st .format) (st .channels) (rowsIn ws))
+unfolding encoded encodedNumbers
+numbers-encoded st ws bytes l o = by-plan (plan (st .format) (st .channels) (rowsIn ws)) refl
+  where
+    by-plan : (x : Contents) → plan (st .format) (st .channels) (rowsIn ws) ≡ x → encodedNumbers (plannedBytes (st .format) bytes (rowsIn ws) x) ≡ plannedNumbers (st .format) (st .channels) x
+    by-plan (refused q) e = refl
+    by-plan (groups gs) e = rw (length-bytes (st .format) (st .channels) ws bytes gs l o e)
+
+-- and what is written, in an area that has room for any payload
+room-enough : (st : Settings) (ws bytes : List ℕ) (area : ℕ) → 0 < st .channels → outside (length bytes) (rowsIn ws) ≡ false → maxPayload ≤ area
+    → roomFor area (encoded st bytes (rowsIn ws)) ≡ encoded st bytes (rowsIn ws)
+unfolding encoded
+room-enough st ws bytes area l o a = by-plan (plan (st .format) (st .channels) (rowsIn ws)) refl
+  where
+    by-plan : (x : Contents) → plan (st .format) (st .channels) (rowsIn ws) ≡ x → roomFor area (plannedBytes (st .format) bytes (rowsIn ws) x) ≡ plannedBytes (st .format) bytes (rowsIn ws) x
+    by-plan (refused q) e = refl
+    by-plan (groups gs) e =
+        rw (le-ltb area (length (tableBytes (st .format) gs ++ frames bytes (rowsIn ws))) (omega (arith, length-bytes (st .format) (st .channels) ws bytes gs l o e, listed (st .format) (st .channels) ws gs e .fits)))
+
+pub measured-writing : (st : Settings) (ws bytes : List ℕ) (area : ℕ) → outside (length bytes) (rowsIn ws) ≡ false → maxPayload ≤ area → encodedNumbers (writing st ws bytes area) ≡ measured st ws
+unfolding writing measured encodedNumbers
+measured-writing st ws bytes area o a =
+    by-test (inRange st)
+    (λ i. by-test (whole ws)
+    (λ w. rw (i, o, w, room-enough st ws bytes area (in-range-some st i) o a) (numbers-encoded st ws bytes (in-range-some st i) o))
+    (λ w. rw (i, o, w)))
+    (λ i. rw i)

@@ -1,0 +1,107 @@
+use mathlib.Core.Path.{_≡_, ap, subst, sym, _∙_}
+use Prim.Native.Nat.{ℕ, _+_, _≤_}
+use lib.ListN.{length}
+use native.Mathlib.Omega.{arith}
+use denote.Ref.{now}
+use borrow.Author.Tests.{lt-ltb, le-ltb}
+use Rattle.rtp.specs.Sizes.{maxRows}
+use Rattle.rtp.specs.Redundancy.{before}
+use Rattle.encoder.specs.declared.lists.RowWords.{RowWords}
+use Rattle.encoder.specs.declared.plans.Planned.{Planned}
+use Rattle.encoder.specs.Lists.{rowsIn}
+use Rattle.encoder.specs.Plans.{maxPayload, planFrom, plan, stepBefore}
+use Rattle.encoder.specs.declared.plans.Plan.{Plan}
+use Rattle.encoder.specs.Room.{rowAs, wordsAt, planAnswer, Small}
+use Rattle.encoder.proofs.ListLaws.{length-rows}
+use Rattle.encoder.proofs.PlanLaws.{fittingPlan, list-none, list-many, list-answer, small-plan, small-weaker, plan-frames}
+use borrow.Author.Needs.{needs}
+use Rattle.encoder.proofs.plans.plan_list.Statement.{statement}
+use Rattle.encoder.proofs.plans.plan_list.Tie as tie
+use Rattle.encoder.proofs.plans.plan_list.Reads as reads
+use Rattle.encoder.proofs.plans.plan_list.Lts as lts
+use Rattle.encoder.proofs.lists.row_at.Reads as row-at-reads
+use Rattle.encoder.proofs.plans.plan_from.Reads as plan-from-reads
+use Rattle.payload.proofs.frames.step_of.Reads as step-of-reads
+use Rattle.rtp.proofs.redundancy.block_time.Reads as block-time-reads
+
+-- the plan of the rows, as it was made and as the list has it
+made-at : (c : tie.After-plan-from) → let a = c .before .before .before .before .before .before .before .args in
+    c .plan-from .result ≡ planAnswer (a .format) (a .channels) (planFrom (a .format) (a .channels) 0 (stepBefore (a .format) (rowAs (wordsAt (now (a .rows)) 0))) (rowsIn (now (a .rows))))
+made-at c =
+    let a = c .before .before .before .before .before .before .before .args in
+    c .plan-from .ensures
+    ∙ ap (λ (t : ℕ). planAnswer (a .format) (a .channels) (planFrom (a .format) (a .channels) 0 (rowAs (record { time = t; tag = c .before .before .before .row-at .result .tag; start = c .before .before .before .row-at .result .start; length = c .before .before .before .row-at .result .length })) (rowsIn (now (a .rows)))))
+    (c .before .block-time .ensures ∙ ap (before (c .before .before .before .row-at .result .time)) (c .before .before .step-of .ensures))
+    ∙ ap (λ (w : RowWords). planAnswer (a .format) (a .channels) (planFrom (a .format) (a .channels) 0 (stepBefore (a .format) (rowAs w)) (rowsIn (now (a .rows))))) (c .before .before .before .row-at .ensures)
+
+-- its numbers are small
+small-at : (c : tie.After-plan-from) (p : Plan) → c .plan-from .result ≡ Planned.Table p → p .table + p .frames ≤ 20000000
+small-at c p e =
+    let a = c .before .before .before .before .before .before .before .args in
+    let s = small-weaker (a .format) (a .channels) (length (rowsIn (now (a .rows)))) maxRows (Planned.Table p) (omega (arith, length-rows (now (a .rows)), c .before .before .before .before .if2 .left))
+    (subst (λ (x : Planned). Small (a .format) (a .channels) (length (rowsIn (now (a .rows)))) x) (sym (made-at c) ∙ e) (small-plan (a .format) (a .channels) 0 (stepBefore (a .format) (rowAs (wordsAt (now (a .rows)) 0))) (rowsIn (now (a .rows))))) in
+    omega (arith, s .tabled, plan-frames (a .format) (a .channels) p s (omega arith))
+
+answer-at : (c : tie.After-plan-from) → let a = c .before .before .before .before .before .before .before .args in planAnswer (a .format) (a .channels) (plan (a .format) (a .channels) (rowsIn (now (a .rows)))) ≡ fittingPlan (c .plan-from .result)
+answer-at c = let a = c .before .before .before .before .before .before .before .args in list-answer (a .format) (a .channels) (now (a .rows)) (c .before .before .before .before .before .if1 .left) (omega (arith, c .before .before .before .before .if2 .left)) (c .plan-from .result) (made-at c)
+
+returns : tie.Need-returns
+returns c = let a = c .before .before .args in sym (list-none (a .format) (a .channels) (now (a .rows)) (c .if1 .taken))
+
+returns-2 : tie.Need-returns-2
+returns-2 c = let a = c .before .before .before .args in sym (list-many (a .format) (a .channels) (now (a .rows)) (c .before .if1 .left) (c .if2 .taken))
+
+row-at-requires : tie.Need-row-at-requires
+row-at-requires c κs = search needs
+
+step-of-requires : tie.Need-step-of-requires
+step-of-requires c κs = search needs
+
+block-time-requires : tie.Need-block-time-requires
+block-time-requires c κs = search needs
+
+plan-from-requires : tie.Need-plan-from-requires
+plan-from-requires c κs = search needs
+
+enum-known-plan : tie.Need-enum-known-plan
+enum-known-plan c = search needs
+
+add-if3 : tie.Need-add-if3
+add-if3 c = omega (arith, small-at (c .before .before .before .before) (c .before .before .plan .given .0 .0) (c .before .before .plan .given .1))
+
+returns-3 : tie.Need-returns-3
+returns-3 c = sym (answer-at (c .before .before .before .before .before) ∙ ap fittingPlan (c .before .before .before .plan .given .1) ∙ rw (lt-ltb maxPayload (c .before .before .before .plan .given .0 .0 .table + c .before .before .before .plan .given .0 .0 .frames) (omega (arith, c .if3 .taken))))
+
+enum-told : tie.Need-enum-told
+enum-told c = search needs
+
+enum-told-2 : tie.Need-enum-told-2
+enum-told-2 c = search needs
+
+returns-4 : tie.Need-returns-4
+returns-4 c = sym (answer-at (c .before .before .before .before .before) ∙ ap fittingPlan (c .before .before .before .plan .given .1) ∙ rw (le-ltb maxPayload (c .before .before .before .plan .given .0 .0 .table + c .before .before .before .plan .given .0 .0 .frames) (omega (arith, c .if3 .left))))
+
+returns-5 : tie.Need-returns-5
+returns-5 c = sym (answer-at (c .before .before) ∙ ap fittingPlan (c .enum-told .given .1))
+
+returns-6 : tie.Need-returns-6
+returns-6 c = sym (answer-at (c .before .before) ∙ ap fittingPlan (c .enum-told2 .given .1))
+
+pub plan-list-spec : {M : Type 1} → statement M
+plan-list-spec =
+    tie.close
+    (tie.spec
+    returns
+    returns-2
+    row-at-requires
+    step-of-requires
+    block-time-requires
+    plan-from-requires
+    enum-known-plan
+    add-if3
+    returns-3
+    enum-told
+    enum-told-2
+    returns-4
+    returns-5
+    returns-6)

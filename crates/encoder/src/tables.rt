@@ -1,0 +1,153 @@
+// Tables of contents and frames, written from left to right.
+use crate::lists;
+use crate::lists::RowWords;
+use crate::plans;
+use payload::codes;
+use payload::contents;
+use payload::rows::ROW_WIDTH;
+use rtp::settings::G719_INTERLEAVED;
+use rtp::settings::GSM_HR;
+ghost use mathlib.Core.Path.{_≡_};
+ghost use Prim.Native.Nat.{_≤_, _<_};
+ghost use lib.ListN.{length};
+ghost use Rattle.rtp.specs.Areas.{over};
+ghost use Rattle.payload.specs.Frames.{stepOf};
+ghost use Rattle.encoder.specs.Lists.{rowsIn};
+ghost use Rattle.payload.specs.Codes.{noCode, codeFor};
+ghost use Rattle.encoder.specs.Plans.{planFrom};
+ghost use Rattle.encoder.specs.Bytes.{flag, halves, entryBytes, frames};
+ghost use Rattle.encoder.specs.Room.{rowAs, FramesRoom, joined, RunRoom, timed, blockGaps, runGroup, firstByte, GapRoom, EntryRoom, TableRoom, planBytes};
+
+// The bytes of src over the front of the area.
+fn copy_bytes(out: &mut [u8], src: &[u8])
+    requires { ⌜ length (now src) ≤ length (now out) ⌝ }
+    ensures { λ _. ⌜ now (out .exit) ≡ over (now (src .entry)) (now (out .entry)) ⌝ }
+{
+    let mut i = 0;
+    while i < src.len() {
+        out[i] = src[i];
+        i += 1;
+    }
+}
+
+// The frames of the rows, one after another.
+pub(crate) fn put_frames(rows: &[u32], bytes: &[u8], out: &mut [u8])
+    requires { ⌜ FramesRoom (length (now bytes)) (rowsIn (now rows)) (length (now out)) ⌝ }
+    ensures { λ _. ⌜ now (out .exit) ≡ over (frames (now (bytes .entry)) (rowsIn (now (rows .entry)))) (now (out .entry)) ⌝ }
+{
+    if rows.len() < ROW_WIDTH {
+        return;
+    }
+    let row = lists::row_at(rows, 0);
+    let start = lists::wide(row.start);
+    let length = lists::wide(row.length);
+    let end = start + length;
+    copy_bytes(out, &bytes[start..end]);
+    put_frames(&rows[ROW_WIDTH..], bytes, &mut out[length..]);
+}
+
+// The frame-blocks at the front that are in one run with the frame-block before them, which this row is of.
+fn joined_blocks(format: u8, channels: usize, row: RowWords, rows: &[u32]) -> usize
+    requires { ⌜ RunRoom format channels (rowAs row) (now rows) ⌝ }
+    ensures { λ r. ⌜ r ≡ joined format (rowAs row) (planFrom format channels 0 (rowAs row) (rowsIn (now (rows .entry)))) ⌝ }
+{
+    if rows.len() < ROW_WIDTH {
+        return 0;
+    }
+    let next = lists::row_at(rows, 0);
+    let gap = plans::gap_between(format, row.time, next.time);
+    if plans::joins_run(format, row, next.tag / 256, next.length, gap) {
+        let width = ROW_WIDTH * channels;
+        return joined_blocks(format, channels, next, &rows[width..]) + 1;
+    }
+    0
+}
+
+// The bit F: another entry follows.
+fn flag_of(more: bool) -> u32
+    ensures { λ r. ⌜ r ≡ flag more ⌝ }
+{
+    if more { 128 } else { 0 }
+}
+
+// An entry's first byte: F, the code of its frames, and reserved bits.
+fn first_byte(format: u8, more: bool, class: u32, length: u32) -> u8
+    requires { ⌜ codeFor format class length < noCode ⌝ }
+    ensures { λ r. ⌜ r ≡ firstByte format more class length ⌝ }
+{
+    let code = codes::code_for(format, class, length);
+    if format == GSM_HR {
+        return (flag_of(more) + 16 * code) as u8;
+    }
+    (flag_of(more) + 4 * code) as u8
+}
+
+// The gaps of so many frame-blocks in half bytes, high half first; the first of them comes after a frame-block at `previous`.
+fn put_gaps(format: u8, width: usize, blocks: usize, previous: u32, rows: &[u32], out: &mut [u8])
+    requires { ⌜ GapRoom format width blocks previous (now rows) (length (now out)) ⌝ }
+    ensures { λ _. ⌜ now (out .exit) ≡ over (halves (blockGaps (stepOf format) width blocks previous (now (rows .entry)))) (now (out .entry)) ⌝ }
+{
+    if blocks == 0 {
+        return;
+    }
+    let first = rows[0];
+    let high = 16 * plans::gap_between(format, previous, first);
+    if blocks == 1 {
+        out[0] = high as u8;
+        return;
+    }
+    let second = rows[width];
+    out[0] = (high + plans::gap_between(format, first, second)) as u8;
+    let two = 2 * width;
+    put_gaps(
+        format,
+        width,
+        blocks - 2,
+        second,
+        &rows[two..],
+        &mut out[1..],
+    );
+}
+
+// The entry of the run of so many frame-blocks at the front of the rows.
+fn put_entry(
+    format: u8,
+    width: usize,
+    blocks: usize,
+    more: bool,
+    previous: u32,
+    rows: &[u32],
+    out: &mut [u8],
+)
+    requires { ⌜ EntryRoom format width blocks previous (now rows) (length (now out)) ⌝ }
+    ensures { λ _. ⌜ now (out .exit) ≡ over (entryBytes format more (runGroup format width blocks previous (now (rows .entry)))) (now (out .entry)) ⌝ }
+{
+    let row = lists::row_at(rows, 0);
+    out[0] = first_byte(format, more, row.tag / 256, row.length);
+    if format == GSM_HR {
+        return;
+    }
+    out[1] = blocks as u8;
+    if format == G719_INTERLEAVED {
+        put_gaps(format, width, blocks, previous, rows, &mut out[2..]);
+    }
+}
+
+// The table of the rows, run by run, after a frame-block at `previous`.
+pub(crate) fn put_table(format: u8, channels: usize, previous: u32, rows: &[u32], out: &mut [u8])
+    requires { ⌜ TableRoom format channels previous (now rows) (length (now out)) ⌝ }
+    ensures { λ _. ⌜ now (out .exit) ≡ over (planBytes format (planFrom format channels 0 (timed previous) (rowsIn (now (rows .entry))))) (now (out .entry)) ⌝ }
+{
+    if rows.len() < ROW_WIDTH {
+        return;
+    }
+    let width = ROW_WIDTH * channels;
+    let first = lists::row_at(rows, 0);
+    let blocks = joined_blocks(format, channels, first, &rows[width..]) + 1;
+    let end = width * blocks;
+    let more = ROW_WIDTH <= rows.len() - end;
+    put_entry(format, width, blocks, more, previous, rows, out);
+    let size = contents::entry_size(format, blocks);
+    let last = rows[end - width];
+    put_table(format, channels, last, &rows[end..], &mut out[size..]);
+}
