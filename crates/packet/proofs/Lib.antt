@@ -3,3 +3,4 @@ pub mod BlockLaws
 pub mod SplitLaws
 pub mod ReadingLaws
 pub mod RowFactLaws
+pub mod CheckedTableProof

@@ -1,3 +1,4 @@
 pub mod Blocks
 pub mod Room
 pub mod Readings
+pub mod CheckedTable

@@ -1,0 +1,33 @@
+-- Document 01's checked table, lines 1 to 7, computed on the definitions.
+use mathlib.Core.Path.{refl}
+use Rattle.rtp.specs.Ranges.{maxChannels, inRange}
+use Rattle.rtp.specs.Header.{payloadStart, payloadEnd, fields, header}
+use Rattle.rtp.specs.Redundancy.{blockHeader, headersBy, headers, redundancyHeaders, headersSize, redundantSize}
+use Rattle.payload.specs.Frames.{g719Length, frameOf}
+use Rattle.payload.specs.Contents.{entryOf, gapAt, gapsFrom, meaning, contentsBy, contents, sizeIn, framesIn}
+use Rattle.payload.specs.Rows.{timeAfter, groupRows, tableRows}
+use Rattle.payload.specs.Rows.{blockRows as frameBlockRows}
+use Rattle.payload.specs.Payloads.{payload, placedRows, payloadRows}
+use Rattle.packet.specs.Blocks.{cut, blockRows, blocksRows, redundantRows}
+use Rattle.packet.specs.Readings.{typedRows, reading}
+use Rattle.packet.specs.CheckedTable.{CheckedTable}
+
+pub checked-table : CheckedTable
+unfolding maxChannels inRange payloadStart payloadEnd fields header blockHeader headersBy headers redundancyHeaders headersSize redundantSize g719Length frameOf entryOf gapAt gapsFrom meaning contentsBy contents sizeIn framesIn timeAfter groupRows tableRows frameBlockRows payload placedRows payloadRows cut blockRows blocksRows redundantRows typedRows reading
+checked-table = record {
+  frame-lengths = (refl, refl, refl, refl);
+  reserved-entries = (refl, refl);
+  reserved-packets = (refl, refl);
+  reserved-number = refl;
+  mixed-size = refl;
+  mixed-rows = refl;
+  stereo-size = refl;
+  stereo-rows = refl;
+  interleaved-rows = refl;
+  wrapped-rows = refl;
+  block-header = refl;
+  block-headers = refl;
+  redundant-time = refl;
+  redundant-rows = refl;
+  gsm-rows = refl;
+}

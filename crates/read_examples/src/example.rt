@@ -1,0 +1,159 @@
+// A packet made of given bytes and zeros, read and printed. It is laid into 2,049 bytes, one more than the longest packet has.
+use packet::reading;
+use packet::reading::Packet;
+use packet::reading::Reading;
+use rtp::refusal;
+use rtp::settings::Settings;
+ghost use Prim.Native.Nat.{_≤_};
+
+// The payload type and the redundancy type agreed, and a header's first byte with version 2 and no other bit.
+pub const PLAIN: u8 = 97;
+
+pub const REDUNDANT: u8 = 98;
+
+pub const VERSION_2: u8 = 0x80;
+
+pub fn agreed(format: u8, channels: u8) -> Settings {
+    Settings {
+        format,
+        channels,
+        payload_type: PLAIN,
+        redundancy_type: REDUNDANT,
+    }
+}
+
+fn least(a: usize, b: usize) -> usize
+    ensures { λ r. ⌜ r ≤ b ⌝ }
+{
+    if a < b { a } else { b }
+}
+
+// `text` laid at `at`, as far as the packet reaches.
+pub fn put(bytes: &mut [u8; 2049], at: usize, text: &[u8]) {
+    let mut i = 0;
+    while i < text.len() {
+        if at < 2049 {
+            if i < 2049 - at {
+                bytes[at + i] = text[i];
+            }
+        }
+        i += 1;
+    }
+}
+
+fn zeros() -> [u8; 2049] {
+    [0; 2049]
+}
+
+// A fixed header with sequence 65244 and source 2712847316, and zeros.
+pub fn start(first: u8, second: u8, time: u32) -> [u8; 2049] {
+    let mut bytes = zeros();
+    bytes[0] = first;
+    bytes[1] = second;
+    bytes[2] = 0xFE;
+    bytes[3] = 0xDC;
+    bytes[4] = (time / 16777216) as u8;
+    bytes[5] = (time / 65536 % 256) as u8;
+    bytes[6] = (time / 256 % 256) as u8;
+    bytes[7] = (time % 256) as u8;
+    bytes[8] = 0xA1;
+    bytes[9] = 0xB2;
+    bytes[10] = 0xC3;
+    bytes[11] = 0xD4;
+    bytes
+}
+
+fn print(text: &[u8], value: u32) {
+    io::write_all(1, text);
+    io::print_decimal(1, value as u64);
+}
+
+fn print_header(packet: Packet) {
+    print(b"count ", packet.rows);
+    print(b" marker ", packet.marker as u32);
+    print(b" sequence ", packet.sequence as u32);
+    print(b" timestamp ", packet.timestamp);
+    print(b" source ", packet.source);
+    io::write_all(1, b"\n");
+}
+
+fn print_row(rows: &[u32; 512], i: u32) {
+    if i < 128 {
+        let at = 4 * (i as usize);
+        let class_and_channel = rows[at + 1];
+        print(b"", rows[at]);
+        print(b" ", class_and_channel / 256);
+        print(b" ", class_and_channel % 256);
+        print(b" ", rows[at + 2]);
+        print(b" ", rows[at + 3]);
+        io::write_all(1, b"\n");
+    }
+}
+
+fn print_rows(rows: &[u32; 512], count: u32) {
+    let mut i = 0;
+    while i < count {
+        print_row(rows, i);
+        i += 1;
+    }
+}
+
+fn print_reading(answer: Reading, rows: &[u32; 512]) {
+    match answer {
+        Reading::Refused(why) => {
+            print(b"refusal ", refusal::refusal_number(why));
+            io::write_all(1, b"\n");
+        }
+        Reading::Read(packet) => {
+            print_header(packet);
+            print_rows(rows, packet.rows);
+        }
+    }
+}
+
+// The packet of the first `size` bytes, read into the first so many words of the area.
+fn read_part(
+    settings: Settings,
+    bytes: &[u8],
+    size: usize,
+    area: &mut [u32],
+    words: usize,
+) -> Reading {
+    let n = least(size, bytes.len());
+    let m = least(words, area.len());
+    reading::read(settings, &bytes[..n], &mut area[..m])
+}
+
+fn zero_rows() -> [u32; 512] {
+    [0; 512]
+}
+
+// The same with an area of zeros, and what it came to printed under a label.
+pub fn read_into(label: &[u8], settings: Settings, bytes: &[u8; 2049], size: usize, words: usize) {
+    io::write_all(1, label);
+    io::write_all(1, b"\n");
+    let mut rows = zero_rows();
+    let answer = read_part(settings, bytes, size, &mut rows, words);
+    print_reading(answer, &rows);
+}
+
+pub fn read(label: &[u8], settings: Settings, bytes: &[u8; 2049], size: usize) {
+    read_into(label, settings, bytes, size, 512);
+}
+
+// A packet of `size` bytes whose payload starts with `text`.
+pub fn payload(label: &[u8], settings: Settings, second: u8, time: u32, text: &[u8], size: usize) {
+    let mut bytes = start(VERSION_2, second, time);
+    put(&mut bytes, 12, text);
+    read(label, settings, &bytes, size);
+}
+
+// The same of the plain type, at time 0.
+pub fn plain(label: &[u8], settings: Settings, text: &[u8], size: usize) {
+    payload(label, settings, PLAIN, 0, text, size);
+}
+
+// The same of the redundancy type, at time 0.
+pub fn redundant(label: &[u8], settings: Settings, text: &[u8], size: usize) {
+    payload(label, settings, REDUNDANT, 0, text, size);
+}

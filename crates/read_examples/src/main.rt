@@ -1,0 +1,31 @@
+// Reads packets, whole and damaged, and prints for each what reading answers: the refusal's number; or row count, marker,
+// sequence, timestamp and source, and a line for each row with its time, class, channel, start and length.
+mod accepted;
+mod example;
+mod refused;
+mod tables;
+
+fn main() {
+    tables::payload_examples();
+    tables::frame_lengths();
+    tables::plain_packets();
+    tables::redundancy();
+    tables::gsm_hr();
+    accepted::headers();
+    accepted::other_blocks();
+    accepted::few_blocks();
+    accepted::ignored_bits();
+    accepted::times();
+    refused::lengths_and_version();
+    refused::headers();
+    refused::padding();
+    refused::types();
+    refused::truncated();
+    refused::truncated_headers();
+    refused::entries();
+    refused::rows();
+    refused::sizes();
+    refused::blocks();
+    refused::settings();
+    refused::areas();
+}
