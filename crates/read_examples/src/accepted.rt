@@ -5,7 +5,7 @@ use crate::example::REDUNDANT;
 use crate::example::VERSION_2;
 
 // Padding of three bytes; CSRC list, extension and padding; the longest packet.
-pub fn headers() {
+pub(crate) fn headers() {
     let mono = example::agreed(1, 1);
     let mut padded = example::start(0xA0, PLAIN, 0);
     example::put(&mut padded, 12, b"\x20\x01");
@@ -19,7 +19,7 @@ pub fn headers() {
 }
 
 // Blocks of another type, of length 0 and of the redundancy type, passed over between two that are read.
-pub fn other_blocks() {
+pub(crate) fn other_blocks() {
     let mono = example::agreed(1, 1);
     let mut bytes = example::start(VERSION_2, REDUNDANT, 9600);
     example::put(
@@ -37,7 +37,7 @@ pub fn other_blocks() {
 }
 
 // A last block of another type, an empty one, and one whose header is the whole payload.
-pub fn few_blocks() {
+pub(crate) fn few_blocks() {
     let mono = example::agreed(1, 1);
     example::redundant(
         b"last block of another type",
@@ -55,7 +55,7 @@ pub fn few_blocks() {
 }
 
 // Reserved bits, padding bits and each entry's first displacement set.
-pub fn ignored_bits() {
+pub(crate) fn ignored_bits() {
     let mono = example::agreed(1, 1);
     let interleaved = example::agreed(2, 1);
     let gsm_hr = example::agreed(3, 1);
@@ -70,7 +70,7 @@ pub fn ignored_bits() {
 }
 
 // Frame-blocks with no data before others; a displacement of 15 over the wrap of the timestamp.
-pub fn times() {
+pub(crate) fn times() {
     let stereo = example::agreed(1, 2);
     let interleaved = example::agreed(2, 2);
     example::plain(b"no data, stereo", stereo, b"\x80\x02\x20\x01", 176);

@@ -7,13 +7,13 @@ use rtp::settings::Settings;
 ghost use Prim.Native.Nat.{_≤_};
 
 // The payload type and the redundancy type agreed, and a header's first byte with version 2 and no other bit.
-pub const PLAIN: u8 = 97;
+pub(crate) const PLAIN: u8 = 97;
 
-pub const REDUNDANT: u8 = 98;
+pub(crate) const REDUNDANT: u8 = 98;
 
-pub const VERSION_2: u8 = 0x80;
+pub(crate) const VERSION_2: u8 = 0x80;
 
-pub fn agreed(format: u8, channels: u8) -> Settings {
+pub(crate) fn agreed(format: u8, channels: u8) -> Settings {
     Settings {
         format,
         channels,
@@ -29,7 +29,7 @@ fn least(a: usize, b: usize) -> usize
 }
 
 // `text` laid at `at`, as far as the packet reaches.
-pub fn put(bytes: &mut [u8; 2049], at: usize, text: &[u8]) {
+pub(crate) fn put(bytes: &mut [u8; 2049], at: usize, text: &[u8]) {
     let mut i = 0;
     while i < text.len() {
         if at < 2049 {
@@ -46,7 +46,7 @@ fn zeros() -> [u8; 2049] {
 }
 
 // A fixed header with sequence 65244 and source 2712847316, and zeros.
-pub fn start(first: u8, second: u8, time: u32) -> [u8; 2049] {
+pub(crate) fn start(first: u8, second: u8, time: u32) -> [u8; 2049] {
     let mut bytes = zeros();
     bytes[0] = first;
     bytes[1] = second;
@@ -129,7 +129,13 @@ fn zero_rows() -> [u32; 512] {
 }
 
 // The same with an area of zeros, and what it came to printed under a label.
-pub fn read_into(label: &[u8], settings: Settings, bytes: &[u8; 2049], size: usize, words: usize) {
+pub(crate) fn read_into(
+    label: &[u8],
+    settings: Settings,
+    bytes: &[u8; 2049],
+    size: usize,
+    words: usize,
+) {
     io::write_all(1, label);
     io::write_all(1, b"\n");
     let mut rows = zero_rows();
@@ -137,23 +143,30 @@ pub fn read_into(label: &[u8], settings: Settings, bytes: &[u8; 2049], size: usi
     print_reading(answer, &rows);
 }
 
-pub fn read(label: &[u8], settings: Settings, bytes: &[u8; 2049], size: usize) {
+pub(crate) fn read(label: &[u8], settings: Settings, bytes: &[u8; 2049], size: usize) {
     read_into(label, settings, bytes, size, 512);
 }
 
 // A packet of `size` bytes whose payload starts with `text`.
-pub fn payload(label: &[u8], settings: Settings, second: u8, time: u32, text: &[u8], size: usize) {
+pub(crate) fn payload(
+    label: &[u8],
+    settings: Settings,
+    second: u8,
+    time: u32,
+    text: &[u8],
+    size: usize,
+) {
     let mut bytes = start(VERSION_2, second, time);
     put(&mut bytes, 12, text);
     read(label, settings, &bytes, size);
 }
 
 // The same of the plain type, at time 0.
-pub fn plain(label: &[u8], settings: Settings, text: &[u8], size: usize) {
+pub(crate) fn plain(label: &[u8], settings: Settings, text: &[u8], size: usize) {
     payload(label, settings, PLAIN, 0, text, size);
 }
 
 // The same of the redundancy type, at time 0.
-pub fn redundant(label: &[u8], settings: Settings, text: &[u8], size: usize) {
+pub(crate) fn redundant(label: &[u8], settings: Settings, text: &[u8], size: usize) {
     payload(label, settings, REDUNDANT, 0, text, size);
 }

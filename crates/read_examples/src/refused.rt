@@ -5,7 +5,7 @@ use crate::example::VERSION_2;
 use rtp::settings::Settings;
 
 // 1 and 2.
-pub fn lengths_and_version() {
+pub(crate) fn lengths_and_version() {
     let mono = example::agreed(1, 1);
     example::plain(b"1: 11 bytes", mono, b"", 11);
     example::plain(b"1: 2049 bytes", mono, b"\x20\x01", 2049);
@@ -18,7 +18,7 @@ pub fn lengths_and_version() {
 }
 
 // 3: the CSRC list, the extension's header and its words past the end.
-pub fn headers() {
+pub(crate) fn headers() {
     let mono = example::agreed(1, 1);
     let csrc = example::start(0x8F, PLAIN, 0);
     example::read(b"3: CSRC list", mono, &csrc, 71);
@@ -29,7 +29,7 @@ pub fn headers() {
 }
 
 // 4; and padding that leaves no payload, which is 6.
-pub fn padding() {
+pub(crate) fn padding() {
     let mono = example::agreed(1, 1);
     let mut bytes = example::start(0xA0, PLAIN, 0);
     example::put(&mut bytes, 12, b"\x20\x01");
@@ -41,7 +41,7 @@ pub fn padding() {
 }
 
 // 5: neither type, and the redundancy type where none is agreed.
-pub fn types() {
+pub(crate) fn types() {
     let mono = example::agreed(1, 1);
     let alone = Settings {
         format: 1,
@@ -54,7 +54,7 @@ pub fn types() {
 }
 
 // 6: a table entry past the end.
-pub fn truncated() {
+pub(crate) fn truncated() {
     let mono = example::agreed(1, 1);
     let interleaved = example::agreed(2, 1);
     example::plain(b"6: empty payload", mono, b"", 12);
@@ -64,7 +64,7 @@ pub fn truncated() {
 }
 
 // 6: a block header past the end.
-pub fn truncated_headers() {
+pub(crate) fn truncated_headers() {
     let mono = example::agreed(1, 1);
     example::redundant(b"6: empty redundancy payload", mono, b"", 12);
     example::redundant(b"6: part of a block header", mono, b"\xE1\x0F\x00", 15);
@@ -72,7 +72,7 @@ pub fn truncated_headers() {
 }
 
 // 7 and 8: the code is asked before the number of frame-blocks.
-pub fn entries() {
+pub(crate) fn entries() {
     let mono = example::agreed(1, 1);
     let gsm_hr = example::agreed(3, 1);
     example::plain(b"7: reserved type, GSM-HR", gsm_hr, b"\x10", 27);
@@ -86,7 +86,7 @@ pub fn entries() {
 }
 
 // 9: in one entry, in two, over two channels, and over two blocks.
-pub fn rows() {
+pub(crate) fn rows() {
     let mono = example::agreed(1, 1);
     let stereo = example::agreed(1, 2);
     example::plain(b"9: one entry", mono, b"\x00\x81", 14);
@@ -101,7 +101,7 @@ pub fn rows() {
 }
 
 // 10.
-pub fn sizes() {
+pub(crate) fn sizes() {
     let mono = example::agreed(1, 1);
     example::plain(b"10: a byte too few", mono, b"\x20\x01", 93);
     example::plain(b"10: a byte left over", mono, b"\x20\x01", 95);
@@ -114,7 +114,7 @@ pub fn sizes() {
 }
 
 // The blocks are read in order: the first refusal is the answer.
-pub fn blocks() {
+pub(crate) fn blocks() {
     let mono = example::agreed(1, 1);
     example::redundant(
         b"8: first block, then 7",
@@ -135,7 +135,7 @@ fn types_of(label: &[u8], payload_type: u8, redundancy_type: u8) {
 }
 
 // 11.
-pub fn settings() {
+pub(crate) fn settings() {
     example::plain(b"11: format 0", example::agreed(0, 1), b"\x20\x01", 94);
     example::plain(b"11: format 4", example::agreed(4, 1), b"\x20\x01", 94);
     example::plain(b"11: no channels", example::agreed(1, 0), b"\x20\x01", 94);
@@ -152,7 +152,7 @@ pub fn settings() {
 }
 
 // 12: asked before the packet, and after the settings.
-pub fn areas() {
+pub(crate) fn areas() {
     let mut bytes = example::start(VERSION_2, PLAIN, 0);
     example::put(&mut bytes, 12, b"\x20\x01");
     example::read_into(b"12: 511 words", example::agreed(1, 1), &bytes, 94, 511);

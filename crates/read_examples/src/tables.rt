@@ -5,7 +5,7 @@ use crate::example::REDUNDANT;
 use crate::example::VERSION_2;
 
 // The three payloads of document 001, section 6; the first with M set, the third at frame-block 13.
-pub fn payload_examples() {
+pub(crate) fn payload_examples() {
     let mono = example::agreed(1, 1);
     let stereo = example::agreed(1, 2);
     let interleaved = example::agreed(2, 1);
@@ -22,7 +22,7 @@ pub fn payload_examples() {
 }
 
 // Line 1: L = 8, 22, 23 and 27 in one packet; L = 7 and L = 28.
-pub fn frame_lengths() {
+pub(crate) fn frame_lengths() {
     let mono = example::agreed(1, 1);
     example::plain(b"line 1", mono, b"\xA0\x01\xD8\x01\xDC\x01\x6C\x01", 880);
     example::plain(b"line 1, L = 7", mono, b"\x1C\x01", 14);
@@ -30,7 +30,7 @@ pub fn frame_lengths() {
 }
 
 // Lines 2 to 5.
-pub fn plain_packets() {
+pub(crate) fn plain_packets() {
     let mono = example::agreed(1, 1);
     let stereo = example::agreed(1, 2);
     let interleaved = example::agreed(2, 1);
@@ -41,7 +41,7 @@ pub fn plain_packets() {
 }
 
 // Line 6: blocks of 82 bytes, at 17 and at 99.
-pub fn redundancy() {
+pub(crate) fn redundancy() {
     let mut bytes = example::start(VERSION_2, REDUNDANT, 0);
     example::put(&mut bytes, 12, b"\xE1\x0F\x00\x52\x61\x20\x01");
     example::put(&mut bytes, 99, b"\x20\x01");
@@ -49,6 +49,6 @@ pub fn redundancy() {
 }
 
 // Line 7.
-pub fn gsm_hr() {
+pub(crate) fn gsm_hr() {
     example::plain(b"line 7", example::agreed(3, 1), b"\x80\xF0\x00", 43);
 }

@@ -1,0 +1,73 @@
+-- Laws of the calls, one for each way that a call goes.
+use mathlib.Core.Path.{_≡_, refl, sym}
+use mathlib.Core.List.{List, [], _∷_}
+use mathlib.Core.Bool.{true, false}
+use Prim.Native.Nat.{ℕ, _≤_, _<_}
+use lib.ListN.{length}
+use borrow.Author.Tests.{lt-ltb, le-ltb}
+use Rattle.rtp.specs.Sizes.{rowArea}
+use Rattle.rtp.specs.Ranges.{inRange}
+use Rattle.rtp.specs.Refusals.{number}
+use Rattle.rtp.specs.declared.settings.Settings.{Settings}
+use Rattle.rtp.specs.declared.refusal.Refusal.the-variants.{SettingsOutOfRange, MalformedBuffer, AreaTooShort}
+use Rattle.packet.specs.Readings.{reading}
+use Rattle.playout.specs.Sizes.{slotSize, storeSize}
+use Rattle.reorder.specs.declared.buffer.Buffer.{Buffer}
+use Rattle.reorder.specs.Layout.{decode, fresh}
+use Rattle.reorder.specs.WellFormed.{wellFormed}
+use Rattle.reorder.specs.Calls.{NewOutcome, noSettings, newCall, offerCall, offerRefused, offerRead, drawCall, drawRefused, drawFirst}
+
+pub new-in : (st : Settings) → inRange st ≡ true → newCall st ≡ record { refusal = 0; buffer = fresh st }
+unfolding newCall
+new-in st h = rw h
+
+pub new-out : (st : Settings) → inRange st ≡ false → newCall st ≡ record { refusal = number SettingsOutOfRange; buffer = fresh noSettings }
+unfolding newCall
+new-out st h = rw h
+
+module _ (b : Buffer) (packet rows store : List ℕ) where
+  pub offer-out : inRange (b .settings) ≡ false → offerCall b packet rows store ≡ offerRefused SettingsOutOfRange b rows store
+  unfolding offerCall
+  offer-out h = rw h
+
+  module _ (h : inRange (b .settings) ≡ true) where
+    pub offer-malformed : wellFormed b ≡ false → offerCall b packet rows store ≡ offerRefused MalformedBuffer b rows store
+    unfolding offerCall
+    offer-malformed w = rw (h, w)
+
+    module _ (w : wellFormed b ≡ true) where
+      pub offer-rows : length rows < rowArea → offerCall b packet rows store ≡ offerRefused AreaTooShort b rows store
+      unfolding offerCall
+      offer-rows a = rw (h, w, lt-ltb (length rows) rowArea a)
+
+      pub offer-store : rowArea ≤ length rows → length store < storeSize → offerCall b packet rows store ≡ offerRefused AreaTooShort b rows store
+      unfolding offerCall
+      offer-store a s = rw (h, w, le-ltb (length rows) rowArea a, lt-ltb (length store) storeSize s)
+
+      pub offer-reads : rowArea ≤ length rows → storeSize ≤ length store
+          → offerCall b packet rows store ≡ offerRead b packet rows store (reading (b .settings) (length rows) packet)
+      unfolding offerCall
+      offer-reads a s = rw (h, w, le-ltb (length rows) rowArea a, le-ltb (length store) storeSize s)
+
+module _ (b : Buffer) (store area : List ℕ) where
+  pub draw-out : inRange (b .settings) ≡ false → drawCall b store area ≡ drawRefused SettingsOutOfRange b area
+  unfolding drawCall
+  draw-out h = rw h
+
+  module _ (h : inRange (b .settings) ≡ true) where
+    pub draw-malformed : wellFormed b ≡ false → drawCall b store area ≡ drawRefused MalformedBuffer b area
+    unfolding drawCall
+    draw-malformed w = rw (h, w)
+
+    module _ (w : wellFormed b ≡ true) where
+      pub draw-store : length store < storeSize → drawCall b store area ≡ drawRefused AreaTooShort b area
+      unfolding drawCall
+      draw-store s = rw (h, w, lt-ltb (length store) storeSize s)
+
+      pub draw-area : storeSize ≤ length store → length area < slotSize → drawCall b store area ≡ drawRefused AreaTooShort b area
+      unfolding drawCall
+      draw-area s a = rw (h, w, le-ltb (length store) storeSize s, lt-ltb (length area) slotSize a)
+
+      pub draw-goes : storeSize ≤ length store → slotSize ≤ length area → drawCall b store area ≡ drawFirst b store area (decode b .entries)
+      unfolding drawCall
+      draw-goes s a = rw (h, w, le-ltb (length store) storeSize s, le-ltb (length area) slotSize a)

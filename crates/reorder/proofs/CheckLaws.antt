@@ -1,0 +1,141 @@
+-- The tests of a well-formed buffer, as the code asks them in turn.
+use Prim.Native.Nat.{ℕ, zero, suc, _+_, _-_, _/_, _%_, _≤_, _<_, Ordering, Ordering·lt, Ordering·eq, Ordering·gt}
+use mathlib.Core.Path.{_≡_, refl, sym, ap, _∙_}
+use mathlib.Core.List.{List}
+use mathlib.Core.Bool.{Bool, true, false, cond, not}
+use mathlib.Core.Option.{Option, none, some}
+use native.Mathlib.Numerals.{add-one}
+use native.Mathlib.Omega.{arith}
+use borrow.Author.Tests.{ltb-true, eqb-true, not-true, not-false}
+use lib.Dec.{ltb, eqb}
+use lib.ListN.{getD}
+use Rattle.playout.specs.Sizes.{slots}
+use Rattle.playout.specs.Pairs.{half, ahead, order, isAfter, sideOf}
+use Rattle.playout.specs.declared.order.Side.{Side}
+use Rattle.playout.specs.Entries.{Entry}
+use Rattle.reorder.specs.declared.buffer.Buffer.{Buffer}
+use Rattle.reorder.specs.declared.buffer.Fixed.{Fixed}
+use Rattle.reorder.specs.Bits.{heldIn, markOf, marked, isFree, sameWords}
+use Rattle.reorder.specs.Layout.{entryAt, entriesFrom, assembled}
+use Rattle.reorder.specs.WellFormed.{allowed, ascends, entryFine, fineFrom, wellFormed}
+use Rattle.reorder.specs.Checks.{sinceLastOf, partsFine, ascendsAt, lastFineOf, restZero, entriesFine}
+use Rattle.rtp.proofs.TestLaws.{not-both}
+
+-- two tests in turn
+pub both : (a b : Bool) → cond a b false ≡ true → (a ≡ true) × (b ≡ true)
+both true b h = (refl, h)
+both false b h = not-both false h refl
+
+pub and-then : (a b : Bool) → a ≡ true → b ≡ true → cond a b false ≡ true
+and-then a b p q = ap (λ (x : Bool). cond x b false) p ∙ q
+
+-- a callee's answer, tested by `if !`
+pub passed : {r t : Bool} → r ≡ t → not r ≡ false → t ≡ true
+passed {r = r} e h = sym e ∙ not-false r h
+
+pub failed : {r t : Bool} → r ≡ t → not r ≡ true → t ≡ false
+failed {r = r} e h = sym e ∙ not-true r h
+
+-- a slot that is free
+pub free-parts : (ws : List ℕ) (s : ℕ) → isFree ws s ≡ true → (s < slots) × (markOf ws s ≡ 0)
+free-parts ws s h = let a = both (ltb s slots) (eqb (markOf ws s) 0) h in (ltb-true s slots (a .0), eqb-true (markOf ws s) 0 (a .1))
+
+-- a test that is known
+when : {b : Bool} (x y : Bool) → b ≡ true → cond b x y ≡ x
+when x y e = ap (λ (b : Bool). cond b x y) e
+
+otherwise : {b : Bool} (x y : Bool) → b ≡ false → cond b x y ≡ y
+otherwise x y e = ap (λ (b : Bool). cond b x y) e
+
+-- the entry before a place, if any
+abbrev pub beforeAt : Buffer → ℕ → Option Entry
+beforeAt b zero = none
+beforeAt b (suc i) = some (entryAt b i)
+
+module _ (ts gs ls ss ws : List ℕ) (f : Fixed) where
+  abbrev whole : Buffer
+  whole = assembled ts gs ls ss ws f
+
+  -- the entries from the i-th on are fine, where the slots before are `seen`
+  abbrev pub restFine : ℕ → ℕ → List ℕ → Bool
+  restFine n i seen = fineFrom whole (getD ts 0 0) (beforeAt whole i) seen (entriesFrom whole (n - i) i)
+
+  ascends-at : (i : ℕ) → ascends (beforeAt whole i) (entryAt whole i) ≡ ascendsAt ts gs i
+  ascends-at zero = refl
+  ascends-at (suc i) = refl
+
+  abbrev parts : ℕ → Bool
+  parts i = partsFine f (getD ts 0 0) (getD ts i 0) (getD gs i 0) (getD ls i 0)
+
+  entry-fine : (i : ℕ) (r : Bool) → cond (entryFine whole (getD ts 0 0) (beforeAt whole i) (entryAt whole i)) r false ≡ cond (parts i) (cond (ascendsAt ts gs i) r false) false
+  entry-fine i r =
+      go (allowed (f .settings .format) (getD gs i 0 / 256) (getD ls i 0)) (ltb (getD gs i 0 % 256) (f .settings .channels))
+      (sinceLastOf f (getD ts i 0) (getD gs i 0 % 256)) (ltb (ahead (getD ts i 0) (getD ts 0 0)) half) (ascends-at i)
+    where
+      go : {u v : Bool} (a b c d : Bool) → u ≡ v
+          → cond (cond a (cond b (cond c (cond d u false) false) false) false) r false ≡ cond (cond a (cond b (cond c d false) false) false) (cond v r false) false
+      go true true true true e = ap (λ (u : Bool). cond u r false) e
+      go true true true false e = refl
+      go true true false d e = refl
+      go true false c d e = refl
+      go false b c d e = refl
+
+  module _ (n i : ℕ) (seen : List ℕ) where
+    pub fine-end : n ≤ i → restFine n i seen ≡ sameWords seen ws
+    unfolding fineFrom entriesFrom
+    fine-end h = rw (let e : n - i ≡ 0 = omega arith in e)
+
+    module _ (l : i < n) where
+      fine-step : restFine n i seen
+          ≡ cond (parts i) (cond (ascendsAt ts gs i) (cond (isFree seen (getD ss i 0)) (restFine n (i + 1) (marked seen (getD ss i 0))) false) false) false
+      unfolding fineFrom entriesFrom
+      fine-step =
+          let e : n - i ≡ suc (n - suc i) = omega arith in
+          rw (e, add-one i) (entry-fine i (cond (isFree seen (getD ss i 0)) (restFine n (suc i) (marked seen (getD ss i 0))) false))
+
+      pub fine-parts : parts i ≡ false → restFine n i seen ≡ false
+      fine-parts p = fine-step ∙ otherwise _ _ p
+
+      module _ (p : parts i ≡ true) where
+        pub fine-up : ascendsAt ts gs i ≡ false → restFine n i seen ≡ false
+        fine-up q = fine-step ∙ when _ _ p ∙ otherwise _ _ q
+
+        module _ (q : ascendsAt ts gs i ≡ true) where
+          pub fine-taken : isFree seen (getD ss i 0) ≡ false → restFine n i seen ≡ false
+          fine-taken r = fine-step ∙ when _ _ p ∙ when _ _ q ∙ otherwise _ _ r
+
+          pub fine-more : isFree seen (getD ss i 0) ≡ true → restFine n i seen ≡ restFine n (i + 1) (marked seen (getD ss i 0))
+          fine-more r = fine-step ∙ when _ _ p ∙ when _ _ q ∙ when _ _ r
+
+  -- the three tests of a buffer
+  module _ (n : ℕ) (held : n ≡ heldIn ws) where
+    well-formed-is : wellFormed whole ≡ cond (lastFineOf f) (cond (restZero ts gs ls ss n) (entriesFine ts gs ls ss ws f n) false) false
+    unfolding wellFormed
+    well-formed-is = ap (λ (m : ℕ). cond (lastFineOf f) (cond (restZero ts gs ls ss m) (entriesFine ts gs ls ss ws f m) false) false) (sym held)
+
+    pub rest-not : lastFineOf f ≡ true → restZero ts gs ls ss n ≡ false → wellFormed whole ≡ false
+    rest-not p q = well-formed-is ∙ when _ _ p ∙ otherwise _ _ q
+
+    pub formed-entries : lastFineOf f ≡ true → restZero ts gs ls ss n ≡ true → wellFormed whole ≡ entriesFine ts gs ls ss ws f n
+    formed-entries p q = well-formed-is ∙ when _ _ p ∙ when _ _ q
+
+  pub last-not : lastFineOf f ≡ false → wellFormed whole ≡ false
+  unfolding wellFormed
+  last-not p = otherwise _ _ p
+
+-- the side on which a pair lies, as the code matches it
+abbrev pub isAfterSide : Side → Bool
+isAfterSide Side.Before = false
+isAfterSide Side.Same = false
+isAfterSide Side.After = true
+
+pub after-is : (s : Side) (o : Ordering) → s ≡ sideOf o → isAfterSide s ≡ isAfter o
+after-is s Ordering·lt e = ap isAfterSide e
+after-is s Ordering·eq e = ap isAfterSide e
+after-is s Ordering·gt e = ap isAfterSide e
+
+-- `ascendsAt` of a place with one before it
+pub ascends-later : (ts gs : List ℕ) (i : ℕ) → (i ≡ 0 → ⊥)
+    → isAfter (order (getD ts i 0) (getD gs i 0 % 256) (getD ts (i - 1) 0) (getD gs (i - 1) 0 % 256)) ≡ ascendsAt ts gs i
+ascends-later ts gs zero h = absurd (h refl)
+ascends-later ts gs (suc i) h = rw (let e : suc i - 1 ≡ i = omega arith in e)

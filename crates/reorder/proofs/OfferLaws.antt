@@ -1,0 +1,121 @@
+-- Laws of an offer whose packet was read, or not.
+use mathlib.Core.Path.{_≡_, refl, ap, ap₂, sym, _∙_, subst}
+use mathlib.Core.List.{List, [], _∷_}
+use mathlib.Core.Bool.{true}
+use Prim.Native.Nat.{ℕ, zero, suc, _*_, _≤_, _<_}
+use native.Mathlib.Omega.{arith}
+use lib.ListN.{length, take, drop}
+use lib.Seq.{take-append-seam}
+use Rattle.rtp.specs.Sizes.{rowWidth, rowArea, maxRows}
+use Rattle.rtp.specs.Ranges.{inRange}
+use Rattle.rtp.specs.Refusals.{number}
+use Rattle.rtp.specs.Areas.{over}
+use Rattle.rtp.specs.declared.refusal.Refusal.{Refusal}
+use Rattle.rtp.specs.declared.header.Header.{Header}
+use Rattle.rtp.proofs.RefusalLaws.{number-positive}
+use Rattle.payload.specs.Rows.{Row, words, rowsIn}
+use Rattle.payload.proofs.RowLaws.{length-words, channelAt, rows-words}
+use Rattle.payload.proofs.RowFactLaws.{RowFine, AllRows}
+use Rattle.packet.specs.declared.reading.Packet.{Packet}
+use Rattle.packet.specs.declared.reading.Reading.{Reading}
+use Rattle.packet.specs.Readings.{Outcome, refused, readAs, reading, Numbers, refusedNumbers, readingNumbers, outcomeNumbers, outcomeWords}
+use Rattle.packet.proofs.RowFactLaws.{rows-fine}
+use Rattle.playout.specs.Sizes.{storeSize}
+use Rattle.playout.specs.Verdicts.{noCounts, Gathered, judgeAll}
+use Rattle.reorder.specs.declared.buffer.Buffer.{Buffer}
+use Rattle.reorder.specs.declared.calls.Tally.{Tally}
+use Rattle.reorder.specs.Layout.{encode, decode}
+use Rattle.reorder.specs.WellFormed.{wellFormed}
+use Rattle.reorder.specs.Rows.{copiesOf}
+use Rattle.reorder.specs.Claims.{Machine}
+use Rattle.reorder.specs.Judging.{countsOf, RowsJudgeable, RowsJudged}
+use Rattle.reorder.specs.Calls.{countNumbers, offerRefused, offerRead, offerCall}
+use Rattle.reorder.proofs.CallLaws.{offer-reads}
+use Rattle.reorder.proofs.BridgeLaws.{few-channels}
+use Rattle.reorder.proofs.CopyLaws.{rows-allowed}
+
+-- an outcome whose numbers are those of a refusal is that refusal
+pub refused-words : (o : Outcome) (r : Refusal) → refusedNumbers r ≡ outcomeNumbers o → outcomeWords o ≡ []
+unfolding outcomeNumbers outcomeWords
+refused-words (refused q) r e = refl
+refused-words (readAs h rs) r e = let z : number r ≡ 0 = ap (λ (n : Numbers). n .refusal) e in absurd (omega (arith, number-positive r))
+
+pub refused-offer : (b : Buffer) (packet rows store : List ℕ) (o : Outcome) (r : Refusal) → refusedNumbers r ≡ outcomeNumbers o
+    → offerRefused r b rows store ≡ offerRead b packet rows store o
+unfolding outcomeNumbers
+refused-offer b packet rows store (refused q) r e =
+    ap (λ (n : ℕ). record { answer = countNumbers n noCounts; buffer = b; rows = rows; store = store }) (ap (λ (n : Numbers). n .refusal) e)
+refused-offer b packet rows store (readAs h rs) r e = let z : number r ≡ 0 = ap (λ (n : Numbers). n .refusal) e in absurd (omega (arith, number-positive r))
+
+-- an outcome whose numbers are those of rows is rows
+pub record IsRead (o : Outcome) (n : ℕ) : Type 0 where
+  pub head : Header
+  pub rows : List Row
+  pub same : o ≡ readAs head rows
+  pub count : n ≡ length rows
+
+pub is-read : (o : Outcome) (p : Packet) → readingNumbers (Reading.Read p) ≡ outcomeNumbers o → IsRead o (p .rows)
+unfolding outcomeNumbers
+is-read (refused q) p e = let z : 0 ≡ number q = ap (λ (n : Numbers). n .refusal) e in absurd (omega (arith, number-positive q))
+is-read (readAs h rs) p e = record { head = h; rows = rs; same = refl; count = ap (λ (n : Numbers). n .rows) e }
+
+channels-few : (format ch n : ℕ) (rs : List Row) → ch ≤ 2 → AllRows (RowFine format ch n) rs → (i : ℕ) → i < length rs → channelAt rs i < 256
+channels-few format ch n [] few f i l = absurd (omega arith)
+channels-few format ch n (r ∷ rs) few f zero l = omega (arith, f .0 .channel)
+channels-few format ch n (r ∷ rs) few f (suc i) l = channels-few format ch n rs few (f .1) i (omega arith)
+
+-- no verdict yet
+abbrev none : Tally
+none = record { late = 0; far = 0; repeated = 0; better = 0; «no_room» = 0; inserted = 0 }
+
+module _ (b : Buffer) (packet rows store : List ℕ) (h : inRange (b .settings) ≡ true) (w : wellFormed b ≡ true) (area : rowArea ≤ length rows) (room : storeSize ≤ length store)
+    (p : Packet) (e : readingNumbers (Reading.Read p) ≡ outcomeNumbers (reading (b .settings) (length rows) packet))
+    (rows' : List ℕ) (q : rows' ≡ over (outcomeWords (reading (b .settings) (length rows) packet)) rows) where
+  abbrev is : IsRead (reading (b .settings) (length rows) packet) (p .rows)
+  is = is-read (reading (b .settings) (length rows) packet) p e
+
+  abbrev rs : List Row
+  rs = is .rows
+
+  fine : AllRows (RowFine (b .settings .format) (b .settings .channels) (length packet)) rs × (length rs ≤ maxRows)
+  fine = rows-fine (b .settings) (length rows) packet (is .head) rs (is .same)
+
+  pub words-fit : rowWidth * p .rows ≤ length rows
+  words-fit = omega (arith, fine .1, is .count)
+
+  rows-are : rows' ≡ over (words rs) rows
+  unfolding outcomeWords
+  rows-are = q ∙ ap (λ (o : Outcome). over (outcomeWords o) rows) (is .same)
+
+  pub rows-back : rowsIn (take (rowWidth * p .rows) rows') ≡ rs
+  unfolding over
+  rows-back =
+      let n : rowWidth * p .rows ≡ length (words rs) = omega (arith, is .count, length-words rs) in
+      ap₂ (λ (k : ℕ) (x : List ℕ). rowsIn (take k x)) n rows-are
+      ∙ ap rowsIn (take-append-seam (words rs) (drop (length (words rs)) rows))
+      ∙ rows-words rs (channels-few (b .settings .format) (b .settings .channels) (length packet) rs (few-channels (b .settings) h) (fine .0))
+
+  module _ (t : Tally) (zeros : t ≡ none) where
+    pub offer-asks : Machine b → RowsJudgeable b packet (rowsIn (take (rowWidth * p .rows) rows')) t store
+    offer-asks m =
+        subst (λ (l : List Row). RowsJudgeable b packet l t store) (sym rows-back)
+        (subst (λ (u : Tally). RowsJudgeable b packet rs u store) (sym zeros) (record {
+          machine = m;
+          settings = h;
+          fine = w;
+          rows = rows-allowed (b .settings) (few-channels (b .settings) h) packet rs (fine .0);
+          small = omega (arith, fine .1);
+          room = room;
+        }))
+
+    pub offer-gives : (b' : Buffer) (t' : Tally) (store' : List ℕ) → RowsJudged b b' packet (rowsIn (take (rowWidth * p .rows) rows')) t t' store store'
+        → record { answer = countNumbers 0 (countsOf t'); buffer = b'; rows = rows'; store = store' } ≡ offerCall b packet rows store
+    offer-gives b' t' store' j =
+        let g : judgeAll (decode b) store (countsOf t) (copiesOf packet (rowsIn (take (rowWidth * p .rows) rows'))) ≡ judgeAll (decode b) store noCounts (copiesOf packet rs) =
+        ap₂ (λ (u : Tally) (l : List Row). judgeAll (decode b) store (countsOf u) (copiesOf packet l)) zeros rows-back in
+        let c : countsOf t' ≡ judgeAll (decode b) store noCounts (copiesOf packet rs) .counts = j .counts ∙ ap (λ (x : Gathered). x .counts) g in
+        let u : b' ≡ encode (b .settings) (judgeAll (decode b) store noCounts (copiesOf packet rs) .held) = j .buffer ∙ ap (λ (x : Gathered). encode (b .settings) (x .held)) g in
+        let s : store' ≡ judgeAll (decode b) store noCounts (copiesOf packet rs) .store = j .store-left ∙ ap (λ (x : Gathered). x .store) g in
+        let z : record { answer = countNumbers 0 (countsOf t'); buffer = b'; rows = rows'; store = store' } ≡ offerRead b packet rows store (readAs (is .head) rs) =
+        λ i. record { answer = countNumbers 0 (c i); buffer = u i; rows = rows-are i; store = s i } in
+        z ∙ sym (offer-reads b packet rows store h w area room ∙ ap (offerRead b packet rows store) (is .same))

@@ -1,0 +1,139 @@
+-- Laws of judging rows, one for each way that a row goes.
+use mathlib.Core.Path.{_≡_, ap, sym, _∙_, subst}
+use mathlib.Core.List.{List, [], _∷_}
+use mathlib.Core.Bool.{Bool, true, cond}
+use Prim.Native.Nat.{ℕ, _+_, _-_, _≤_, _<_, _^_}
+use native.Mathlib.Omega.{arith}
+use lib.ListN.{length, getD, take, drop}
+use borrow.Author.Tests.{eq-eqb, ne-eqb}
+use Rattle.rtp.specs.Sizes.{rowWidth}
+use Rattle.rtp.specs.Ranges.{inRange}
+use Rattle.rtp.proofs.AreaLaws.{part-to-end}
+use Rattle.payload.specs.Frames.{noData}
+use Rattle.payload.specs.Rows.{Row, rowOf, rowsIn}
+use Rattle.payload.proofs.RowLaws.{rows-more}
+use Rattle.playout.specs.declared.verdict.Verdict.{Verdict}
+use Rattle.playout.specs.declared.verdict.Verdict.the-variants.{Late, Far, Repeated, Better, NoRoom, Inserted}
+use Rattle.playout.specs.Sizes.{storeSize}
+use Rattle.playout.specs.Copies.{Copy}
+use Rattle.playout.specs.Entries.{Held}
+use Rattle.playout.specs.Verdicts.{Counts, counted, Gathered, judge, judgeAll}
+use Rattle.reorder.specs.declared.buffer.Buffer.{Buffer}
+use Rattle.reorder.specs.declared.calls.Tally.{Tally}
+use Rattle.reorder.specs.declared.judging.FrameHead.{FrameHead}
+use Rattle.reorder.specs.Layout.{encode, decode}
+use Rattle.reorder.specs.WellFormed.{allowed, wellFormed}
+use Rattle.reorder.specs.Rows.{copyOf, copiesOf}
+use Rattle.reorder.specs.Claims.{Machine}
+use Rattle.reorder.specs.Judging.{copyIn, Judgeable, JudgedAs, countsOf, RowsAllowed, RowsJudgeable, RowsJudged}
+use Rattle.reorder.proofs.StateLaws.{Good, judge-good}
+use Rattle.reorder.proofs.BridgeLaws.{few-channels, buffer-good, good-machine, good-fine, good-back}
+use Rattle.reorder.proofs.FormLaws.{encode-decode}
+use Rattle.reorder.proofs.CopyLaws.{frame-size}
+
+-- the row at the front of an area, and the area after it
+abbrev pub firstRow : List ℕ → Row
+firstRow ws = rowOf (getD ws 0 0) (getD ws 1 0) (getD ws 2 0) (getD ws 3 0)
+
+abbrev pub restWords : List ℕ → List ℕ
+restWords ws = take (length ws - rowWidth) (drop rowWidth ws)
+
+pub rows-split : (ws : List ℕ) → rowWidth ≤ length ws → rowsIn ws ≡ firstRow ws ∷ rowsIn (restWords ws)
+rows-split ws l = rows-more ws l ∙ ap (λ (x : List ℕ). firstRow ws ∷ rowsIn x) (sym (part-to-end rowWidth ws))
+
+abbrev total : Counts → ℕ
+total n = n .late + n .far + n .repeated + n .better + n .noRoom + n .inserted
+
+total-counted : (n : Counts) (v : Verdict) → total (counted n v) ≡ total n + 1
+total-counted n Late = omega arith
+total-counted n Far = omega arith
+total-counted n Repeated = omega arith
+total-counted n Better = omega arith
+total-counted n NoRoom = omega arith
+total-counted n Inserted = omega arith
+
+module _ (b : Buffer) (packet : List ℕ) (t : Tally) (store : List ℕ) where
+  -- no row is left
+  pub rows-over : (rs : List Row) → RowsJudgeable b packet rs t store → rs ≡ [] → RowsJudged b b packet rs t t store store
+  unfolding judgeAll copiesOf
+  rows-over rs p e =
+      let q : judgeAll (decode b) store (countsOf t) (copiesOf packet rs) ≡ record { held = decode b; store = store; counts = countsOf t } =
+      ap (λ (l : List Row). judgeAll (decode b) store (countsOf t) (copiesOf packet l)) e in
+      record {
+        counts = sym (ap (λ (g : Gathered). g .counts) q);
+        buffer = sym (ap (λ (g : Gathered). encode (b .settings) (g .held)) q ∙ encode-decode b (p .machine) (p .fine));
+        store-left = sym (ap (λ (g : Gathered). g .store) q);
+      }
+
+  -- the rows of an area, once its first row is told apart
+  pub rows-joined : (ws : List ℕ) → rowWidth ≤ length ws → (b' : Buffer) (t' : Tally) (store' : List ℕ)
+      → RowsJudged b b' packet (firstRow ws ∷ rowsIn (restWords ws)) t t' store store' → RowsJudged b b' packet (rowsIn ws) t t' store store'
+  rows-joined ws l b' t' store' j = subst (λ (rs : List Row). RowsJudged b b' packet rs t t' store store') (sym (rows-split ws l)) j
+
+  module _ (r : Row) (rs : List Row) where
+    -- a row of no data
+    pub skip-asks : RowsJudgeable b packet (r ∷ rs) t store → RowsJudgeable b packet rs t store
+    skip-asks p = record { machine = p .machine; settings = p .settings; fine = p .fine; rows = p .rows .1; small = omega (arith, p .small); room = p .room }
+
+    pub skip-gives : r .class ≡ noData → (b' : Buffer) (t' : Tally) (store' : List ℕ) → RowsJudged b b' packet rs t t' store store' → RowsJudged b b' packet (r ∷ rs) t t' store store'
+    unfolding copiesOf
+    skip-gives z b' t' store' j =
+        let q : copiesOf packet rs ≡ copiesOf packet (r ∷ rs) =
+        sym (ap (λ (v : Bool). cond v (copiesOf packet rs) (copyOf packet r ∷ copiesOf packet rs)) (eq-eqb (r .class) noData z)) in
+        record {
+          counts = j .counts ∙ ap (λ (l : List Copy). judgeAll (decode b) store (countsOf t) l .counts) q;
+          buffer = j .buffer ∙ ap (λ (l : List Copy). encode (b .settings) (judgeAll (decode b) store (countsOf t) l .held)) q;
+          store-left = j .store-left ∙ ap (λ (l : List Copy). judgeAll (decode b) store (countsOf t) l .store) q;
+        }
+
+    -- a row of a frame
+    module _ (p : RowsJudgeable b packet (r ∷ rs) t store) (z : r .class ≡ noData → ⊥) (frame : List ℕ) (cut : frame ≡ take (r .length) (drop (r .start) packet)) where
+      abbrev head : FrameHead
+      head = record { time = r .time; class = r .class; channel = r .channel }
+
+      frame-allowed : allowed (b .settings .format) (r .class) (length frame) ≡ true
+      frame-allowed =
+          ap (allowed (b .settings .format) (r .class)) (ap length cut ∙ frame-size packet (r .start) (r .length) (p .rows .0 z .2)) ∙ p .rows .0 z .0
+
+      pub copy-asks : Judgeable b head frame store
+      copy-asks = record { machine = p .machine; settings = p .settings; fine = p .fine; class = frame-allowed; channel = p .rows .0 z .1; room = p .room }
+
+      module _ (word : r .time < 2 ^ 32) (b' : Buffer) (store' : List ℕ) (v : Verdict) (j : JudgedAs b b' (copyIn head frame) store store' v) (t' : Tally) (more : countsOf t' ≡ counted (countsOf t) v) where
+        abbrev next : Held
+        next = judge (decode b) store (copyIn head frame) .held
+
+        good : Good (b .settings) next (judge (decode b) store (copyIn head frame) .store)
+        good = judge-good (b .settings) (decode b) store (copyIn head frame) (buffer-good b (p .machine) (p .settings) (p .fine) store (p .room)) (record {
+          frame = frame-allowed;
+          channel = p .rows .0 z .1;
+          octet = omega (arith, p .rows .0 z .1, few-channels (b .settings) (p .settings));
+          word = word;
+        })
+
+        pub next-asks : RowsJudgeable b' packet rs t' store'
+        next-asks = record {
+          machine = subst Machine (sym (j .buffer)) (good-machine (b .settings) next _ good);
+          settings = subst (λ (x : Buffer). inRange (x .settings) ≡ true) (sym (j .buffer)) (p .settings);
+          fine = subst (λ (x : Buffer). wellFormed x ≡ true) (sym (j .buffer)) (good-fine (b .settings) next _ good);
+          rows = subst (λ (x : Buffer). RowsAllowed (x .settings) (length packet) rs) (sym (j .buffer)) (p .rows .1);
+          small = let s : total (countsOf t') ≡ total (countsOf t) + 1 = ap total more ∙ total-counted (countsOf t) v in omega (arith, p .small);
+          room = subst (λ (x : List ℕ). storeSize ≤ length x) (sym (j .store-left)) (good .room);
+        }
+
+        pub next-gives : (b'' : Buffer) (t'' : Tally) (store'' : List ℕ) → RowsJudged b' b'' packet rs t' t'' store' store'' → RowsJudged b b'' packet (r ∷ rs) t t'' store store''
+        unfolding copiesOf judgeAll
+        next-gives b'' t'' store'' k =
+            let h : decode b' ≡ next = ap decode (j .buffer) ∙ good-back (b .settings) next _ good in
+            let n : countsOf t' ≡ counted (countsOf t) (judge (decode b) store (copyIn head frame) .verdict) = more ∙ ap (counted (countsOf t)) (j .verdict) in
+            let one : judgeAll (decode b') store' (countsOf t') (copiesOf packet rs) ≡ judgeAll (decode b) store (countsOf t) (copyIn head frame ∷ copiesOf packet rs) =
+            λ i. judgeAll (h i) (j .store-left i) (n i) (copiesOf packet rs) in
+            let cs : copyIn head frame ∷ copiesOf packet rs ≡ copiesOf packet (r ∷ rs) =
+            ap (λ (x : List ℕ). copyIn head x ∷ copiesOf packet rs) cut
+            ∙ sym (ap (λ (v : Bool). cond v (copiesOf packet rs) (copyOf packet r ∷ copiesOf packet rs)) (ne-eqb (r .class) noData z)) in
+            let q : judgeAll (decode b') store' (countsOf t') (copiesOf packet rs) ≡ judgeAll (decode b) store (countsOf t) (copiesOf packet (r ∷ rs)) =
+            one ∙ ap (judgeAll (decode b) store (countsOf t)) cs in
+            record {
+              counts = k .counts ∙ ap (λ (g : Gathered). g .counts) q;
+              buffer = k .buffer ∙ (λ i. encode (j .buffer i .settings) (q i .held));
+              store-left = k .store-left ∙ ap (λ (g : Gathered). g .store) q;
+            }

@@ -1,0 +1,276 @@
+-- Laws of judging one frame on the columns, one for each verdict.
+use mathlib.Core.Path.{_≡_, refl, ap, ap₂, sym, _∙_, subst}
+use mathlib.Core.List.{List, List·Memᴰ}
+use mathlib.Core.Bool.{Bool, true, false, cond, not}
+use mathlib.Core.Option.{Option, none, some}
+use Prim.Native.Nat.{ℕ, zero, suc, _+_, _*_, _≤_, _<_}
+use native.Mathlib.Nat.{not-suc-le-zero, le-of-suc-le-suc, add-zero, add-suc, suc-add, zero-add}
+use native.Mathlib.Omega.{arith}
+use lib.ListN.{length, getD, set}
+use lib.Seq.{paste}
+use lib.Dec.{ltb, eqb}
+use borrow.Author.Tests.{lt-ltb, le-ltb}
+use Rattle.rtp.proofs.TestLaws.{by-test}
+use Rattle.playout.specs.declared.verdict.Verdict.{Verdict}
+use Rattle.playout.specs.declared.verdict.Verdict.the-variants.{Late, Far, Repeated, Better, NoRoom, Inserted}
+use Rattle.playout.specs.Sizes.{slots, slotSize, storeSize}
+use Rattle.playout.specs.Copies.{Copy, better}
+use Rattle.playout.specs.Entries.{Entry, view, entryOf, sideOfEntry, put, held, always, freeSlot, placed, stored}
+use Rattle.playout.specs.Verdicts.{Judged, isLate, fits, isFar, keeps, lays, judgeHeld, judge}
+use Rattle.reorder.specs.declared.buffer.Buffer.{Buffer}
+use Rattle.reorder.specs.declared.columns.Place.{Place}
+use Rattle.reorder.specs.declared.judging.FrameHead.{FrameHead}
+use Rattle.reorder.specs.Bits.{heldIn, wordsOf, marked, lowestFree}
+use Rattle.reorder.specs.Columns.{insertAt, placeFrom, fitsFrom}
+use Rattle.reorder.specs.Layout.{tagOf, column, flagOf, encode, entryAt, entriesFrom, decode}
+use Rattle.reorder.specs.WellFormed.{wellFormed}
+use Rattle.reorder.specs.Claims.{Machine}
+use Rattle.reorder.specs.Judging.{copyIn, tagIn, HeldAt, beats, Replaced, Laid, JudgedAs}
+use Rattle.reorder.proofs.ColumnLaws.{inserted}
+use Rattle.reorder.proofs.WordLaws.{slotOf, slotsOf, free-is}
+use Rattle.reorder.proofs.FreeLaws.{free-when-room}
+use Rattle.reorder.proofs.LayoutLaws.{noEntry, at-member, column-insert, column-set, column-same, words-insert, words-set}
+use Rattle.reorder.proofs.PlaceLaws.{AtPlace, place-at, fits-is}
+use Rattle.reorder.proofs.FormLaws.{facts, decode-length, words-held, encode-decode, allowed-frame}
+
+-- the entry at a place of the list is that at the place of the columns
+entries-at : (b : Buffer) (k i j : ℕ) → j < k → getD (entriesFrom b k i) j noEntry ≡ entryAt b (i + j)
+unfolding entriesFrom
+entries-at b zero i j l = absurd (not-suc-le-zero l)
+entries-at b (suc k) i zero l = ap (entryAt b) (sym (add-zero i))
+entries-at b (suc k) i (suc j) l = entries-at b k (suc i) j (le-of-suc-le-suc l) ∙ ap (entryAt b) (suc-add i j ∙ sym (add-suc i j))
+
+module _ (b : Buffer) (m : Machine b) (w : wellFormed b ≡ true) (head : FrameHead) (frame store : List ℕ) where
+  abbrev c : Copy
+  c = copyIn head frame
+
+  abbrev es : List Entry
+  es = decode b .entries
+
+  abbrev back : encode (b .settings) (decode b) ≡ b
+  back = encode-decode b m w
+
+  -- the buffer with other columns and marks
+  abbrev laid : List ℕ → List ℕ → List ℕ → List ℕ → List ℕ → Buffer
+  laid times tags lengths slots' occupied = record {
+    times = times;
+    tags = tags;
+    lengths = lengths;
+    slots = slots';
+    occupied = occupied;
+    «last_time» = b .«last_time»;
+    «last_channel» = b .«last_channel»;
+    drawn = b .drawn;
+    settings = b .settings;
+  }
+
+  kept : (v : Verdict) → judge (decode b) store c ≡ keeps (decode b) store v → JudgedAs b b c store store v
+  kept v q = record {
+    verdict = sym (ap (λ (j : Judged). j .verdict) q);
+    buffer = sym (ap (λ (j : Judged). encode (b .settings) (j .held)) q ∙ back);
+    store-left = sym (ap (λ (j : Judged). j .store) q);
+  }
+
+  pub step-late : isLate (decode b) c ≡ true → JudgedAs b b c store store Late
+  unfolding judge
+  step-late t =
+      kept Late
+      (ap (λ (v : Bool). cond v (keeps (decode b) store Late) (cond (isFar (decode b) c) (keeps (decode b) store Far) (judgeHeld c (decode b) store (held (sideOfEntry (entryOf c 0)) es)))) t)
+
+  module _ (late : isLate (decode b) c ≡ false) where
+    judge-timely : judge (decode b) store c ≡ cond (isFar (decode b) c) (keeps (decode b) store Far) (judgeHeld c (decode b) store (held (sideOfEntry (entryOf c 0)) es))
+    unfolding judge
+    judge-timely =
+        ap (λ (v : Bool). cond v (keeps (decode b) store Late) (cond (isFar (decode b) c) (keeps (decode b) store Far) (judgeHeld c (decode b) store (held (sideOfEntry (entryOf c 0)) es)))) late
+
+    module _ (n : ℕ) (count : n ≡ heldIn (b .occupied)) where
+      size : n ≡ length es
+      size = count ∙ sym (decode-length b m w)
+
+      fits-here : fitsFrom (b .times) (head .time) n ≡ fits (head .time) es
+      fits-here =
+          ap₂ (λ (xs : List ℕ) (k : ℕ). fitsFrom xs (head .time) k) (sym (ap (λ (a : Buffer). a .times) back)) size
+          ∙ fits-is (head .time) es (facts b m w .room)
+
+      far-none : b .drawn ≡ 0 → isFar (decode b) c ≡ not (fitsFrom (b .times) (head .time) n)
+      far-none z = ap (λ (d : ℕ). cond (eqb d 1) false (not (fits (head .time) es))) z ∙ ap not (sym fits-here)
+
+      pub step-far : b .drawn ≡ 0 → fitsFrom (b .times) (head .time) n ≡ false → JudgedAs b b c store store Far
+      step-far z f =
+          kept Far
+          (judge-timely
+          ∙ ap (λ (v : Bool). cond v (keeps (decode b) store Far) (judgeHeld c (decode b) store (held (sideOfEntry (entryOf c 0)) es))) (far-none z ∙ ap not f))
+
+      pub near-none : b .drawn ≡ 0 → fitsFrom (b .times) (head .time) n ≡ true → isFar (decode b) c ≡ false
+      near-none z f = far-none z ∙ ap not f
+
+      pub near-some : (b .drawn ≡ 0 → ⊥) → isFar (decode b) c ≡ false
+      near-some z =
+          by-test (eqb (b .drawn) 1)
+          (λ t. ap (λ (v : Bool). cond v false (not (fits (head .time) es))) t)
+          (λ t. absurd (z (sym (ap (λ (a : Buffer). a .drawn) back) ∙ ap flagOf t)))
+
+      module _ (p : Place) (found : p ≡ placeFrom (b .times) (b .tags) (head .time) (head .channel) n 0) where
+        at : (k : ℕ) → AtPlace (entryOf c k) es p
+        unfolding entryOf
+        at k =
+            place-at (entryOf c k) es (facts b m w .room) (λ e i. facts b m w .each e i .octet) p
+            (found
+            ∙ ap₂ (λ (xs ys : List ℕ). placeFrom xs ys (head .time) (head .channel) n 0) (sym (ap (λ (a : Buffer). a .times) back)) (sym (ap (λ (a : Buffer). a .tags) back))
+            ∙ ap (λ (k : ℕ). placeFrom (column (λ e. e .time) es) (column tagOf es) (head .time) (head .channel) k 0) size)
+
+        judge-near : isFar (decode b) c ≡ false → (o : Option Entry) → held (sideOfEntry (entryOf c 0)) es ≡ o → judge (decode b) store c ≡ judgeHeld c (decode b) store o
+        judge-near far o q =
+            judge-timely
+            ∙ ap₂ (λ (v : Bool) (o : Option Entry). cond v (keeps (decode b) store Far) (judgeHeld c (decode b) store o)) far q
+
+      -- The pair is held
+
+      module _ (i : ℕ) (found : Place.FoundAt i ≡ placeFrom (b .times) (b .tags) (head .time) (head .channel) n 0) where
+        abbrev here-at : (k : ℕ) → AtPlace (entryOf c k) es (Place.FoundAt i)
+        here-at = at (Place.FoundAt i) found
+
+        entry-here : getD es i noEntry ≡ entryAt b i
+        entry-here = entries-at b (heldIn (b .occupied)) 0 i (omega (arith, here-at 0 .within, decode-length b m w)) ∙ ap (entryAt b) (zero-add i)
+
+        abbrev e-in : List·Memᴰ (getD es i noEntry) es
+        e-in = at-member es i (here-at 0 .within)
+
+        pub held-at : storeSize ≤ length store → HeldAt (b .lengths) (b .slots) i store
+        held-at l = record {
+          place = omega (arith, here-at 0 .within, facts b m w .room);
+          slot = subst (λ (e : Entry). e .slot < slots) entry-here (facts b m w .slot-facts .within (getD es i noEntry) e-in);
+          short =
+              subst (λ (e : Entry). e .length ≤ slotSize) entry-here
+              (allowed-frame (b .settings .format) (getD es i noEntry .class) (getD es i noEntry .length) (facts b m w .each (getD es i noEntry) e-in .frame) .1);
+          room = l;
+        }
+
+        beats-here : better c (view store (getD es i noEntry)) ≡ beats head frame (b .tags) (b .lengths) (b .slots) i store
+        unfolding view
+        beats-here = ap (λ (e : Entry). better c (view store e)) entry-here
+
+        judge-found : isFar (decode b) c ≡ false → (v : Bool) → beats head frame (b .tags) (b .lengths) (b .slots) i store ≡ v
+            → judge (decode b) store c ≡ cond v (lays c (getD es i noEntry .slot) (decode b) store Better) (keeps (decode b) store Repeated)
+        unfolding judgeHeld
+        judge-found far v q =
+            judge-near (Place.FoundAt i) found far (some (getD es i noEntry)) (here-at 0 .held)
+            ∙ ap (λ (v : Bool). cond v (lays c (getD es i noEntry .slot) (decode b) store Better) (keeps (decode b) store Repeated)) (beats-here ∙ q)
+
+        -- the entry in its slot
+        abbrev slot-of : ℕ
+        slot-of = getD es i noEntry .slot
+
+        put-is : placed c slot-of es ≡ set es i (entryOf c slot-of)
+        unfolding placed
+        put-is = here-at slot-of .put
+
+        column-put : (f : Entry → ℕ) → column f (placed c slot-of es) ≡ column f (set es i (entryOf c slot-of))
+        column-put f = ap (column f) put-is
+
+        buffer-better : encode (b .settings) (lays c slot-of (decode b) store Better .held)
+            ≡ laid (b .times) (set (b .tags) i (tagIn head)) (set (b .lengths) i (length frame)) (b .slots) (b .occupied)
+        unfolding entryOf
+        buffer-better = λ j. record {
+          times = (column-put (λ e. e .time) ∙ column-same (λ e. e .time) es i (entryOf c slot-of) (here-at slot-of .same .0) ∙ ap (λ (a : Buffer). a .times) back) j;
+          tags = (column-put tagOf ∙ column-set tagOf es i (entryOf c slot-of) (here-at 0 .within) ∙ ap (λ (a : Buffer). set (a .tags) i (tagIn head)) back) j;
+          lengths = (column-put (λ e. e .length) ∙ column-set (λ e. e .length) es i (entryOf c slot-of) (here-at 0 .within) ∙ ap (λ (a : Buffer). set (a .lengths) i (length frame)) back) j;
+          slots = (column-put slotOf ∙ column-same slotOf es i (entryOf c slot-of) refl ∙ ap (λ (a : Buffer). a .slots) back) j;
+          occupied = (ap (λ (l : List Entry). wordsOf (slotsOf l)) put-is ∙ words-set es i (entryOf c slot-of) refl ∙ words-held b m w) j;
+          «last_time» = b .«last_time»;
+          «last_channel» = b .«last_channel»;
+          drawn = ap (λ (a : Buffer). a .drawn) back j;
+          settings = b .settings;
+        }
+
+        pub step-found : isFar (decode b) c ≡ false → (tags lengths store' : List ℕ) (v : Verdict)
+            → Replaced head frame (b .tags) tags (b .lengths) lengths (b .slots) i store store' v
+            → JudgedAs b (laid (b .times) tags lengths (b .slots) (b .occupied)) c store store' v
+        unfolding stored
+        step-found far tags lengths store' v r =
+            by-test (beats head frame (b .tags) (b .lengths) (b .slots) i store)
+            (λ t.
+            let q = judge-found far true t in
+            let u : tags ≡ set (b .tags) i (tagIn head) = r .tags-left ∙ ap (λ (x : Bool). cond x (set (b .tags) i (tagIn head)) (b .tags)) t in
+            let y : lengths ≡ set (b .lengths) i (length frame) = r .lengths-left ∙ ap (λ (x : Bool). cond x (set (b .lengths) i (length frame)) (b .lengths)) t in
+            record {
+              verdict = r .verdict ∙ ap (λ (x : Bool). cond x Better Repeated) t ∙ sym (ap (λ (j : Judged). j .verdict) q);
+              buffer = ap₂ (λ (x z : List ℕ). laid (b .times) x z (b .slots) (b .occupied)) u y ∙ sym (ap (λ (j : Judged). encode (b .settings) (j .held)) q ∙ buffer-better);
+              store-left =
+                  r .store-left ∙ ap (λ (x : Bool). cond x (paste store (slotSize * getD (b .slots) i 0) frame (length frame)) store) t
+                  ∙ sym (ap (λ (j : Judged). j .store) q ∙ ap (λ (e : Entry). paste store (slotSize * e .slot) frame (length frame)) entry-here);
+            })
+            (λ t.
+            let q = judge-found far false t in
+            let u : tags ≡ b .tags = r .tags-left ∙ ap (λ (x : Bool). cond x (set (b .tags) i (tagIn head)) (b .tags)) t in
+            let y : lengths ≡ b .lengths = r .lengths-left ∙ ap (λ (x : Bool). cond x (set (b .lengths) i (length frame)) (b .lengths)) t in
+            record {
+              verdict = r .verdict ∙ ap (λ (x : Bool). cond x Better Repeated) t ∙ sym (ap (λ (j : Judged). j .verdict) q);
+              buffer = ap₂ (λ (x z : List ℕ). laid (b .times) x z (b .slots) (b .occupied)) u y ∙ sym (ap (λ (j : Judged). encode (b .settings) (j .held)) q ∙ back);
+              store-left =
+                  r .store-left ∙ ap (λ (x : Bool). cond x (paste store (slotSize * getD (b .slots) i 0) frame (length frame)) store) t ∙ sym (ap (λ (j : Judged). j .store) q);
+            })
+
+      -- The pair is not held
+
+      module _ (i : ℕ) (found : Place.InsertAt i ≡ placeFrom (b .times) (b .tags) (head .time) (head .channel) n 0) where
+        pub place-in : i ≤ n
+        place-in = omega (arith, at (Place.InsertAt i) found 0 .within, size)
+
+        judge-new : isFar (decode b) c ≡ false → (v : Bool) → ltb (length es) slots ≡ v
+            → judge (decode b) store c ≡ cond v (lays c (freeSlot es) (decode b) store Inserted) (keeps (decode b) store NoRoom)
+        unfolding judgeHeld
+        judge-new far v q =
+            judge-near (Place.InsertAt i) found far none (at (Place.InsertAt i) found 0 .held)
+            ∙ ap (λ (v : Bool). cond v (lays c (freeSlot es) (decode b) store Inserted) (keeps (decode b) store NoRoom)) q
+
+        pub step-full : isFar (decode b) c ≡ false → slots ≤ n → JudgedAs b b c store store NoRoom
+        step-full far l = kept NoRoom (judge-new far false (le-ltb (length es) slots (omega (arith, size))))
+
+        module _ (space : n < slots) where
+          free-here : lowestFree (b .occupied) ≡ freeSlot es
+          free-here = ap lowestFree (sym (words-held b m w)) ∙ free-is es (facts b m w .slot-facts)
+
+          abbrev k : ℕ
+          k = lowestFree (b .occupied)
+
+          new-is : placed c (freeSlot es) es ≡ inserted i (entryOf c k) es
+          unfolding placed
+          new-is = ap (λ (x : ℕ). put sideOfEntry always (entryOf c x) es) (sym free-here) ∙ at (Place.InsertAt i) found k .put
+
+          column-new : (f : Entry → ℕ) → column f (placed c (freeSlot es) es) ≡ insertAt (column f es) n i (f (entryOf c k))
+          column-new f =
+              ap (column f) new-is ∙ column-insert f es i (entryOf c k) (omega (arith, place-in, size)) (omega (arith, size))
+              ∙ ap (λ (x : ℕ). insertAt (column f es) x i (f (entryOf c k))) (sym size)
+
+          buffer-new : encode (b .settings) (lays c (freeSlot es) (decode b) store Inserted .held)
+              ≡ laid (insertAt (b .times) n i (head .time)) (insertAt (b .tags) n i (tagIn head)) (insertAt (b .lengths) n i (length frame)) (insertAt (b .slots) n i k) (marked (b .occupied) k)
+          unfolding entryOf
+          buffer-new = λ j. record {
+            times = (column-new (λ e. e .time) ∙ ap (λ (a : Buffer). insertAt (a .times) n i (head .time)) back) j;
+            tags = (column-new tagOf ∙ ap (λ (a : Buffer). insertAt (a .tags) n i (tagIn head)) back) j;
+            lengths = (column-new (λ e. e .length) ∙ ap (λ (a : Buffer). insertAt (a .lengths) n i (length frame)) back) j;
+            slots = (column-new slotOf ∙ ap (λ (a : Buffer). insertAt (a .slots) n i k) back) j;
+            occupied =
+                (ap (λ (l : List Entry). wordsOf (slotsOf l)) new-is ∙ words-insert es i (entryOf c k) (free-when-room (b .occupied) (omega (arith, count)))
+                ∙ ap (λ (x : List ℕ). marked x k) (words-held b m w)) j;
+            «last_time» = b .«last_time»;
+            «last_channel» = b .«last_channel»;
+            drawn = ap (λ (a : Buffer). a .drawn) back j;
+            settings = b .settings;
+          }
+
+          pub step-new : isFar (decode b) c ≡ false → (times tags lengths slots' occupied store' : List ℕ)
+              → Laid head frame (b .times) times (b .tags) tags (b .lengths) lengths (b .slots) slots' (b .occupied) occupied n i store store'
+              → JudgedAs b (laid times tags lengths slots' occupied) c store store' Inserted
+          unfolding stored
+          step-new far times tags lengths slots' occupied store' r =
+              let q = judge-new far true (lt-ltb (length es) slots (omega (arith, size))) in
+              let z : laid times tags lengths slots' occupied
+              ≡ laid (insertAt (b .times) n i (head .time)) (insertAt (b .tags) n i (tagIn head)) (insertAt (b .lengths) n i (length frame)) (insertAt (b .slots) n i k) (marked (b .occupied) k)
+              = λ j. laid (r .times-left j) (r .tags-left j) (r .lengths-left j) (r .slots-left j) (r .words-left j) in
+              record {
+                verdict = sym (ap (λ (j : Judged). j .verdict) q);
+                buffer = z ∙ sym (ap (λ (j : Judged). encode (b .settings) (j .held)) q ∙ buffer-new);
+                store-left = r .store-left ∙ sym (ap (λ (j : Judged). j .store) q ∙ ap (λ (x : ℕ). paste store (slotSize * x) frame (length frame)) (sym free-here));
+              }

@@ -1,0 +1,41 @@
+use borrow.Author.Tests.{eq-eqb, ne-eqb, lt-ltb, le-ltb}
+use Rattle.reorder.specs.Columns.{fitsFrom}
+use borrow.Author.Needs.{needs}
+use Rattle.reorder.proofs.columns.in_stretch.Statement.{statement}
+use Rattle.reorder.proofs.columns.in_stretch.Tie as tie
+use Rattle.reorder.proofs.columns.in_stretch.Reads as reads
+use Rattle.reorder.proofs.columns.in_stretch.Lts as lts
+use Rattle.playout.proofs.order.ticks_ahead.Reads as ticks-ahead-reads
+use Rattle.reorder.proofs.columns.all_within.Reads as all-within-reads
+
+returns : tie.Need-returns
+unfolding fitsFrom
+returns c = rw (eq-eqb _ _ (c .if1 .taken))
+
+element-copy-out-ticks-ahead : tie.Need-element-copy-out-ticks-ahead
+element-copy-out-ticks-ahead c = search needs
+
+ticks-ahead-requires : tie.Need-ticks-ahead-requires
+ticks-ahead-requires c κs = search needs
+
+returns-2 : tie.Need-returns-2
+unfolding fitsFrom
+returns-2 c = rw (ne-eqb _ _ (c .before .before .before .if1 .left), ← (c .before .ticks-ahead .ensures), lt-ltb _ _ (c .if2 .taken))
+
+all-within-requires : tie.Need-all-within-requires
+all-within-requires c κs = search needs
+
+returns-3 : tie.Need-returns-3
+unfolding fitsFrom
+returns-3 c = rw (ne-eqb _ _ (c .before .before .before .before .if1 .left), ← (c .before .before .ticks-ahead .ensures), le-ltb _ _ (c .before .if2 .left)) (c .all-within .ensures)
+
+pub in-stretch-spec : {M : Type 1} → statement M
+in-stretch-spec =
+    tie.close
+    (tie.spec
+    returns
+    element-copy-out-ticks-ahead
+    ticks-ahead-requires
+    returns-2
+    all-within-requires
+    returns-3)

@@ -1,0 +1,67 @@
+use Prim.Native.Nat.{_-_, _*_, _≤_}
+use mathlib.Core.Path.{_≡_, refl, _∙_, sym}
+use mathlib.Core.Bool.{cond, false}
+use lib.Dec.{eqb}
+use lib.ListN.{length, drop}
+use Rattle.playout.specs.Sizes.{slots}
+use Rattle.reorder.specs.WellFormed.{zeros}
+use Rattle.reorder.proofs.ColumnLaws.{zeros-end, zeros-more}
+use borrow.Author.Needs.{needs}
+use native.Mathlib.Omega.{arith}
+use Rattle.reorder.proofs.columns.zero_from.Statement.{statement}
+use Rattle.reorder.proofs.columns.zero_from.Tie as tie
+use Rattle.reorder.proofs.columns.zero_from.Reads as reads
+use Rattle.reorder.proofs.columns.zero_from.Lts as lts
+
+abbrev Inv-loop : tie.InvT-loop
+Inv-loop column n values sum₀ i₀ sum i = (i ≤ slots) × (sum ≤ 4294967295 * i) × (cond (eqb sum 0) (zeros (drop i values)) false ≡ zeros (drop n column)) × (length values ≡ slots)
+
+abbrev μ-loop : tie.MeasureT-loop
+μ-loop column n values sum₀ i₀ sum i = slots - i
+
+loop-holds : tie.Need-loop-holds Inv-loop μ-loop
+loop-holds c = (search needs, search needs, refl, search needs)
+
+mul-sum : tie.Need-mul-sum Inv-loop μ-loop
+mul-sum c = search needs
+
+shared-slice-read-sum : tie.Need-shared-slice-read-sum Inv-loop μ-loop
+shared-slice-read-sum c = search needs
+
+cast-sum : tie.Need-cast-sum Inv-loop μ-loop
+cast-sum c = omega (arith, c .shared-slice-known .given (c .before .before .loop .i))
+
+add-sum : tie.Need-add-sum Inv-loop μ-loop
+add-sum c = omega (arith, c .shared-slice-known .given (c .before .before .loop .i))
+
+add-i : tie.Need-add-i Inv-loop μ-loop
+add-i c = search needs
+
+loop-less : tie.Need-loop-less Inv-loop μ-loop
+loop-less c = search needs
+
+loop-again : tie.Need-loop-again Inv-loop μ-loop
+loop-again c =
+    let l = c .before .before .loop in
+    (omega arith, omega (arith, c .shared-slice-known .given (l .i)), zeros-more _ (l .i) (l .sum) (omega arith) ∙ l .inv .2, l .inv .3)
+
+returns : tie.Need-returns Inv-loop μ-loop
+returns c =
+    let l = c .before .loop in
+    sym (zeros-end _ (l .i) (l .sum) (omega arith)) ∙ l .inv .2
+
+pub zero-from-spec : {M : Type 1} → statement M
+zero-from-spec =
+    tie.close
+    (tie.spec
+    Inv-loop
+    μ-loop
+    loop-holds
+    mul-sum
+    shared-slice-read-sum
+    cast-sum
+    add-sum
+    add-i
+    loop-less
+    loop-again
+    returns)

@@ -1,0 +1,141 @@
+use mathlib.Core.List.{List}
+use Prim.Native.Nat.{ℕ, _+_, _-_, _*_, _/_}
+use lib.ListN.{getD, take, drop}
+use Rattle.playout.specs.Copies.{betterFrame}
+use Rattle.reorder.specs.declared.judging.FrameHead.{FrameHead}
+use mathlib.Core.Path.{_≡_, sym, _∙_, ap}
+use mathlib.Core.Bool.{true, false}
+use native.Mathlib.Omega.{arith}
+use denote.Ref.{now}
+use Rattle.playout.specs.Sizes.{slotSize}
+use Rattle.reorder.specs.Judging.{beats}
+use borrow.Author.Needs.{needs}
+use Rattle.reorder.proofs.judging.replace_copy.Statement.{statement}
+use Rattle.reorder.proofs.judging.replace_copy.Tie as tie
+use Rattle.reorder.proofs.judging.replace_copy.Reads as reads
+use Rattle.reorder.proofs.judging.replace_copy.Lts as lts
+use Rattle.playout.proofs.compare.is_better.Reads as is-better-reads
+use Rattle.reorder.proofs.judging.copy_into.Reads as copy-into-reads
+
+-- the part of the store from the slot's start to the frame's end
+part-is : (h : FrameHead) (frame tags lengths slots' : List ℕ) (at : ℕ) (store : List ℕ)
+    → betterFrame (h .class) frame (getD tags at 0 / 256) (take (slotSize * getD slots' at 0 + getD lengths at 0 - slotSize * getD slots' at 0) (drop (slotSize * getD slots' at 0) store))
+    ≡ beats h frame tags lengths slots' at store
+part-is h frame tags lengths slots' at store =
+    let e : slotSize * getD slots' at 0 + getD lengths at 0 - slotSize * getD slots' at 0 ≡ getD lengths at 0 = omega arith in
+    ap (λ (n : ℕ). betterFrame (h .class) frame (getD tags at 0 / 256) (take n (drop (slotSize * getD slots' at 0) store))) e
+
+mul-start : tie.Need-mul-start
+mul-start c = search needs
+
+element-copy-out-start : tie.Need-element-copy-out-start
+element-copy-out-start c = search needs
+
+cast-start : tie.Need-cast-start
+cast-start c = search needs
+
+mul-start-2 : tie.Need-mul-start-2
+mul-start-2 c = search needs
+
+mul-end : tie.Need-mul-end
+mul-end c = search needs
+
+element-copy-out-end : tie.Need-element-copy-out-end
+element-copy-out-end c = search needs
+
+cast-end : tie.Need-cast-end
+cast-end c = search needs
+
+add-end : tie.Need-add-end
+add-end c = search needs
+
+mul-is-better : tie.Need-mul-is-better
+mul-is-better c = search needs
+
+element-copy-out-is-better : tie.Need-element-copy-out-is-better
+element-copy-out-is-better c = search needs
+
+sub-is-better : tie.Need-sub-is-better
+sub-is-better c = search needs
+
+part-is-better-start : tie.Need-part-is-better-start
+part-is-better-start c = search needs
+
+part-is-better-end : tie.Need-part-is-better-end
+part-is-better-end c = search needs
+
+is-better-requires : tie.Need-is-better-requires
+is-better-requires c κs = search needs
+
+mul-tags : tie.Need-mul-tags
+mul-tags c = search needs
+
+add-tags : tie.Need-add-tags
+add-tags c = search needs
+
+mul-tags-2 : tie.Need-mul-tags-2
+mul-tags-2 c = search needs
+
+element-write-tags : tie.Need-element-write-tags
+element-write-tags c = search needs
+
+cast-lengths : tie.Need-cast-lengths
+cast-lengths c = search needs
+
+mul-lengths : tie.Need-mul-lengths
+mul-lengths c = search needs
+
+element-write-lengths : tie.Need-element-write-lengths
+element-write-lengths c = search needs
+
+copy-into-requires : tie.Need-copy-into-requires
+copy-into-requires c κs = search needs
+
+same-length : tie.Need-same-length
+same-length c = search needs
+
+returns : tie.Need-returns
+returns c =
+    let a = c .before .before .before .before .before .before .before .before .before .before .before .before .before .before .before .args in
+    let t : beats (a .head) (now (a .frame)) (now (a .tags)) (now (a .lengths)) (now (a .slots)) (a .at) (now (a .store)) ≡ true = sym (part-is (a .head) (now (a .frame)) (now (a .tags)) (now (a .lengths)) (now (a .slots)) (a .at) (now (a .store))) ∙ sym (c .before .before .before .before .before .before .before .is-better .ensures) ∙ c .before .before .before .before .before .before .if1 .taken in
+    record { verdict = rw t; tags-left = rw t; lengths-left = rw t; store-left = rw t (c .before .before .copy-into .ensures) }
+
+same-length-2 : tie.Need-same-length-2
+same-length-2 c = search needs
+
+returns-2 : tie.Need-returns-2
+returns-2 c =
+    let a = c .before .before .before .before .before .before .before .before .before .args in
+    let t : beats (a .head) (now (a .frame)) (now (a .tags)) (now (a .lengths)) (now (a .slots)) (a .at) (now (a .store)) ≡ false = sym (part-is (a .head) (now (a .frame)) (now (a .tags)) (now (a .lengths)) (now (a .slots)) (a .at) (now (a .store))) ∙ sym (c .before .is-better .ensures) ∙ c .if1 .left in
+    record { verdict = rw t; tags-left = rw t; lengths-left = rw t; store-left = rw t }
+
+pub replace-copy-spec : {M : Type 1} → statement M
+replace-copy-spec =
+    tie.close
+    (tie.spec
+    mul-start
+    element-copy-out-start
+    cast-start
+    mul-start-2
+    mul-end
+    element-copy-out-end
+    cast-end
+    add-end
+    mul-is-better
+    element-copy-out-is-better
+    sub-is-better
+    part-is-better-start
+    part-is-better-end
+    is-better-requires
+    mul-tags
+    add-tags
+    mul-tags-2
+    element-write-tags
+    cast-lengths
+    mul-lengths
+    element-write-lengths
+    copy-into-requires
+    same-length
+    returns
+    same-length-2
+    returns-2)

@@ -1,0 +1,10 @@
+pub mod Bits
+pub mod Columns
+pub mod Layout
+pub mod WellFormed
+pub mod Rows
+pub mod Checks
+pub mod Judging
+pub mod Calls
+pub mod Claims
+pub mod CheckedTable

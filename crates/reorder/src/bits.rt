@@ -1,0 +1,98 @@
+// Occupied slots as three 64-bit words.
+ghost use mathlib.Core.Path.{_≡_};
+ghost use Prim.Native.Nat.{_≤_, _<_, _^_, _/_, _%_};
+ghost use lib.Count.{ones};
+ghost use lib.ListN.{getD};
+ghost use Rattle.playout.specs.Sizes.{slots};
+ghost use Rattle.reorder.specs.Bits.{markOf, LowestZero, heldIn, marked, unmarked, lowestFree, isFree, sameWords};
+
+fn ones_of(word: u64) -> u32
+    ensures { λ r. ⌜ (r ≡ ones word) × (r ≤ 64) ⌝ }
+{
+    u64::count_ones(word)
+}
+
+// The number held.
+pub(crate) fn held_in(words: [u64; 3]) -> usize
+    ensures { λ r. ⌜ (r ≡ heldIn words) × (r ≤ slots) ⌝ }
+{
+    (ones_of(words[0]) + ones_of(words[1]) + ones_of(words[2])) as usize
+}
+
+// The lowest place of a word whose bit is 0, 64 where there is none.
+fn lowest_zero(word: u64) -> u32
+    ensures { λ r. ⌜ LowestZero 64 word r ⌝ }
+{
+    u64::trailing_zeros(!word)
+}
+
+// The lowest slot that is not marked, 192 where all are.
+pub(crate) fn lowest_free(words: [u64; 3]) -> usize
+    ensures { λ r. ⌜ r ≡ lowestFree words ⌝ }
+{
+    let first = lowest_zero(words[0]) as usize;
+    if first < 64 {
+        return first;
+    }
+    let second = lowest_zero(words[1]) as usize;
+    if second < 64 {
+        return 64 + second;
+    }
+    128 + lowest_zero(words[2]) as usize
+}
+
+// Two to the power `bit`.
+fn power(bit: usize) -> u64
+    requires { ⌜ bit < 64 ⌝ }
+    ensures { λ r. ⌜ r ≡ 2 ^ bit ⌝ }
+{
+    1u64 << bit
+}
+
+// The words with a slot marked, which was not.
+pub(crate) fn mark(words: [u64; 3], slot: usize) -> [u64; 3]
+    requires { ⌜ (slot < slots) × (markOf words slot ≡ 0) ⌝ }
+    ensures { λ r. ⌜ r ≡ marked words slot ⌝ }
+{
+    let mut next = words;
+    let i = slot / 64;
+    let bit = power(slot % 64);
+    next[i] = next[i] + bit;
+    next
+}
+
+// The words without the mark of a slot.
+pub(crate) fn unmark(words: [u64; 3], slot: usize) -> [u64; 3]
+    requires { ⌜ (slot < slots) × (2 ^ (slot % 64) ≤ getD words (slot / 64) 0) ⌝ }
+    ensures { λ r. ⌜ r ≡ unmarked words slot ⌝ }
+{
+    let mut next = words;
+    let i = slot / 64;
+    let bit = power(slot % 64);
+    next[i] = next[i] - bit;
+    next
+}
+
+// Whether a slot is one of the 192 and not marked.
+pub(crate) fn is_free(words: [u64; 3], slot: usize) -> bool
+    ensures { λ r. ⌜ r ≡ isFree words slot ⌝ }
+{
+    if 192 <= slot {
+        return false;
+    }
+    let i = slot / 64;
+    let shifted = words[i] >> (slot % 64);
+    shifted % 2 == 0
+}
+
+pub(crate) fn same_words(v: [u64; 3], w: [u64; 3]) -> bool
+    ensures { λ r. ⌜ r ≡ sameWords v w ⌝ }
+{
+    if v[0] == w[0] {
+        if v[1] == w[1] {
+            return v[2] == w[2];
+        }
+        return false;
+    }
+    false
+}

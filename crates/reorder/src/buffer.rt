@@ -1,0 +1,54 @@
+// The reorder buffer's layout.
+use rtp::settings::Settings;
+ghost use mathlib.Core.Path.{_≡_};
+ghost use Rattle.reorder.specs.Layout.{fresh};
+
+// Entries and slots of a buffer.
+pub const SLOTS: usize = 192;
+// The bytes of a slot: of the longest frame.
+pub const SLOT_SIZE: usize = 320;
+// The bytes of the store.
+pub const STORE_SIZE: usize = 61440;
+
+// Entries in time order, one column for each part of an entry, unused ones zero; a tag is 256 * class + channel, as in a row.
+// Then which slots are occupied, the last pair drawn, 1 if there is one, and the settings.
+pub struct Buffer {
+    pub times: [u32; 192],
+    pub tags: [u32; 192],
+    pub lengths: [u32; 192],
+    pub slots: [u32; 192],
+    pub occupied: [u64; 3],
+    pub last_time: u32,
+    pub last_channel: u32,
+    pub drawn: u32,
+    pub settings: Settings,
+}
+
+// What of a buffer stays the same while a packet's rows are judged.
+pub struct Fixed {
+    pub last_time: u32,
+    pub last_channel: u32,
+    pub drawn: u32,
+    pub settings: Settings,
+}
+
+pub(crate) fn fresh_buffer(settings: Settings) -> Buffer
+    ensures { λ r. ⌜ r ≡ fresh settings ⌝ }
+{
+    let times = [0u32; 192];
+    let tags = [0u32; 192];
+    let lengths = [0u32; 192];
+    let slots = [0u32; 192];
+    let occupied = [0u64; 3];
+    Buffer {
+        times,
+        tags,
+        lengths,
+        slots,
+        occupied,
+        last_time: 0,
+        last_channel: 0,
+        drawn: 0,
+        settings,
+    }
+}

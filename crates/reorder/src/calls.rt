@@ -1,0 +1,277 @@
+// The three calls on a reorder buffer: new, offer and draw.
+use crate::bits;
+use crate::buffer;
+use crate::buffer::Buffer;
+use crate::buffer::Fixed;
+use crate::buffer::SLOT_SIZE;
+use crate::buffer::STORE_SIZE;
+use crate::columns;
+use crate::judging;
+use crate::well_formed;
+use packet::reading;
+use packet::reading::Reading;
+use payload::reading::ROW_AREA;
+use payload::rows::ROW_WIDTH;
+use rtp::refusal::Refusal;
+use rtp::settings;
+use rtp::settings::Settings;
+ghost use mathlib.Core.Path.{_≡_};
+ghost use mathlib.Core.Bool.{true};
+ghost use Rattle.rtp.specs.Ranges.{inRange};
+ghost use Rattle.reorder.specs.Calls.{newNumber, newCall, offerNumbers, offerCall, drawNumbers, drawFirst, drawCall};
+ghost use Rattle.reorder.specs.Layout.{decode};
+ghost use Rattle.reorder.specs.Judging.{Drawable};
+
+pub enum NewAnswer {
+    Accepted,
+    Refused(Refusal),
+}
+
+pub struct Fresh {
+    pub answer: NewAnswer,
+    pub buffer: Buffer,
+}
+
+// How often each verdict was given.
+pub struct Tally {
+    pub late: u32,
+    pub far: u32,
+    pub repeated: u32,
+    pub better: u32,
+    pub no_room: u32,
+    pub inserted: u32,
+}
+
+pub enum OfferAnswer {
+    Judged(Tally),
+    Refused(Refusal),
+}
+
+pub struct Offered {
+    pub answer: OfferAnswer,
+    pub buffer: Buffer,
+}
+
+// A frame that is handed out; its bytes are at the front of the draw area.
+pub struct DrawnFrame {
+    pub time: u32,
+    pub channel: u32,
+    pub class: u32,
+    pub length: u32,
+}
+
+pub enum DrawAnswer {
+    Frame(DrawnFrame),
+    Empty,
+    Refused(Refusal),
+}
+
+pub struct Drawn {
+    pub answer: DrawAnswer,
+    pub buffer: Buffer,
+}
+
+// A fresh buffer. Settings out of range are refused, and the buffer is all zero.
+pub fn new(settings: Settings) -> Fresh
+    ensures { λ r. ⌜ record { refusal = newNumber (r .answer); buffer = r .buffer } ≡ newCall settings ⌝ }
+{
+    if settings::in_range(settings) {
+        return Fresh {
+            answer: NewAnswer::Accepted,
+            buffer: buffer::fresh_buffer(settings),
+        };
+    }
+    let none = Settings {
+        format: 0,
+        channels: 0,
+        payload_type: 0,
+        redundancy_type: 0,
+    };
+    Fresh {
+        answer: NewAnswer::Refused(Refusal::SettingsOutOfRange),
+        buffer: buffer::fresh_buffer(none),
+    }
+}
+
+// An offer under settings in range.
+fn offer_checked(buffer: Buffer, packet: &[u8], rows: &mut [u32], store: &mut [u8]) -> Offered
+    requires { ⌜ inRange (buffer .settings) ≡ true ⌝ }
+    ensures { λ r. ⌜ record { answer = offerNumbers (r .answer); buffer = r .buffer; rows = now (rows .exit); store = now (store .exit) } ≡ offerCall buffer (now (packet .entry)) (now (rows .entry)) (now (store .entry)) ⌝ }
+{
+    let mut times = buffer.times;
+    let mut tags = buffer.tags;
+    let mut lengths = buffer.lengths;
+    let mut slots = buffer.slots;
+    let occupied = buffer.occupied;
+    let settings = buffer.settings;
+    let fixed = Fixed {
+        last_time: buffer.last_time,
+        last_channel: buffer.last_channel,
+        drawn: buffer.drawn,
+        settings,
+    };
+    if well_formed::well_formed(&times, &tags, &lengths, &slots, occupied, fixed) {
+        if rows.len() < ROW_AREA {
+            return refuse_offer(Refusal::AreaTooShort, buffer);
+        }
+        if store.len() < STORE_SIZE {
+            return refuse_offer(Refusal::AreaTooShort, buffer);
+        }
+        match reading::read(settings, packet, rows) {
+            Reading::Refused(refusal) => refuse_offer(refusal, buffer),
+            Reading::Read(head) => {
+                let words = ROW_WIDTH * (head.rows as usize);
+                let judged = judging::judge_rows(
+                    &mut times,
+                    &mut tags,
+                    &mut lengths,
+                    &mut slots,
+                    occupied,
+                    fixed,
+                    packet,
+                    &rows[..words],
+                    judging::no_tally(),
+                    store,
+                );
+                let next = judged.occupied;
+                let tally = judged.tally;
+                Offered {
+                    answer: OfferAnswer::Judged(tally),
+                    buffer: Buffer {
+                        times,
+                        tags,
+                        lengths,
+                        slots,
+                        occupied: next,
+                        last_time: fixed.last_time,
+                        last_channel: fixed.last_channel,
+                        drawn: fixed.drawn,
+                        settings,
+                    },
+                }
+            }
+        }
+    } else {
+        refuse_offer(Refusal::MalformedBuffer, buffer)
+    }
+}
+
+fn refuse_offer(refusal: Refusal, buffer: Buffer) -> Offered
+    ensures { λ r. ⌜ r ≡ record { answer = OfferAnswer.Refused refusal; buffer = buffer } ⌝ }
+{
+    Offered {
+        answer: OfferAnswer::Refused(refusal),
+        buffer,
+    }
+}
+
+// A packet offered: its rows are read into the row area and judged in order; or a refusal, and everything as it stood.
+pub fn offer(buffer: Buffer, packet: &[u8], rows: &mut [u32], store: &mut [u8]) -> Offered
+    ensures { λ r. ⌜ record { answer = offerNumbers (r .answer); buffer = r .buffer; rows = now (rows .exit); store = now (store .exit) } ≡ offerCall buffer (now (packet .entry)) (now (rows .entry)) (now (store .entry)) ⌝ }
+{
+    let settings = buffer.settings;
+    if settings::in_range(settings) {
+        return offer_checked(buffer, packet, rows, store);
+    }
+    refuse_offer(Refusal::SettingsOutOfRange, buffer)
+}
+
+fn refuse_draw(refusal: Refusal, buffer: Buffer) -> Drawn
+    ensures { λ r. ⌜ r ≡ record { answer = DrawAnswer.Refused refusal; buffer = buffer } ⌝ }
+{
+    Drawn {
+        answer: DrawAnswer::Refused(refusal),
+        buffer,
+    }
+}
+
+// The first of n entries handed out: its frame to the front of the area, its slot free, its pair the last drawn.
+fn draw_first(buffer: Buffer, n: usize, store: &[u8], area: &mut [u8]) -> Drawn
+    requires { ⌜ Drawable buffer n (now (store)) (now area) ⌝ }
+    ensures { λ r. ⌜ record { answer = drawNumbers (r .answer); buffer = r .buffer; area = now (area .exit) } ≡ drawFirst buffer (now (store .entry)) (now (area .entry)) (decode buffer .entries) ⌝ }
+{
+    let mut times = buffer.times;
+    let mut tags = buffer.tags;
+    let mut lengths = buffer.lengths;
+    let mut slots = buffer.slots;
+    let occupied = buffer.occupied;
+    let settings = buffer.settings;
+    let time = times[0];
+    let tag = tags[0];
+    let length = lengths[0];
+    let slot = slots[0] as usize;
+    let start = SLOT_SIZE * slot;
+    let end = start + (length as usize);
+    judging::copy_into(area, 0, &store[start..end]);
+    columns::remove_first(&mut times, n);
+    columns::remove_first(&mut tags, n);
+    columns::remove_first(&mut lengths, n);
+    columns::remove_first(&mut slots, n);
+    let next = bits::unmark(occupied, slot);
+    Drawn {
+        answer: DrawAnswer::Frame(DrawnFrame {
+            time,
+            channel: tag % 256,
+            class: tag / 256,
+            length,
+        }),
+        buffer: Buffer {
+            times,
+            tags,
+            lengths,
+            slots,
+            occupied: next,
+            last_time: time,
+            last_channel: tag % 256,
+            drawn: 1,
+            settings,
+        },
+    }
+}
+
+// A draw under settings in range.
+fn draw_checked(buffer: Buffer, store: &[u8], area: &mut [u8]) -> Drawn
+    requires { ⌜ inRange (buffer .settings) ≡ true ⌝ }
+    ensures { λ r. ⌜ record { answer = drawNumbers (r .answer); buffer = r .buffer; area = now (area .exit) } ≡ drawCall buffer (now (store .entry)) (now (area .entry)) ⌝ }
+{
+    let times = buffer.times;
+    let tags = buffer.tags;
+    let lengths = buffer.lengths;
+    let slots = buffer.slots;
+    let occupied = buffer.occupied;
+    let settings = buffer.settings;
+    let fixed = Fixed {
+        last_time: buffer.last_time,
+        last_channel: buffer.last_channel,
+        drawn: buffer.drawn,
+        settings,
+    };
+    if well_formed::well_formed(&times, &tags, &lengths, &slots, occupied, fixed) {
+        if store.len() < STORE_SIZE {
+            return refuse_draw(Refusal::AreaTooShort, buffer);
+        }
+        if area.len() < SLOT_SIZE {
+            return refuse_draw(Refusal::AreaTooShort, buffer);
+        }
+        let n = bits::held_in(occupied);
+        if n == 0 {
+            return Drawn {
+                answer: DrawAnswer::Empty,
+                buffer,
+            };
+        }
+        return draw_first(buffer, n, store, area);
+    }
+    refuse_draw(Refusal::MalformedBuffer, buffer)
+}
+
+// The earliest frame handed out, or that the buffer is empty; or a refusal, and everything as it stood.
+pub fn draw(buffer: Buffer, store: &[u8], area: &mut [u8]) -> Drawn
+    ensures { λ r. ⌜ record { answer = drawNumbers (r .answer); buffer = r .buffer; area = now (area .exit) } ≡ drawCall buffer (now (store .entry)) (now (area .entry)) ⌝ }
+{
+    let settings = buffer.settings;
+    if settings::in_range(settings) {
+        return draw_checked(buffer, store, area);
+    }
+    refuse_draw(Refusal::SettingsOutOfRange, buffer)
+}

@@ -1,0 +1,122 @@
+// Columns of a buffer.
+use playout::order;
+use playout::order::Side;
+ghost use mathlib.Core.Path.{_≡_};
+ghost use Prim.Native.Nat.{_≤_, _<_};
+ghost use lib.ListN.{drop};
+ghost use Rattle.playout.specs.Sizes.{slots};
+ghost use Rattle.reorder.specs.Columns.{insertAt, removeFirst, placeFrom, fitsFrom, withinFrom};
+ghost use Rattle.reorder.specs.WellFormed.{zeros};
+
+// Where a pair is held, or belongs.
+pub enum Place {
+    FoundAt(usize),
+    InsertAt(usize),
+}
+
+// A value at a place of a column with n in use; those from there on move up by one.
+pub(crate) fn insert_at(column: &mut [u32; 192], n: usize, at: usize, value: u32)
+    requires { ⌜ (at ≤ n) × (n < slots) ⌝ }
+    ensures { λ _. ⌜ now (column .exit) ≡ insertAt (now (column .entry)) n at value ⌝ }
+{
+    let values: &mut [u32] = column;
+    let mut carry = value;
+    let mut i = at;
+    while i <= n {
+        let x = values[i];
+        values[i] = carry;
+        carry = x;
+        i += 1;
+    }
+}
+
+// The column without its first of n values; a zero comes in after the others.
+pub(crate) fn remove_first(column: &mut [u32; 192], n: usize)
+    requires { ⌜ (1 ≤ n) × (n ≤ slots) ⌝ }
+    ensures { λ _. ⌜ now (column .exit) ≡ removeFirst (now (column .entry)) n ⌝ }
+{
+    let values: &mut [u32] = column;
+    let mut i = 1;
+    while i < n {
+        let x = values[i];
+        values[i - 1] = x;
+        i += 1;
+    }
+    values[n - 1] = 0;
+}
+
+// The place of a pair among the first n entries.
+pub(crate) fn find_place(
+    times: &[u32; 192],
+    tags: &[u32; 192],
+    n: usize,
+    time: u32,
+    channel: u32,
+) -> Place
+    requires { ⌜ n ≤ slots ⌝ }
+    ensures { λ r. ⌜ r ≡ placeFrom (now (times .entry)) (now (tags .entry)) time channel n 0 ⌝ }
+{
+    let mut i = 0;
+    let place = loop {
+        if n <= i {
+            break Place::InsertAt(i);
+        }
+        match order::side_of(time, channel, times[i], tags[i] % 256) {
+            Side::Before => {
+                break Place::InsertAt(i);
+            }
+            Side::Same => {
+                break Place::FoundAt(i);
+            }
+            Side::After => {
+                i += 1;
+            }
+        }
+    };
+    place
+}
+
+// Whether the first n times are all less than half the range ahead of a time.
+fn all_within(times: &[u32; 192], n: usize, time: u32) -> bool
+    requires { ⌜ n ≤ slots ⌝ }
+    ensures { λ r. ⌜ r ≡ withinFrom (now (times .entry)) time n 0 ⌝ }
+{
+    let mut i = 0;
+    while i < n {
+        if order::ticks_ahead(times[i], time) < order::HALF {
+            i += 1;
+        } else {
+            return false;
+        }
+    }
+    true
+}
+
+// Whether the first n times and another fit in a stretch of less than half the range.
+pub(crate) fn in_stretch(times: &[u32; 192], n: usize, time: u32) -> bool
+    requires { ⌜ n ≤ slots ⌝ }
+    ensures { λ r. ⌜ r ≡ fitsFrom (now (times .entry)) time n ⌝ }
+{
+    if n == 0 {
+        return true;
+    }
+    if order::ticks_ahead(time, times[0]) < order::HALF {
+        return true;
+    }
+    all_within(times, n, time)
+}
+
+// Whether a column is zero from the n-th value on.
+pub(crate) fn zero_from(column: &[u32; 192], n: usize) -> bool
+    requires { ⌜ n ≤ slots ⌝ }
+    ensures { λ r. ⌜ r ≡ zeros (drop n (now (column .entry))) ⌝ }
+{
+    let values: &[u32] = column;
+    let mut sum: u64 = 0;
+    let mut i = n;
+    while i < 192 {
+        sum += values[i] as u64;
+        i += 1;
+    }
+    sum == 0
+}

@@ -1,0 +1,7 @@
+// The reorder buffer: gathers frames from packets, and hands them out in time order across the timestamp wrap.
+pub mod bits;
+pub mod buffer;
+pub mod calls;
+pub mod columns;
+pub mod judging;
+pub mod well_formed;
