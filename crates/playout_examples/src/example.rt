@@ -1,0 +1,154 @@
+// A receiver of interleaved mono, and packets for it, printed.
+use reorder::buffer::Buffer;
+use reorder::calls;
+use reorder::calls::DrawAnswer;
+use reorder::calls::DrawnFrame;
+use reorder::calls::OfferAnswer;
+use reorder::calls::Tally;
+use rtp::refusal;
+use rtp::settings::Settings;
+
+fn print(text: &[u8], value: u32) {
+    io::write_all(1, text);
+    io::print_decimal(1, value as u64);
+}
+
+pub(crate) fn zero_store() -> [u8; 61440] {
+    [0; 61440]
+}
+
+// A fresh buffer, under a label.
+pub(crate) fn begin(label: &[u8]) -> Buffer {
+    io::write_all(1, label);
+    io::write_all(1, b"\n");
+    let fresh = calls::new(Settings {
+        format: 2,
+        channels: 1,
+        payload_type: 97,
+        redundancy_type: 128,
+    });
+    fresh.buffer
+}
+
+// The packet of frame-blocks k, k + 5, k + 10 and k + 15, each of 80 bytes that are its number. The time of frame-block 0 is `base`.
+fn packet_of(base: u32, k: u8) -> [u8; 336] {
+    let mut bytes = [k; 336];
+    let time = std::num::wrapping_add_u32(base, 960 * (k as u32));
+    bytes[0] = 0x80;
+    bytes[1] = 97;
+    bytes[4] = (time / 16777216) as u8;
+    bytes[5] = (time / 65536 % 256) as u8;
+    bytes[6] = (time / 256 % 256) as u8;
+    bytes[7] = (time % 256) as u8;
+    bytes[12] = 0x20;
+    bytes[13] = 0x04;
+    bytes[14] = 0x04;
+    bytes[15] = 0x44;
+    number_rest(&mut bytes, 96, std::num::wrapping_add_u8(k, 5));
+    number_rest(&mut bytes, 176, std::num::wrapping_add_u8(k, 10));
+    number_rest(&mut bytes, 256, std::num::wrapping_add_u8(k, 15));
+    bytes
+}
+
+// The bytes from a place on.
+fn number_rest(bytes: &mut [u8; 336], from: usize, number: u8) {
+    let mut i = from;
+    while i < 336 {
+        bytes[i] = number;
+        i += 1;
+    }
+}
+
+fn print_tally(tally: Tally) {
+    print(b" late ", tally.late);
+    print(b" far ", tally.far);
+    print(b" repeated ", tally.repeated);
+    print(b" better ", tally.better);
+    print(b" no room ", tally.no_room);
+    print(b" inserted ", tally.inserted);
+    io::write_all(1, b"\n");
+}
+
+fn zero_rows() -> [u32; 512] {
+    [0; 512]
+}
+
+fn offer(buffer: Buffer, store: &mut [u8], base: u32, k: u8) -> Buffer {
+    let bytes = packet_of(base, k);
+    let mut rows = zero_rows();
+    print(b"offer ", k as u32);
+    let offered = calls::offer(buffer, &bytes, &mut rows, store);
+    let answer = offered.answer;
+    match answer {
+        OfferAnswer::Refused(why) => print(b" refusal ", refusal::refusal_number(why)),
+        OfferAnswer::Judged(tally) => print_tally(tally),
+    }
+    offered.buffer
+}
+
+pub(crate) fn three(buffer: Buffer, store: &mut [u8], base: u32, a: u8, b: u8, c: u8) -> Buffer {
+    let first = offer(buffer, store, base, a);
+    let second = offer(first, store, base, b);
+    offer(second, store, base, c)
+}
+
+fn zero_frame() -> [u8; 320] {
+    [0; 320]
+}
+
+// A byte of a frame-block, if it is not its number.
+fn print_other(byte: u8, number: u32) {
+    let value = byte as u32;
+    if value != number {
+        print(b"!", value);
+    }
+}
+
+// A frame-block's number by its time, and its first and last byte if they tell of another.
+fn print_frame(base: u32, frame: DrawnFrame, area: &[u8; 320]) {
+    let number = std::num::wrapping_sub_u32(frame.time, base) / 960;
+    print(b" ", number);
+    print_other(area[0], number);
+    print_other(area[79], number);
+}
+
+fn draw_one(buffer: Buffer, store: &[u8], base: u32) -> Buffer {
+    let mut area = zero_frame();
+    let drawn = calls::draw(buffer, store, &mut area);
+    let answer = drawn.answer;
+    match answer {
+        DrawAnswer::Refused(why) => print(b" refusal ", refusal::refusal_number(why)),
+        DrawAnswer::Empty => {
+            io::write_all(1, b" empty");
+        }
+        DrawAnswer::Frame(frame) => print_frame(base, frame, &area),
+    }
+    drawn.buffer
+}
+
+fn draw_five(buffer: Buffer, store: &[u8], base: u32) -> Buffer {
+    let first = draw_one(buffer, store, base);
+    let second = draw_one(first, store, base);
+    let third = draw_one(second, store, base);
+    let fourth = draw_one(third, store, base);
+    draw_one(fourth, store, base)
+}
+
+// A single draw.
+pub(crate) fn draw_once(buffer: Buffer, store: &[u8], base: u32) -> Buffer {
+    io::write_all(1, b"draw");
+    let next = draw_one(buffer, store, base);
+    io::write_all(1, b"\n");
+    next
+}
+
+// One draw more than there are frames.
+pub(crate) fn draw_all(buffer: Buffer, store: &[u8], base: u32) {
+    io::write_all(1, b"draw");
+    let a = draw_five(buffer, store, base);
+    let b = draw_five(a, store, base);
+    let c = draw_five(b, store, base);
+    let d = draw_five(c, store, base);
+    draw_five(d, store, base);
+    io::write_all(1, b"\n");
+}

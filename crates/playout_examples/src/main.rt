@@ -1,0 +1,13 @@
+// Document 001's six interleaved packets, each of four frame-blocks five apart, offered to a fresh buffer in several orders, then drawn
+// until the buffer is empty. Prints for each offer how often each verdict was given, and the frame-blocks drawn.
+mod example;
+mod orders;
+
+fn main() {
+    orders::in_order();
+    orders::reversed();
+    orders::mixed();
+    orders::twice();
+    orders::across_the_wrap();
+    orders::after_a_draw();
+}
