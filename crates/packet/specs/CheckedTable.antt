@@ -75,7 +75,7 @@ redundantBlock = record { «payload_type» = 97; offset = 960; length = 82 }
 abbrev pub gsmFrames : List ℕ
 gsmFrames = 0x80 ∷ 0xF0 ∷ 0x00 ∷ filler 28
 
--- the entries 1C 01 and 70 01 have L = 7 and 28
+-- lines 1 to 7; the entries 1C 01 and 70 01 have L = 7 and L = 28
 pub record CheckedTable : Type 0 where
   -- 1. L = 8, 22, 23, 27: 80, 220, 240, 320 bytes. L = 7, 28: refusal 7.
   pub frame-lengths : (g719Length 8 ≡ 80) × (g719Length 22 ≡ 220) × (g719Length 23 ≡ 240) × (g719Length 27 ≡ 320)

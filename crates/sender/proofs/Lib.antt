@@ -4,3 +4,8 @@ pub mod PayloadBackLaws
 pub mod PartLaws
 pub mod BlocksBackLaws
 pub mod PacketTheorem
+pub mod WordLaws
+pub mod ListsLaws
+pub mod PutLaws
+pub mod AgreeLaws
+pub mod SendingLaws

@@ -1,3 +1,4 @@
 pub mod Parts
 pub mod Packets
 pub mod Claims
+pub mod Room

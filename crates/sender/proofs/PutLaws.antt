@@ -1,0 +1,73 @@
+-- Laws of the payloads of a packet's lists as they are put one after another, and of the room that they need.
+use mathlib.Core.Path.{_≡_, refl, ap, sym, _∙_, subst}
+use mathlib.Core.List.{List, _++_}
+use Prim.Native.Nat.{ℕ, _+_, _-_, _*_, _%_, _≤_, _<_}
+use native.Mathlib.Omega.{arith}
+use lib.ListN.{length, getD, take, drop, length-append}
+use borrow.Author.Tests.{le-ltb, eq-eqb}
+use Rattle.rtp.specs.Sizes.{rowWidth}
+use Rattle.rtp.specs.declared.settings.Settings.{Settings}
+use Rattle.payload.specs.Rows.{rowsIn}
+use Rattle.encoder.specs.declared.writing.Written.{Written}
+use Rattle.encoder.specs.Writings.{Encoded, noBytes, bytesOf, encoded, roomFor, writing, Numbers, writtenNumbers, encodedNumbers, encodedBytes}
+use Rattle.sender.specs.Room.{listBytes, listsPayloads, ListRoom, PayloadsRoom}
+use Rattle.sender.proofs.WordLaws.{first-fits, counted-rest, inside-first, inside-rest, whole-first}
+use Rattle.sender.proofs.ListsLaws.{payloads-one, payloads-more}
+
+-- One list
+
+room-all : (x : Encoded) (area : ℕ) → length (encodedBytes x) ≤ area → roomFor area x ≡ x
+unfolding encodedBytes
+room-all (noBytes q) area h = refl
+room-all (bytesOf p) area h = rw (le-ltb area (length p) h)
+
+count-all : (x : Encoded) → encodedNumbers x .count ≡ length (encodedBytes x)
+unfolding encodedNumbers encodedBytes
+count-all (noBytes q) = refl
+count-all (bytesOf p) = refl
+
+module _ (st : Settings) (bytes ws : List ℕ) (area : ℕ) (r : ListRoom st bytes ws area) where
+  pub list-writing : writing st ws bytes area ≡ encoded st bytes (rowsIn ws)
+  unfolding writing
+  list-writing = rw (r .settings, r .inside, eq-eqb (length ws % rowWidth) 0 (r .whole-rows)) (room-all (encoded st bytes (rowsIn ws)) area (r .room))
+
+  pub list-count : (w v : Written) → w ≡ v → writtenNumbers w ≡ encodedNumbers (writing st ws bytes area) → writtenNumbers v .count ≡ length (listBytes st bytes ws)
+  list-count w v e h =
+      ap (λ (x : Written). writtenNumbers x .count) (sym e) ∙ ap (λ (n : Numbers). n .count) h ∙ ap (λ (x : Encoded). encodedNumbers x .count) list-writing ∙ count-all (encoded st bytes (rowsIn ws))
+
+-- A first list and the others
+
+module _ (st : Settings) (bytes counts ws : List ℕ) (area : ℕ) (r : PayloadsRoom st bytes counts ws area) where
+  pub room-one : length counts < 2 → ListRoom st bytes ws area
+  room-one h = record {
+    settings = r .settings;
+    inside = r .inside;
+    whole-rows = omega (arith, r .counted);
+    room = subst (λ (l : List ℕ). length l ≤ area) (payloads-one st bytes counts ws h) (r .room);
+  }
+
+  module _ (h : 2 ≤ length counts) (n : ℕ) (e : n ≡ rowWidth * getD counts 0 0) where
+    pub payloads-split : listsPayloads st bytes counts ws ≡ listBytes st bytes (take n ws) ++ listsPayloads st bytes (drop 1 counts) (drop n ws)
+    payloads-split =
+        subst (λ (k : ℕ). listsPayloads st bytes counts ws ≡ listBytes st bytes (take k ws) ++ listsPayloads st bytes (drop 1 counts) (drop k ws)) (sym e) (payloads-more st bytes counts ws h)
+
+    split-length : length (listBytes st bytes (take n ws)) + length (listsPayloads st bytes (drop 1 counts) (drop n ws)) ≤ area
+    split-length =
+        let l = length-append (listBytes st bytes (take n ws)) (listsPayloads st bytes (drop 1 counts) (drop n ws)) in
+        subst (λ (k : ℕ). k ≤ area) l (subst (λ (l : List ℕ). length l ≤ area) payloads-split (r .room))
+
+    pub room-first : ListRoom st bytes (take n ws) area
+    room-first = record {
+      settings = r .settings;
+      inside = inside-first (length bytes) n (getD counts 0 0) ws e (r .inside);
+      whole-rows = whole-first n (getD counts 0 0) ws e (omega (arith, first-fits counts ws (omega arith) (r .counted)));
+      room = omega (arith, split-length);
+    }
+
+    pub room-rest : (k : ℕ) → k ≡ length (listBytes st bytes (take n ws)) → PayloadsRoom st bytes (drop 1 counts) (drop n ws) (area - k)
+    room-rest k d = record {
+      settings = r .settings;
+      inside = inside-rest (length bytes) n (getD counts 0 0) ws e (r .inside);
+      counted = counted-rest counts ws (omega arith) (r .counted) n e;
+      room = omega (arith, split-length);
+    }

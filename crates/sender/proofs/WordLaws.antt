@@ -1,0 +1,60 @@
+-- Laws of the lists of a packet as words, one after another.
+use mathlib.Core.Path.{_≡_, refl, ap, _∙_}
+use mathlib.Core.List.{List, [], _∷_}
+use mathlib.Core.Bool.{false}
+use Prim.Native.Nat.{ℕ, zero, suc, _+_, _-_, _*_, _%_, _≤_, _<_}
+use native.Mathlib.Omega.{arith}
+use lib.ListN.{length, getD, take, drop, length-drop}
+use lib.Seq.{length-take-le}
+use Rattle.rtp.specs.Sizes.{rowWidth}
+use Rattle.payload.specs.Rows.{Row, rowOf, rowsIn}
+use Rattle.encoder.specs.Lists.{outside}
+pub use Rattle.encoder.proofs.BlockLaws.{rows-drop}
+use Rattle.sender.specs.Parts.{total}
+use Rattle.sender.specs.Room.{Counted}
+use Rattle.sender.proofs.SameFrameLaws.{outside-take, outside-drop}
+
+-- Rows of the first words, and of the others
+
+more-rows : (n : ℕ) → ((ws : List ℕ) → rowsIn (take (rowWidth * n) ws) ≡ take n (rowsIn ws)) → (ws : List ℕ)
+    → rowsIn (take (suc (suc (suc (suc (rowWidth * n))))) ws) ≡ take (suc n) (rowsIn ws)
+unfolding rowsIn
+more-rows n ih [] = refl
+more-rows n ih (a ∷ []) = refl
+more-rows n ih (a ∷ b ∷ []) = refl
+more-rows n ih (a ∷ b ∷ c ∷ []) = refl
+more-rows n ih (a ∷ b ∷ c ∷ d ∷ ws) = ap (λ (l : List Row). rowOf a b c d ∷ l) (ih ws)
+
+pub rows-take : (n : ℕ) (ws : List ℕ) → rowsIn (take (rowWidth * n) ws) ≡ take n (rowsIn ws)
+rows-take zero ws = unfold rowsIn in refl
+rows-take (suc n) ws =
+    let e : rowWidth * suc n ≡ suc (suc (suc (suc (rowWidth * n)))) = omega arith in
+    ap (λ (k : ℕ). rowsIn (take k ws)) e ∙ more-rows n (λ l. rows-take n l) ws
+
+-- The counts and their words
+
+pub total-none : (counts : List ℕ) → length counts ≡ 0 → total counts ≡ 0
+unfolding total
+total-none [] h = refl
+total-none (n ∷ ns) h = absurd (omega arith)
+
+pub total-first : (counts : List ℕ) → 0 < length counts → total counts ≡ getD counts 0 0 + total (drop 1 counts)
+unfolding total
+total-first [] h = absurd (omega arith)
+total-first (n ∷ ns) h = refl
+
+module _ (counts ws : List ℕ) (some : 0 < length counts) (counted : Counted counts ws) where
+  pub first-fits : rowWidth * getD counts 0 0 ≤ length ws
+  first-fits = omega (arith, total-first counts some)
+
+  pub counted-rest : (n : ℕ) → n ≡ rowWidth * getD counts 0 0 → Counted (drop 1 counts) (drop n ws)
+  counted-rest n e = let d = length-drop n ws in omega (arith, total-first counts some)
+
+pub inside-first : (m n k : ℕ) (ws : List ℕ) → n ≡ rowWidth * k → outside m (rowsIn ws) ≡ false → outside m (rowsIn (take n ws)) ≡ false
+inside-first m n k ws e h = ap (λ (i : ℕ). outside m (rowsIn (take i ws))) e ∙ ap (outside m) (rows-take k ws) ∙ outside-take m k (rowsIn ws) h
+
+pub inside-rest : (m n k : ℕ) (ws : List ℕ) → n ≡ rowWidth * k → outside m (rowsIn ws) ≡ false → outside m (rowsIn (drop n ws)) ≡ false
+inside-rest m n k ws e h = ap (λ (i : ℕ). outside m (rowsIn (drop i ws))) e ∙ ap (outside m) (rows-drop k ws) ∙ outside-drop m k (rowsIn ws) h
+
+pub whole-first : (n k : ℕ) (ws : List ℕ) → n ≡ rowWidth * k → n ≤ length ws → length (take n ws) % rowWidth ≡ 0
+whole-first n k ws e h = let l = length-take-le n ws h in omega arith

@@ -1,0 +1,43 @@
+use mathlib.Core.Path.{refl}
+use denote.Ref.{now}
+use Rattle.rtp.proofs.AreaLaws.{over-part}
+use Rattle.sender.specs.Packets.{four}
+use borrow.Author.Needs.{needs}
+use Rattle.sender.proofs.headers.put_stamps.Statement.{statement}
+use Rattle.sender.proofs.headers.put_stamps.Tie as tie
+use Rattle.sender.proofs.headers.put_stamps.Reads as reads
+use Rattle.sender.proofs.headers.put_stamps.Lts as lts
+use Rattle.sender.proofs.headers.put_u32.Reads as put-u32-reads
+
+put-u32-requires : tie.Need-put-u32-requires
+put-u32-requires c κs = search needs
+
+sub-put-u32 : tie.Need-sub-put-u32
+sub-put-u32 c = search needs
+
+part-put-u32-start : tie.Need-part-put-u32-start
+part-put-u32-start c = search needs
+
+part-put-u32-end : tie.Need-part-put-u32-end
+part-put-u32-end c = search needs
+
+put-u32-requires-2 : tie.Need-put-u32-requires-2
+put-u32-requires-2 c κs = search needs
+
+same-length : tie.Need-same-length
+same-length c = search needs
+
+returns : tie.Need-returns
+returns c = let a = c .before .before .before .before .before .before .before .before .before .args in over-part (four (a .time)) (four (a .source)) (now (a .out)) (c .before .before .before .before .before .before .put-u32 .last .0) _ 4 refl (c .before .before .before .before .before .before .put-u32 .ensures) (c .before .before .put-u322 .ensures)
+
+pub put-stamps-spec : {M : Type 1} → statement M
+put-stamps-spec =
+    tie.close
+    (tie.spec
+    put-u32-requires
+    sub-put-u32
+    part-put-u32-start
+    part-put-u32-end
+    put-u32-requires-2
+    same-length
+    returns)

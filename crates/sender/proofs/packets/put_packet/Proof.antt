@@ -1,0 +1,97 @@
+use Prim.Native.Nat.{ℕ}
+use mathlib.Core.Path.{refl, ap, sym, _∙_}
+use mathlib.Core.List.{List, _++_}
+use native.Mathlib.Omega.{arith}
+use lib.ListN.{length}
+use denote.Ref.{now}
+use Rattle.rtp.specs.Sizes.{minPacket}
+use Rattle.rtp.specs.Areas.{over}
+use Rattle.rtp.proofs.AreaLaws.{over-part, part-length}
+use Rattle.payload.specs.Rows.{rowsIn}
+use Rattle.sender.specs.Parts.{parts}
+use Rattle.sender.specs.Packets.{Heading, headerBytes, assembledFrom}
+use Rattle.sender.specs.Room.{listsHeaders, listsPayloads}
+use Rattle.sender.proofs.AgreeLaws.{plain-type}
+use Rattle.sender.proofs.SendingLaws.{Plain, plain-packet, Redundant, redundant-packet}
+use borrow.Author.Needs.{needs}
+use Rattle.sender.proofs.packets.put_packet.Statement.{statement}
+use Rattle.sender.proofs.packets.put_packet.Tie as tie
+use Rattle.sender.proofs.packets.put_packet.Reads as reads
+use Rattle.sender.proofs.packets.put_packet.Lts as lts
+use Rattle.sender.proofs.headers.put_header.Reads as put-header-reads
+use Rattle.sender.proofs.packets.put_blocks.Reads as put-blocks-reads
+use Rattle.sender.proofs.packets.put_payloads.Reads as put-payloads-reads
+
+abbrev heading : tie.Start → Heading
+heading c = record { marker = c .args .marker; sequence = c .args .sequence; source = c .args .source }
+
+plain-at : (c : tie.Then1) → let a = c .before .before .before .before .before .args in Plain (a .asked) (heading (c .before .before .before .before .before)) (a .time) (now (a .bytes)) (now (a .counts)) (now (a .rows)) (length (now (a .out))) (assembledFrom (a .asked) (heading (c .before .before .before .before .before)) (a .time) (parts (a .asked) (now (a .bytes)) (a .time) (now (a .counts)) (rowsIn (now (a .rows)))))
+plain-at c = let a = c .before .before .before .before .before .args in plain-packet (a .asked) (heading (c .before .before .before .before .before)) (a .time) (now (a .bytes)) (now (a .counts)) (now (a .rows)) (length (now (a .out))) (c .before .before .before .before .before .pre) (c .if1 .taken)
+
+redundant-at : (c : tie.Else1) → let a = c .before .before .before .before .before .args in Redundant (a .asked) (heading (c .before .before .before .before .before)) (a .time) (now (a .bytes)) (now (a .counts)) (now (a .rows)) (length (now (a .out))) (assembledFrom (a .asked) (heading (c .before .before .before .before .before)) (a .time) (parts (a .asked) (now (a .bytes)) (a .time) (now (a .counts)) (rowsIn (now (a .rows)))))
+redundant-at c = let a = c .before .before .before .before .before .args in redundant-packet (a .asked) (heading (c .before .before .before .before .before)) (a .time) (now (a .bytes)) (now (a .counts)) (now (a .rows)) (length (now (a .out))) (c .before .before .before .before .before .pre) (c .if1 .left)
+
+put-header-requires : tie.Need-put-header-requires
+put-header-requires c κs = (plain-at (c .before) .room, plain-type (c .before .before .before .before .before .before .args .asked) (c .before .before .before .before .before .before .pre .settings))
+
+sub-put-payloads : tie.Need-sub-put-payloads
+sub-put-payloads c = omega (arith, plain-at (c .before .before .before .before) .room, c .before .before .put-header .kept .0)
+
+part-put-payloads-start : tie.Need-part-put-payloads-start
+part-put-payloads-start c = omega (arith, plain-at (c .before .before .before .before) .room, c .before .before .put-header .kept .0)
+
+part-put-payloads-end : tie.Need-part-put-payloads-end
+part-put-payloads-end c = search needs
+
+put-payloads-requires : tie.Need-put-payloads-requires
+put-payloads-requires c κs = rw (part-length (c .before .before .before .put-header .last .0) (now (c .before .before .before .before .before .before .before .before .before .before .args .out)) minPacket (c .before .before .before .put-header .kept .0)) (plain-at (c .before .before .before .before .before) .payloads)
+
+same-length : tie.Need-same-length
+same-length c = search needs
+
+returns : tie.Need-returns
+returns c = let a = c .before .before .before .before .before .before .before .before .before .before .before .before .before .args in
+    over-part (headerBytes (heading (c .before .before .before .before .before .before .before .before .before .before .before .before .before)) (a .asked .«payload_type») (a .time)) (listsPayloads (a .asked) (now (a .bytes)) (now (a .counts)) (now (a .rows))) (now (a .out)) (c .before .before .before .before .before .before .put-header .last .0) _ minPacket refl (c .before .before .before .before .before .before .put-header .ensures) (c .before .before .put-payloads .ensures)
+    ∙ ap (λ (x : List ℕ). over x (now (a .out))) (sym (plain-at (c .before .before .before .before .before .before .before .before) .packet))
+
+put-header-requires-2 : tie.Need-put-header-requires-2
+put-header-requires-2 c κs = (redundant-at (c .before) .room, redundant-at (c .before) .type)
+
+sub-put-blocks : tie.Need-sub-put-blocks
+sub-put-blocks c = omega (arith, redundant-at (c .before .before .before .before) .room, c .before .before .put-header2 .kept .0)
+
+part-put-blocks-start : tie.Need-part-put-blocks-start
+part-put-blocks-start c = omega (arith, redundant-at (c .before .before .before .before) .room, c .before .before .put-header2 .kept .0)
+
+part-put-blocks-end : tie.Need-part-put-blocks-end
+part-put-blocks-end c = search needs
+
+put-blocks-requires : tie.Need-put-blocks-requires
+put-blocks-requires c κs = rw (part-length (c .before .before .before .put-header2 .last .0) (now (c .before .before .before .before .before .before .before .before .before .before .args .out)) minPacket (c .before .before .before .put-header2 .kept .0)) (redundant-at (c .before .before .before .before .before) .blocks)
+
+same-length-2 : tie.Need-same-length-2
+same-length-2 c = search needs
+
+returns-2 : tie.Need-returns-2
+returns-2 c = let a = c .before .before .before .before .before .before .before .before .before .before .before .before .before .args in
+    over-part (headerBytes (heading (c .before .before .before .before .before .before .before .before .before .before .before .before .before)) (a .asked .«redundancy_type») (a .time)) (listsHeaders (a .asked) (a .time) (now (a .counts)) (now (a .rows)) ++ listsPayloads (a .asked) (now (a .bytes)) (now (a .counts)) (now (a .rows))) (now (a .out)) (c .before .before .before .before .before .before .put-header2 .last .0) _ minPacket refl (c .before .before .before .before .before .before .put-header2 .ensures) (c .before .before .put-blocks .ensures)
+    ∙ ap (λ (x : List ℕ). over x (now (a .out))) (sym (redundant-at (c .before .before .before .before .before .before .before .before) .packet))
+
+pub put-packet-spec : {M : Type 1} → statement M
+put-packet-spec =
+    tie.close
+    (tie.spec
+    put-header-requires
+    sub-put-payloads
+    part-put-payloads-start
+    part-put-payloads-end
+    put-payloads-requires
+    same-length
+    returns
+    put-header-requires-2
+    sub-put-blocks
+    part-put-blocks-start
+    part-put-blocks-end
+    put-blocks-requires
+    same-length-2
+    returns-2)

@@ -1,0 +1,131 @@
+-- What the functions that write a packet ask of one another inside this crate: the lists of a packet as words, one after another.
+use Prim.Native.Nat.{ℕ, _+_, _-_, _*_, _/_, _%_, _≤_, _<_}
+use mathlib.Core.Path.{_≡_}
+use mathlib.Core.List.{List, [], _∷_, _++_}
+use mathlib.Core.Bool.{true, false, cond}
+use lib.ListN.{length, take, drop}
+use lib.Dec.{ltb, eqb}
+use Rattle.rtp.specs.Sizes.{minPacket, maxPacket, rowWidth}
+use Rattle.rtp.specs.Ranges.{inRange, noRedundancy}
+use Rattle.rtp.specs.Redundancy.{before}
+use Rattle.rtp.specs.declared.settings.Settings.{Settings}
+use Rattle.rtp.specs.declared.refusal.Refusal.the-variants.{Unwritable}
+use Rattle.encoder.specs.Lists.{rowsIn, outside}
+use Rattle.encoder.specs.Writings.{Encoded, noBytes, bytesOf, encoded, encodedBytes, Numbers, refusedNumbers, measured}
+use Rattle.encoder.specs.Claims.{firstTime}
+use Rattle.sender.specs.Parts.{maxOffset, maxBlock, total, parts}
+use Rattle.sender.specs.Packets.{Heading, assembledFrom}
+
+-- a redundant block's header by its numbers
+abbrev pub blockHeaderOf : ℕ → ℕ → ℕ → List ℕ
+blockHeaderOf type offset size = (128 + type) ∷ (offset / 64) ∷ (4 * (offset % 64) + size / 256) ∷ (size % 256) ∷ []
+
+-- the words are the lists' rows
+abbrev pub Counted : List ℕ → List ℕ → Type 0
+Counted counts ws = length ws ≡ rowWidth * total counts
+
+-- Sizes
+
+-- how far before `time` the list stands
+abbrev pub offsetOf : ℕ → List ℕ → ℕ
+offsetOf time ws = before time (firstTime (rowsIn ws))
+
+-- the bytes that a redundant list takes, its block header too
+unfoldable pub redundantNumbers : Settings → ℕ → List ℕ → Numbers
+redundantNumbers st time ws =
+    cond (eqb (measured st ws .refusal) 0)
+    (cond (ltb maxBlock (measured st ws .count)) (refusedNumbers Unwritable)
+    (cond (ltb maxOffset (offsetOf time ws)) (refusedNumbers Unwritable) (record { refusal = 0; count = 4 + measured st ws .count })))
+    (refusedNumbers Unwritable)
+
+abbrev pub addNumbers : Numbers → Numbers → Numbers
+addNumbers m n = cond (eqb (m .refusal) 0) (cond (eqb (n .refusal) 0) (record { refusal = 0; count = m .count + n .count }) (refusedNumbers Unwritable)) (refusedNumbers Unwritable)
+
+-- the bytes that the lists take, but for the primary block's header
+unfoldable pub listsNumbers : Settings → ℕ → List ℕ → List ℕ → Numbers
+listsNumbers st time [] ws = measured st ws
+listsNumbers st time (n ∷ []) ws = measured st ws
+listsNumbers st time (n ∷ m ∷ ns) ws =
+    addNumbers (redundantNumbers st time (take (rowWidth * n) ws)) (listsNumbers st time (m ∷ ns) (drop (rowWidth * n) ws))
+
+-- a packet of so many bytes is within 2,048
+abbrev pub withinNumbers : ℕ → Numbers
+withinNumbers n = cond (ltb maxPacket n) (refusedNumbers Unwritable) (record { refusal = 0; count = n })
+
+-- the bytes of a packet of k lists that take so many: with redundant lists it has the primary block's header of one byte
+abbrev pub packetNumbers : Settings → ℕ → Numbers → Numbers
+packetNumbers st k n =
+    cond (eqb (n .refusal) 0)
+    (cond (ltb k 2) (withinNumbers (minPacket + n .count))
+    (cond (eqb (st .«redundancy_type») noRedundancy) (refusedNumbers Unwritable) (withinNumbers (minPacket + 1 + n .count))))
+    (refusedNumbers Unwritable)
+
+-- Headers
+
+unfoldable pub listsHeaders : Settings → ℕ → List ℕ → List ℕ → List ℕ
+listsHeaders st time [] ws = st .«payload_type» ∷ []
+listsHeaders st time (n ∷ []) ws = st .«payload_type» ∷ []
+listsHeaders st time (n ∷ m ∷ ns) ws =
+    blockHeaderOf (st .«payload_type») (offsetOf time (take (rowWidth * n) ws)) (measured st (take (rowWidth * n) ws) .count)
+    ++ listsHeaders st time (m ∷ ns) (drop (rowWidth * n) ws)
+
+-- the numbers of a list's block header fit in it
+pub record HeaderFits (st : Settings) (time : ℕ) (ws : List ℕ) : Type 0 where
+  pub type : st .«payload_type» < 128
+  pub near : offsetOf time ws ≤ maxOffset
+  pub short : measured st ws .count ≤ maxBlock
+
+abbrev pub HeadersFit : Settings → ℕ → List ℕ → List ℕ → Type 0
+HeadersFit st time [] ws = Unit {0}
+HeadersFit st time (n ∷ []) ws = Unit {0}
+HeadersFit st time (n ∷ m ∷ ns) ws = HeaderFits st time (take (rowWidth * n) ws) × HeadersFit st time (m ∷ ns) (drop (rowWidth * n) ws)
+
+pub record HeadersRoom (st : Settings) (time : ℕ) (counts ws : List ℕ) (area : ℕ) : Type 0 where
+  pub counted : Counted counts ws
+  pub some : 0 < length counts
+  pub fit : HeadersFit st time counts ws
+  pub room : 4 * length counts ≤ area + 3
+
+-- Payloads
+
+abbrev pub listBytes : Settings → List ℕ → List ℕ → List ℕ
+listBytes st bytes ws = encodedBytes (encoded st bytes (rowsIn ws))
+
+unfoldable pub listsPayloads : Settings → List ℕ → List ℕ → List ℕ → List ℕ
+listsPayloads st bytes [] ws = listBytes st bytes ws
+listsPayloads st bytes (n ∷ []) ws = listBytes st bytes ws
+listsPayloads st bytes (n ∷ m ∷ ns) ws = listBytes st bytes (take (rowWidth * n) ws) ++ listsPayloads st bytes (m ∷ ns) (drop (rowWidth * n) ws)
+
+-- a list inside its bytes, and room for its payload
+pub record ListRoom (st : Settings) (bytes ws : List ℕ) (area : ℕ) : Type 0 where
+  pub settings : inRange st ≡ true
+  pub inside : outside (length bytes) (rowsIn ws) ≡ false
+  pub whole-rows : length ws % rowWidth ≡ 0
+  pub room : length (listBytes st bytes ws) ≤ area
+
+pub record PayloadsRoom (st : Settings) (bytes counts ws : List ℕ) (area : ℕ) : Type 0 where
+  pub settings : inRange st ≡ true
+  pub inside : outside (length bytes) (rowsIn ws) ≡ false
+  pub counted : Counted counts ws
+  pub room : length (listsPayloads st bytes counts ws) ≤ area
+
+-- the block headers, and the payloads after them
+abbrev pub headersSize : ℕ → ℕ
+headersSize k = 1 + 4 * (k - 1)
+
+pub record BlocksRoom (st : Settings) (time : ℕ) (bytes counts ws : List ℕ) (area : ℕ) : Type 0 where
+  pub headers : HeadersRoom st time counts ws area
+  pub payloads : PayloadsRoom st bytes counts ws (area - headersSize (length counts))
+
+-- Packets
+
+abbrev pub BytesRoom : Encoded → ℕ → Type 0
+BytesRoom (noBytes r) area = ⊥
+BytesRoom (bytesOf p) area = length p ≤ area
+
+pub record PacketRoom (st : Settings) (h : Heading) (time : ℕ) (bytes counts ws : List ℕ) (area : ℕ) : Type 0 where
+  pub settings : inRange st ≡ true
+  pub inside : outside (length bytes) (rowsIn ws) ≡ false
+  pub counted : Counted counts ws
+  pub some : 0 < length counts
+  pub room : BytesRoom (assembledFrom st h time (parts st bytes time counts (rowsIn ws))) area

@@ -1,0 +1,190 @@
+// Packets, written.
+use crate::headers;
+use crate::sizes;
+use encoder::lists;
+use encoder::writing;
+use encoder::writing::Written;
+use rtp::header::MAX_PACKET;
+use rtp::header::MIN_PACKET;
+use rtp::refusal::Refusal;
+use rtp::settings;
+use rtp::settings::NO_REDUNDANCY;
+use rtp::settings::Settings;
+ghost use mathlib.Core.Path.{_≡_};
+ghost use Prim.Native.Nat.{_+_, _≤_, _<_};
+ghost use mathlib.Core.List.{_++_};
+ghost use lib.ListN.{length};
+ghost use Rattle.rtp.specs.Areas.{over};
+ghost use Rattle.encoder.specs.Lists.{rowsIn};
+ghost use Rattle.encoder.specs.Writings.{writtenNumbers, encodedNumbers, encodedBytes, measured};
+ghost use Rattle.sender.specs.Parts.{maxRedundant, parts};
+ghost use Rattle.sender.specs.Packets.{assembledFrom, sending};
+ghost use Rattle.sender.specs.Room.{Counted, blockHeaderOf, offsetOf, listsNumbers, withinNumbers, packetNumbers, HeaderFits, listsHeaders, HeadersRoom, listBytes, ListRoom, listsPayloads, PayloadsRoom, BlocksRoom, PacketRoom};
+
+// A packet of so many bytes is within 2,048.
+fn within_packet(size: usize) -> Written
+    ensures { λ r. ⌜ writtenNumbers r ≡ withinNumbers size ⌝ }
+{
+    if MAX_PACKET < size {
+        return Written::Refused(Refusal::Unwritable);
+    }
+    Written::Bytes(size)
+}
+
+// The bytes of a packet of the lists.
+fn packet_size(asked: Settings, time: u32, counts: &[u32], rows: &[u32]) -> Written
+    requires { ⌜ (length (now counts) ≤ maxRedundant + 1) × Counted (now counts) (now rows) ⌝ }
+    ensures { λ r. ⌜ writtenNumbers r ≡ packetNumbers asked (length (now (counts .entry))) (listsNumbers asked time (now (counts .entry)) (now (rows .entry))) ⌝ }
+{
+    match sizes::measure_lists(asked, time, counts, rows) {
+        Written::Refused(_) => Written::Refused(Refusal::Unwritable),
+        Written::Bytes(size) => {
+            if counts.len() < 2 {
+                return within_packet(MIN_PACKET + size);
+            }
+            if asked.redundancy_type == NO_REDUNDANCY {
+                return Written::Refused(Refusal::Unwritable);
+            }
+            within_packet(MIN_PACKET + 1 + size)
+        }
+    }
+}
+
+// The block header of a redundant list.
+fn put_list_header(asked: Settings, time: u32, rows: &[u32], out: &mut [u8])
+    requires { ⌜ HeaderFits asked time (now rows) × (4 ≤ length (now out)) ⌝ }
+    ensures { λ _. ⌜ now (out .exit) ≡ over (blockHeaderOf (asked .«payload_type») (offsetOf time (now (rows .entry))) (measured asked (now (rows .entry)) .count)) (now (out .entry)) ⌝ }
+{
+    let offset = sizes::offset_of(time, rows);
+    let size = sizes::list_size(asked, rows);
+    headers::put_block_header(out, asked.payload_type, offset, size);
+}
+
+// The block headers of the lists, the primary one's last.
+fn put_headers(asked: Settings, time: u32, counts: &[u32], rows: &[u32], out: &mut [u8])
+    requires { ⌜ HeadersRoom asked time (now counts) (now rows) (length (now out)) ⌝ }
+    ensures { λ _. ⌜ now (out .exit) ≡ over (listsHeaders asked time (now (counts .entry)) (now (rows .entry))) (now (out .entry)) ⌝ }
+{
+    if counts.len() < 2 {
+        out[0] = asked.payload_type;
+        return;
+    }
+    let n = sizes::first_words(counts, rows);
+    put_list_header(asked, time, &rows[..n], out);
+    put_headers(asked, time, &counts[1..], &rows[n..], &mut out[4..]);
+}
+
+// A list's payload; answers its bytes.
+fn put_list(asked: Settings, rows: &[u32], bytes: &[u8], out: &mut [u8]) -> usize
+    requires { ⌜ ListRoom asked (now bytes) (now rows) (length (now out)) ⌝ }
+    ensures { λ r. ⌜ (r ≡ length (listBytes asked (now (bytes .entry)) (now (rows .entry))))
+        × (now (out .exit) ≡ over (listBytes asked (now (bytes .entry)) (now (rows .entry))) (now (out .entry))) ⌝ }
+{
+    match writing::write_payload(asked, rows, bytes, out) {
+        Written::Bytes(size) => size,
+        Written::Refused(_) => 0,
+    }
+}
+
+// The payloads of the lists, one after another.
+fn put_payloads(asked: Settings, counts: &[u32], rows: &[u32], bytes: &[u8], out: &mut [u8])
+    requires { ⌜ PayloadsRoom asked (now bytes) (now counts) (now rows) (length (now out)) ⌝ }
+    ensures { λ _. ⌜ now (out .exit) ≡ over (listsPayloads asked (now (bytes .entry)) (now (counts .entry)) (now (rows .entry))) (now (out .entry)) ⌝ }
+{
+    if counts.len() < 2 {
+        put_list(asked, rows, bytes, out);
+        return;
+    }
+    let n = sizes::first_words(counts, rows);
+    let size = put_list(asked, &rows[..n], bytes, out);
+    put_payloads(asked, &counts[1..], &rows[n..], bytes, &mut out[size..]);
+}
+
+// The block headers of the lists, then their payloads.
+fn put_blocks(
+    asked: Settings,
+    time: u32,
+    counts: &[u32],
+    rows: &[u32],
+    bytes: &[u8],
+    out: &mut [u8],
+)
+    requires { ⌜ BlocksRoom asked time (now bytes) (now counts) (now rows) (length (now out)) ⌝ }
+    ensures { λ _. ⌜ now (out .exit) ≡ over (listsHeaders asked time (now (counts .entry)) (now (rows .entry)) ++ listsPayloads asked (now (bytes .entry)) (now (counts .entry)) (now (rows .entry))) (now (out .entry)) ⌝ }
+{
+    put_headers(asked, time, counts, rows, out);
+    let size = 1 + 4 * (counts.len() - 1);
+    put_payloads(asked, counts, rows, bytes, &mut out[size..]);
+}
+
+// A packet of the lists, the last of which stands at `time`.
+fn put_packet(
+    asked: Settings,
+    marker: u8,
+    sequence: u16,
+    source: u32,
+    time: u32,
+    counts: &[u32],
+    rows: &[u32],
+    bytes: &[u8],
+    out: &mut [u8],
+)
+    requires { ⌜ PacketRoom asked (record { marker = marker; sequence = sequence; source = source }) time (now bytes) (now counts) (now rows) (length (now out)) ⌝ }
+    ensures { λ _. ⌜ now (out .exit) ≡ over (encodedBytes (assembledFrom asked (record { marker = marker; sequence = sequence; source = source }) time (parts asked (now (bytes .entry)) time (now (counts .entry)) (rowsIn (now (rows .entry)))))) (now (out .entry)) ⌝ }
+{
+    if counts.len() < 2 {
+        headers::put_header(out, marker, sequence, source, asked.payload_type, time);
+        put_payloads(asked, counts, rows, bytes, &mut out[MIN_PACKET..]);
+        return;
+    }
+    headers::put_header(out, marker, sequence, source, asked.redundancy_type, time);
+    put_blocks(asked, time, counts, rows, bytes, &mut out[MIN_PACKET..]);
+}
+
+// The packet of the counted lists, whose rows point into `bytes`, over the front of the area; or a refusal and the area unchanged.
+pub fn write_packet(
+    asked: Settings,
+    marker: u8,
+    sequence: u16,
+    source: u32,
+    counts: &[u32],
+    rows: &[u32],
+    bytes: &[u8],
+    out: &mut [u8],
+) -> Written
+    ensures { λ r. ⌜ (writtenNumbers r ≡ encodedNumbers (sending asked (record { marker = marker; sequence = sequence; source = source }) (now (counts .entry)) (now (rows .entry)) (now (bytes .entry)) (length (now (out .entry)))))
+        × (now (out .exit) ≡ over (encodedBytes (sending asked (record { marker = marker; sequence = sequence; source = source }) (now (counts .entry)) (now (rows .entry)) (now (bytes .entry)) (length (now (out .entry))))) (now (out .entry))) ⌝ }
+{
+    if settings::in_range(asked) {
+        if lists::any_outside(rows, bytes.len()) {
+            return Written::Refused(Refusal::RowOutsideBytes);
+        }
+        if sizes::counts_fit(counts, rows) {
+            let time = sizes::primary_time(counts, rows);
+            match packet_size(asked, time, counts, rows) {
+                Written::Refused(_) => Written::Refused(Refusal::Unwritable),
+                Written::Bytes(size) => {
+                    if out.len() < size {
+                        return Written::Refused(Refusal::AreaTooShort);
+                    }
+                    put_packet(
+                        asked,
+                        marker,
+                        sequence,
+                        source,
+                        time,
+                        counts,
+                        rows,
+                        bytes,
+                        out,
+                    );
+                    Written::Bytes(size)
+                }
+            }
+        } else {
+            Written::Refused(Refusal::Unwritable)
+        }
+    } else {
+        Written::Refused(Refusal::SettingsOutOfRange)
+    }
+}
