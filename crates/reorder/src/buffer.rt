@@ -11,7 +11,8 @@ pub const SLOT_SIZE: usize = 320;
 pub const STORE_SIZE: usize = 61440;
 
 // Entries in time order, one column for each part of an entry, unused ones zero; a tag is 256 * class + channel, as in a row.
-// Then which slots are occupied, the last pair drawn, 1 if there is one, and the settings.
+// Then which slots are occupied, the last pair drawn, 1 if there is one, and the settings. Laid out as C's hsp_buffer.
+#[repr(C)]
 pub struct Buffer {
     pub times: [u32; 192],
     pub tags: [u32; 192],

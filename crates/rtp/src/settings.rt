@@ -12,6 +12,8 @@ pub const GSM_HR: u8 = 3;
 // The redundancy type that says: no redundancy.
 pub const NO_REDUNDANCY: u8 = 128;
 
+// Laid out as C's hsp_settings.
+#[repr(C)]
 pub struct Settings {
     pub format: u8,
     pub channels: u8,

@@ -1,0 +1,133 @@
+// hsp_new, hsp_offer and hsp_draw: the calls on a reorder buffer.
+use reorder::buffer::Buffer;
+use reorder::calls;
+use reorder::calls::DrawAnswer;
+use reorder::calls::NewAnswer;
+use reorder::calls::OfferAnswer;
+use rtp::refusal;
+use rtp::settings::Settings;
+ghost use mathlib.Core.Path.{_≡_};
+ghost use Rattle.reorder.specs.Calls.{newCall, offerCall, drawCall};
+ghost use Rattle.heolstorpit.specs.Answers.{freshAnswer, offeredAnswer, drawnAnswer};
+
+// hsp_fresh: the refusal number or 0.
+#[repr(C)]
+pub struct HspFresh {
+    pub refusal: u32,
+    pub buffer: Buffer,
+}
+
+// hsp_offered: the refusal number or 0; then how often each verdict was given, zeros on refusal.
+#[repr(C)]
+pub struct HspOffered {
+    pub refusal: u32,
+    pub late: u32,
+    pub far: u32,
+    pub repeated: u32,
+    pub better: u32,
+    pub no_room: u32,
+    pub inserted: u32,
+    pub buffer: Buffer,
+}
+
+// hsp_drawn: the refusal number or 0, 1 if no frame is held, and the frame, or zeros.
+#[repr(C)]
+pub struct HspDrawn {
+    pub refusal: u32,
+    pub empty: u32,
+    pub time: u32,
+    pub channel: u32,
+    pub frame_class: u32,
+    pub length: u32,
+    pub buffer: Buffer,
+}
+
+#[no_mangle]
+pub extern "C" fn hsp_new(settings: Settings) -> HspFresh
+    ensures { λ r. ⌜ freshAnswer r ≡ newCall settings ⌝ }
+{
+    let fresh = calls::new(settings);
+    let buffer = fresh.buffer;
+    let answer = fresh.answer;
+    match answer {
+        NewAnswer::Accepted => HspFresh { refusal: 0, buffer },
+        NewAnswer::Refused(reason) => HspFresh {
+            refusal: refusal::refusal_number(reason),
+            buffer,
+        },
+    }
+}
+
+#[no_mangle]
+pub extern "C" fn hsp_offer(
+    buffer: Buffer,
+    packet: &[u8],
+    rows: &mut [u32],
+    store: &mut [u8],
+) -> HspOffered
+    ensures { λ r. ⌜ record { answer = offeredAnswer r; buffer = r .buffer; rows = now (rows .exit); store = now (store .exit) } ≡ offerCall buffer (now (packet .entry)) (now (rows .entry)) (now (store .entry)) ⌝ }
+{
+    let offered = calls::offer(buffer, packet, rows, store);
+    let left = offered.buffer;
+    let answer = offered.answer;
+    match answer {
+        OfferAnswer::Judged(tally) => HspOffered {
+            refusal: 0,
+            late: tally.late,
+            far: tally.far,
+            repeated: tally.repeated,
+            better: tally.better,
+            no_room: tally.no_room,
+            inserted: tally.inserted,
+            buffer: left,
+        },
+        OfferAnswer::Refused(reason) => HspOffered {
+            refusal: refusal::refusal_number(reason),
+            late: 0,
+            far: 0,
+            repeated: 0,
+            better: 0,
+            no_room: 0,
+            inserted: 0,
+            buffer: left,
+        },
+    }
+}
+
+#[no_mangle]
+pub extern "C" fn hsp_draw(buffer: Buffer, store: &[u8], area: &mut [u8]) -> HspDrawn
+    ensures { λ r. ⌜ record { answer = drawnAnswer r; buffer = r .buffer; area = now (area .exit) } ≡ drawCall buffer (now (store .entry)) (now (area .entry)) ⌝ }
+{
+    let drawn = calls::draw(buffer, store, area);
+    let left = drawn.buffer;
+    let answer = drawn.answer;
+    match answer {
+        DrawAnswer::Frame(frame) => HspDrawn {
+            refusal: 0,
+            empty: 0,
+            time: frame.time,
+            channel: frame.channel,
+            frame_class: frame.class,
+            length: frame.length,
+            buffer: left,
+        },
+        DrawAnswer::Empty => HspDrawn {
+            refusal: 0,
+            empty: 1,
+            time: 0,
+            channel: 0,
+            frame_class: 0,
+            length: 0,
+            buffer: left,
+        },
+        DrawAnswer::Refused(reason) => HspDrawn {
+            refusal: refusal::refusal_number(reason),
+            empty: 0,
+            time: 0,
+            channel: 0,
+            frame_class: 0,
+            length: 0,
+            buffer: left,
+        },
+    }
+}

@@ -1,0 +1,39 @@
+// hsp_write_payload: a payload written alone.
+use encoder::writing;
+use encoder::writing::Written;
+use rtp::refusal;
+use rtp::settings::Settings;
+ghost use mathlib.Core.Path.{_≡_};
+ghost use lib.ListN.{length};
+ghost use Rattle.rtp.specs.Areas.{over};
+ghost use Rattle.encoder.specs.Writings.{writing, encodedNumbers, encodedBytes};
+ghost use Rattle.heolstorpit.specs.Answers.{writtenAnswer};
+
+// hsp_written: the refusal number or 0, and the byte count, 0 on refusal.
+#[repr(C)]
+pub struct HspWritten {
+    pub refusal: u32,
+    pub length: u32,
+}
+
+#[no_mangle]
+pub extern "C" fn hsp_write_payload(
+    settings: Settings,
+    rows: &[u32],
+    bytes: &[u8],
+    out: &mut [u8],
+) -> HspWritten
+    ensures { λ r. ⌜ (writtenAnswer r ≡ encodedNumbers (writing settings (now (rows .entry)) (now (bytes .entry)) (length (now (out .entry)))))
+        × (now (out .exit) ≡ over (encodedBytes (writing settings (now (rows .entry)) (now (bytes .entry)) (length (now (out .entry))))) (now (out .entry))) ⌝ }
+{
+    match writing::write_payload(settings, rows, bytes, out) {
+        Written::Refused(reason) => HspWritten {
+            refusal: refusal::refusal_number(reason),
+            length: 0,
+        },
+        Written::Bytes(count) => HspWritten {
+            refusal: 0,
+            length: count as u32,
+        },
+    }
+}

@@ -1,0 +1,162 @@
+// Lists of frames written and printed. Their bytes are an area of 512 bytes, each its own place modulo 251.
+use encoder::writing;
+use encoder::writing::Written;
+use packet::reading;
+use packet::reading::Reading;
+use rtp::refusal;
+use rtp::settings::Settings;
+use sender::packets;
+
+pub(crate) fn agreed(format: u8, channels: u8) -> Settings {
+    Settings {
+        format,
+        channels,
+        payload_type: 97,
+        redundancy_type: 98,
+    }
+}
+
+fn print(text: &[u8], value: u32) {
+    io::write_all(1, text);
+    io::print_decimal(1, value as u64);
+}
+
+fn zeros() -> [u8; 512] {
+    [0; 512]
+}
+
+fn sound() -> [u8; 512] {
+    let mut bytes = zeros();
+    let mut i: usize = 0;
+    while i < 512 {
+        bytes[i] = (i % 251) as u8;
+        i += 1;
+    }
+    bytes
+}
+
+fn area() -> [u8; 2048] {
+    [0; 2048]
+}
+
+fn row_area() -> [u32; 512] {
+    [0; 512]
+}
+
+fn print_byte(x: u8) {
+    io::print_hex(1, x as u64, 2);
+}
+
+fn print_bytes(bytes: &[u8], n: usize) {
+    let mut i: usize = 0;
+    while i < n {
+        if i < bytes.len() {
+            print_byte(bytes[i]);
+        }
+        i += 1;
+    }
+    io::write_all(1, b"\n");
+}
+
+// The bytes written, or the refusal.
+fn show(written: Written, bytes: &[u8]) -> usize {
+    match written {
+        Written::Refused(why) => {
+            print(b"refusal ", refusal::refusal_number(why));
+            io::write_all(1, b"\n");
+            0
+        }
+        Written::Bytes(n) => {
+            io::print_decimal(1, n as u64);
+            io::write_all(1, b" bytes ");
+            print_bytes(bytes, n);
+            n
+        }
+    }
+}
+
+fn title(label: &[u8]) {
+    io::write_all(1, label);
+    io::write_all(1, b"\n");
+}
+
+pub(crate) fn payload(label: &[u8], settings: Settings, rows: &[u32]) {
+    title(label);
+    let bytes = sound();
+    let mut out = area();
+    let written = writing::write_payload(settings, rows, &bytes, &mut out);
+    show(written, &out);
+}
+
+fn print_first(start: u32, packet: &[u8]) {
+    let at = start as usize;
+    if at < packet.len() {
+        io::write_all(1, b" first byte ");
+        print_byte(packet[at]);
+    }
+}
+
+// A row read: its time, class, channel, start and length, and its first byte.
+fn print_row(rows: &[u32], i: usize, packet: &[u8]) {
+    if i < 128 {
+        if 4 * i + 3 < rows.len() {
+            print(b"row ", rows[4 * i]);
+            print(b" ", rows[4 * i + 1] / 256);
+            print(b" ", rows[4 * i + 1] % 256);
+            print(b" ", rows[4 * i + 2]);
+            print(b" ", rows[4 * i + 3]);
+            print_first(rows[4 * i + 2], packet);
+            io::write_all(1, b"\n");
+        }
+    }
+}
+
+fn print_rows(rows: &[u32], count: u32, packet: &[u8]) {
+    let mut i = 0;
+    while i < count {
+        print_row(rows, i as usize, packet);
+        i += 1;
+    }
+}
+
+fn read_back(settings: Settings, packet: &[u8]) {
+    let mut rows = row_area();
+    match reading::read(settings, packet, &mut rows) {
+        Reading::Refused(why) => {
+            print(b"read back: refusal ", refusal::refusal_number(why));
+            io::write_all(1, b"\n");
+        }
+        Reading::Read(head) => {
+            print(b"read back: rows ", head.rows);
+            print(b" marker ", head.marker as u32);
+            print(b" sequence ", head.sequence as u32);
+            print(b" timestamp ", head.timestamp);
+            print(b" source ", head.source);
+            io::write_all(1, b"\n");
+            print_rows(&rows, head.rows, packet);
+        }
+    }
+}
+
+// With marker 1, sequence 65244 and source 2712847316.
+pub(crate) fn packet(label: &[u8], settings: Settings, counts: &[u32], rows: &[u32]) {
+    title(label);
+    let bytes = sound();
+    let mut out = area();
+    let written = packets::write_packet(
+        settings,
+        1,
+        65244,
+        2712847316,
+        counts,
+        rows,
+        &bytes,
+        &mut out,
+    );
+    let n = show(written, &out);
+    if 0 < n {
+        if n <= out.len() {
+            read_back(settings, &out[..n]);
+        }
+    }
+}

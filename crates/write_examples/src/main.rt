@@ -1,0 +1,15 @@
+// Writes payloads and packets and prints their bytes, or the refusal; and reads each packet back and prints its rows, each with the first
+// byte of its frame.
+mod example;
+mod packets;
+mod payloads;
+
+fn main() {
+    payloads::document_001();
+    payloads::gsm_hr();
+    payloads::refused();
+    packets::plain();
+    packets::redundant();
+    packets::across_the_wrap();
+    packets::refused();
+}

@@ -1,0 +1,199 @@
+/*
+ * heolstorpit: RTP packets of G.719 and GSM-HR sound, read into frame rows, gathered and handed out in time order, and
+ * written. The functions are proved against their definitions; link target/staticlib/libheolstorpit.a
+ * (made by `rt staticlib heolstorpit`, for x86-64 Linux).
+ *
+ * WHO OWNS WHAT. The library has no memory of its own: no allocation, no global state, nothing kept after a call returns.
+ * Packets, rows, bytes, store and areas belong to the caller and are only used during the call. A buffer is a plain value:
+ * it is handed in by value and comes back changed in the answer. Two threads may call at once, with areas of their own.
+ *
+ * POINTERS. A pointer is followed by the number of elements it points to (bytes for uint8_t, words for uint32_t). It
+ * is never NULL, not even for 0 elements, and is aligned for its type. Areas that one call is given do not overlap if
+ * the call may write to one of them.
+ *
+ * REFUSALS. Every answer begins with `refusal`: 0, or the number of the first reason that applies. A refusal changes
+ * nothing: no byte or word of any area; all other numbers of the answer are 0, and a buffer comes back as it was handed in
+ * (from hsp_new: all zero).
+ *
+ *    1  packet shorter than 12 or longer than 2,048 bytes
+ *    2  RTP version is not 2
+ *    3  the list of contributing sources or the header extension runs past the end of the packet
+ *    4  padding count is 0, or greater than the number of bytes after the headers
+ *    5  payload type is neither the payload type nor the redundancy type of the settings
+ *    6  a table entry or a redundancy block header runs past the end (an empty payload too)
+ *    7  reserved frame length code (G.719) or frame type (GSM-HR)
+ *    8  a table entry with 0 frame-blocks
+ *    9  more than 128 rows
+ *   10  after the tables or block headers there are too few bytes, or bytes are left over
+ *   11  settings out of range, given or held in the buffer
+ *   12  an area is too short: see the function
+ *   13  the rows cannot be written: see the function
+ *   14  a row to be written has start + length over the length of the byte area
+ *   15  the buffer handed in is not one that these functions have left
+ *
+ * The order in which they are asked: reading 11, 12, 1, 2, 3, 4, 5, then 6 to 9 table entry by table entry, then 10.
+ * (Redundancy: all block headers 6, then their lengths 10, then block by block as a payload.) Writing 11, 14, 13, 12.
+ * hsp_offer and hsp_draw 11, 15, 12, then as reading.
+ *
+ * ROWS. A frame row is four words:
+ *    0  timestamp of the frame
+ *    1  256 * class + channel; class 0 is no data, 1 is sound, 2 is SID (comfort noise); channels count from 0
+ *    2  start: the place of the frame's first byte, in the packet (reading) or in `bytes` (writing)
+ *    3  length of the frame in bytes
+ * A row of no data has length 0; reading gives it as start the place where its bytes would lie.
+ */
+#ifndef HEOLSTORPIT_H
+#define HEOLSTORPIT_H
+
+#include <stddef.h>
+#include <stdint.h>
+
+#ifdef __cplusplus
+extern "C" {
+#endif
+
+#define HSP_MAX_PACKET 2048    /* bytes of a packet, at most; at least 12 */
+#define HSP_MAX_PAYLOAD 2036   /* bytes of a payload written alone, at most */
+#define HSP_MAX_ROWS 128       /* rows of a packet, at most */
+#define HSP_ROW_WORDS 4        /* words of a row */
+#define HSP_ROW_AREA 512       /* words of a row area that is read into, at least */
+#define HSP_SLOTS 192          /* frames that a buffer holds, at most */
+#define HSP_SLOT_BYTES 320     /* bytes of a slot of the store: the longest frame */
+#define HSP_STORE_BYTES 61440  /* bytes of a store, at least: 192 slots */
+#define HSP_DRAW_AREA 320      /* bytes of the area that a frame is drawn to, at least */
+#define HSP_MAX_REDUNDANT 4    /* redundant lists of a packet written, at most */
+#define HSP_NO_REDUNDANCY 128  /* redundancy_type: none */
+
+/*
+ * What was agreed with the sender; 4 bytes.
+ *   format           1 G.719 basic, 2 G.719 interleaved, 3 GSM-HR
+ *   channels         1 or 2; for format 3 only 1
+ *   payload_type     RTP payload type of the sound, 0 to 127
+ *   redundancy_type  RTP payload type of redundancy payloads (RFC 2198), 0 to 127 and another; or 128: none
+ * Anything else is refused with 11.
+ */
+typedef struct {
+    uint8_t format, channels, payload_type, redundancy_type;
+} hsp_settings;
+
+/* hsp_read's answer: the number of rows written, and the packet's header. `marker` is 0 or 1; `source` is the SSRC. */
+typedef struct {
+    uint32_t refusal, rows, marker, sequence, timestamp, source;
+} hsp_reading;
+
+/* The writers' answer: the number of bytes written at the front of `out`. */
+typedef struct {
+    uint32_t refusal, length;
+} hsp_written;
+
+/*
+ * A reorder buffer; 3,112 bytes with no padding, so that two equal buffers are equal bytes. Get one from hsp_new and hand in
+ * what the last call gave back; a value that no call gives back is refused with 15. The frames' bytes are in the store: the
+ * frame of slot s is at 320 * s. To look inside:
+ *   times, tags, lengths, slots   the frames held, earliest first, in the first n elements, n being the number of ones in
+ *                                 `occupied`; a tag is 256 * class + channel; the elements after the first n are 0
+ *   occupied                      slot s is in use if bit s % 64 of occupied[s / 64] is set
+ *   drawn                         1 once a frame was drawn; then last_time and last_channel are those of the last one drawn.
+ *                                 Before that all three are 0
+ *   settings                      as given to hsp_new
+ */
+typedef struct {
+    uint32_t times[192], tags[192], lengths[192], slots[192];
+    uint64_t occupied[3];
+    uint32_t last_time, last_channel, drawn;
+    hsp_settings settings;
+} hsp_buffer;
+
+/* hsp_new's answer. */
+typedef struct {
+    uint32_t refusal;
+    hsp_buffer buffer;
+} hsp_fresh;
+
+/*
+ * hsp_offer's answer: how many rows of the packet (those with no data left out)
+ *   late      came too late: a frame was drawn, and this one is not after it
+ *   far       lie 2^31 ticks or more from frames held, before any frame was drawn
+ *   repeated  are held already, and this copy is no better
+ *   better    are held already, and this better copy replaced the one held: sound before SID, then the longer, then the
+ *             one with the greater byte where they first differ
+ *   no_room   found 192 frames held
+ *   inserted  are new
+ */
+typedef struct {
+    uint32_t refusal, late, far, repeated, better, no_room, inserted;
+    hsp_buffer buffer;
+} hsp_offered;
+
+/* hsp_draw's answer: the frame drawn; or, with `empty` 1 and zeros, that no frame is held. */
+typedef struct {
+    uint32_t refusal, empty, time, channel, frame_class, length;
+    hsp_buffer buffer;
+} hsp_drawn;
+
+/*
+ * Reads a packet into frame rows: plain payloads and redundancy payloads. The rows stand at the front of `rows`, in the
+ * packet's order; the words after the last row stay as they were. Blocks of other payload types in a redundancy
+ * payload are passed over, and an empty block gives no rows.
+ *   packet  12 to 2,048 bytes (else 1)
+ *   rows    at least 512 words (else 12)
+ */
+hsp_reading hsp_read(hsp_settings settings, const uint8_t *packet, size_t packet_length, uint32_t *rows, size_t rows_length);
+
+/*
+ * Writes one payload for a list of rows, with no RTP header, at the front of `out`; the bytes of `out` after it stay.
+ * Read at the first row's time, it gives the rows' times, channels, classes, lengths and frame bytes again.
+ *   rows   four words a row. No row, or a part of a row at the end, is refused with 13
+ *   bytes  what the rows' starts and lengths point into (a row outside it, also one of no data, is refused with 14)
+ *   out    at least the bytes to be written (else 12); never more than 2,036
+ * 13 also says that no payload of at most 2,036 bytes reads to these rows: a class or length that the format does not have,
+ * channels of a frame-block that are missing, out of order or of different lengths, times that the format cannot step to,
+ * more than 128 rows, or too many bytes.
+ */
+hsp_written hsp_write_payload(hsp_settings settings, const uint32_t *rows, size_t rows_length, const uint8_t *bytes, size_t bytes_length,
+                              uint8_t *out, size_t out_length);
+
+/*
+ * Writes one packet, its RTP header without contributing sources, extension or padding, at the front of `out`; the bytes
+ * of `out` after it stay. Its timestamp is the first time of the primary list.
+ *   marker  the marker bit is set if this is not 0
+ *   counts  the number of rows in each list: 0 to 4 redundant lists, then the primary list. One count makes a plain
+ *           packet; more make a redundancy packet
+ *   rows    the rows of all lists, one list after another; the counts add up to all of them
+ *   bytes   what all the rows point into (else 14)
+ *   out     at least the bytes to be written (else 12); never more than 2,048
+ * 13 says: no count or more than five; counts that do not add up to the rows; a list that hsp_write_payload alone would refuse
+ * with 13; a redundant list whose first time is more than 16,383 ticks before the timestamp, or after it, or whose payload is
+ * over 1,023 bytes; more than 128 rows or 2,048 bytes; redundant lists where the settings have no redundancy type.
+ */
+hsp_written hsp_write_packet(hsp_settings settings, uint8_t marker, uint16_t sequence, uint32_t source, const uint32_t *counts,
+                             size_t counts_length, const uint32_t *rows, size_t rows_length, const uint8_t *bytes, size_t bytes_length,
+                             uint8_t *out, size_t out_length);
+
+/* A fresh buffer with no frame held and none drawn. With settings out of range: 11, and a buffer of zeros. */
+hsp_fresh hsp_new(hsp_settings settings);
+
+/*
+ * Offers a packet to the buffer: reads it as hsp_read does under the buffer's settings, into `rows`, then judges its rows in
+ * order (see hsp_offered), and copies each new or better frame to its slot of the store. A new frame gets the lowest
+ * free slot. The bytes of a slot after the frame's end stay, and so do those of the store after the first 61,440.
+ *   rows   at least 512 words (else 12)
+ *   store  at least 61,440 bytes (else 12). Hand in the same store, as the last call left it, with the buffer; its bytes need
+ *          no initial value
+ */
+hsp_offered hsp_offer(hsp_buffer buffer, const uint8_t *packet, size_t packet_length, uint32_t *rows, size_t rows_length, uint8_t *store,
+                      size_t store_length);
+
+/*
+ * Draws the earliest frame held: copies it to the front of `area`, frees its slot and makes it the last one drawn, so that
+ * frames not after it are late from now on. The store and the other bytes of the area stay.
+ *   store  at least 61,440 bytes (else 12), as the last hsp_offer left it
+ *   area   at least 320 bytes (else 12, also where no frame is held)
+ */
+hsp_drawn hsp_draw(hsp_buffer buffer, const uint8_t *store, size_t store_length, uint8_t *area, size_t area_length);
+
+#ifdef __cplusplus
+}
+#endif
+
+#endif

@@ -1,0 +1,437 @@
+//! Prints nanoseconds an operation, and how many times as long the others take: reading, writing, and offer + draw, by the proved library,
+//! by plain Rust, by libre's and speexdsp's jitter buffers, and two copies of the frame for scale.
+//!
+//! Each figure is the least of several samples, taken turn by turn so that all contenders meet the same machine. Build with the
+//! profile `measured`: bench.sh does.
+
+use bench::plain;
+use std::hint::black_box;
+use std::time::{Duration, Instant};
+
+const SAMPLES: usize = 200;
+const SAMPLE: Duration = Duration::from_micros(400);
+const PLAIN: u8 = 97;
+const REDUNDANCY: u8 = 121;
+const LENGTH: usize = 160;
+
+/// Who does the work: one round of it, answering how many operations it made.
+struct Contender<'a> {
+    name: &'static str,
+    round: Box<dyn FnMut() -> usize + 'a>,
+}
+
+fn contender<'a>(name: &'static str, round: impl FnMut() -> usize + 'a) -> Contender<'a> {
+    Contender { name, round: Box::new(round) }
+}
+
+/// Measures the contenders and prints one line of the table.
+fn measure(title: &str, columns: &[&str], mut contenders: Vec<Contender>) {
+    let mut least = vec![f64::INFINITY; contenders.len()];
+    for sample in 0..=SAMPLES {
+        for (contender, least) in contenders.iter_mut().zip(&mut least) {
+            let start = Instant::now();
+            let mut operations = 0;
+            while start.elapsed() < SAMPLE {
+                operations += (contender.round)();
+            }
+            let each = start.elapsed().as_nanos() as f64 / operations.max(1) as f64;
+            // the first is for warming up
+            if sample > 0 {
+                *least = least.min(each);
+            }
+        }
+    }
+    let base = least[0];
+    print!("{title:<44}");
+    for column in columns {
+        match contenders.iter().position(|contender| contender.name == *column) {
+            None => print!("{:>20}", "-"),
+            Some(0) => print!("{:>20}", format!("{:.0} ns", least[0])),
+            Some(i) => print!("{:>20}", format!("{:.0} ns ({:.2})", least[i], least[i] / base)),
+        }
+    }
+    println!();
+}
+
+fn head(title: &str, columns: &[&str]) {
+    print!("\n{title:<44}");
+    for column in columns {
+        print!("{column:>20}");
+    }
+    println!();
+}
+
+const LIBRARY: &str = "heolstorpit";
+const RUST: &str = "plain Rust";
+const REFERENCE: &str = "slow reference";
+
+fn settings(format: u8, channels: u8) -> reference::Settings {
+    reference::Settings { format, channels, payload_type: PLAIN, redundancy_type: REDUNDANCY }
+}
+
+#[cfg(any(feature = "read", feature = "write", feature = "buffer"))]
+fn given(s: reference::Settings) -> heolstorpit::Settings {
+    heolstorpit::Settings { format: s.format, channels: s.channels, payload_type: s.payload_type, redundancy_type: s.redundancy_type }
+}
+
+/// Rows of `blocks` frame-blocks of `length` bytes, from a time, in steps; they point into `bytes`.
+fn list(s: reference::Settings, time: u32, blocks: usize, length: u32, steps: u32) -> Vec<u32> {
+    let ticks = if s.format == 3 { 160 } else { 960 };
+    let row = |block: usize, channel: u32| [time + ticks * steps * block as u32, 256 + channel, 320 * (block as u32 % 12), length];
+    (0..blocks).flat_map(|block| (0..s.channels as u32).flat_map(move |channel| row(block, channel))).collect()
+}
+
+fn bytes() -> Vec<u8> {
+    (0..320 * 12).map(|i| (i * 7 % 251) as u8).collect()
+}
+
+/// A packet as the reference writes it.
+fn packet(s: reference::Settings, counts: &[u32], rows: &[u32]) -> Vec<u8> {
+    let mut out = vec![0; 2048];
+    let length = reference::write_packet(s, false, 1, 2, counts, rows, &bytes(), &mut out).expect("a packet that can be written");
+    out.truncate(length as usize);
+    out
+}
+
+/// What is read and written: a name, settings, and lists.
+fn samples() -> Vec<(&'static str, reference::Settings, Vec<u32>, Vec<u32>)> {
+    let (basic, stereo, interleaved, gsm) = (settings(1, 1), settings(1, 2), settings(2, 1), settings(3, 1));
+    let three = [list(basic, 0, 2, 80, 1), list(basic, 1920, 2, 80, 1), list(basic, 3840, 2, 160, 1)].concat();
+    let mixed = [list(basic, 0, 1, 80, 1), list(basic, 960, 1, 90, 1), list(basic, 1920, 1, 100, 1), list(basic, 2880, 1, 80, 1)].concat();
+    vec![
+        ("G.719, 1 frame of 160 bytes", basic, vec![1], list(basic, 0, 1, 160, 1)),
+        ("G.719, 12 frames of 160 bytes", basic, vec![12], list(basic, 0, 12, 160, 1)),
+        ("G.719, 4 frames in 4 entries", basic, vec![4], mixed),
+        ("G.719 stereo, 5 frame-blocks of 2 x 160", stereo, vec![10], list(stereo, 0, 5, 160, 1)),
+        ("G.719 interleaved, 4 frames of 80 bytes", interleaved, vec![4], list(interleaved, 0, 4, 80, 5)),
+        ("G.719 with 2 redundant blocks, 6 frames", basic, vec![2, 2, 2], three),
+        ("GSM-HR, 10 frames", gsm, vec![10], list(gsm, 0, 10, 14, 1)),
+    ]
+}
+
+fn reading() {
+    let columns = [LIBRARY, RUST, REFERENCE];
+    head("Reading, a packet", &columns);
+    for (title, s, counts, rows) in samples() {
+        let packet = packet(s, &counts, &rows);
+        let (mut area, mut area_2) = (vec![0; 512], vec![0; 512]);
+        #[allow(unused_mut)]
+        let mut contenders = Vec::new();
+        #[cfg(feature = "read")]
+        {
+            let (packet, mut area) = (&packet, vec![0; 512]);
+            contenders.push(contender(LIBRARY, move || {
+                for _ in 0..64 {
+                    heolstorpit::read(given(s), black_box(packet), black_box(&mut area)).unwrap();
+                }
+                64
+            }));
+        }
+        contenders.push(contender(RUST, || {
+            for _ in 0..64 {
+                plain::read(s, black_box(&packet), black_box(&mut area)).unwrap();
+            }
+            64
+        }));
+        contenders.push(contender(REFERENCE, || {
+            for _ in 0..64 {
+                reference::read(s, black_box(&packet), black_box(&mut area_2)).unwrap();
+            }
+            64
+        }));
+        measure(title, &columns, contenders);
+    }
+}
+
+fn writing() {
+    let columns = [LIBRARY, RUST, REFERENCE];
+    head("Writing, a packet", &columns);
+    let bytes = bytes();
+    for (title, s, counts, rows) in samples() {
+        let (mut out, mut out_2) = (vec![0; 2048], vec![0; 2048]);
+        #[allow(unused_mut)]
+        let mut contenders = Vec::new();
+        #[cfg(feature = "write")]
+        {
+            let (counts, rows, bytes, mut out) = (&counts, &rows, &bytes, vec![0; 2048]);
+            let header = heolstorpit::Header { marker: false, sequence: 1, source: 2 };
+            contenders.push(contender(LIBRARY, move || {
+                for _ in 0..64 {
+                    heolstorpit::write_packet(given(s), header, black_box(counts), black_box(rows), bytes, black_box(&mut out)).unwrap();
+                }
+                64
+            }));
+        }
+        contenders.push(contender(RUST, || {
+            for _ in 0..64 {
+                plain::write_packet(s, false, 1, 2, black_box(&counts), black_box(&rows), &bytes, black_box(&mut out)).unwrap();
+            }
+            64
+        }));
+        contenders.push(contender(REFERENCE, || {
+            for _ in 0..64 {
+                reference::write_packet(s, false, 1, 2, black_box(&counts), black_box(&rows), &bytes, black_box(&mut out_2)).unwrap();
+            }
+            64
+        }));
+        measure(title, &columns, contenders);
+    }
+}
+
+/// A reorder buffer as the benchmark uses it: frames come in packets of `per` frames, one after another in time.
+trait Reorder {
+    /// Packet number `n`, whose first frame has number `n * per`, with its packet bytes.
+    fn put(&mut self, n: u32, packet: &mut [u8]);
+    /// Is a frame handed out?
+    fn get(&mut self) -> bool;
+}
+
+const STEP: u32 = 960;
+
+#[cfg(feature = "buffer")]
+struct Proved {
+    buffer: heolstorpit::Buffer,
+    rows: Vec<u32>,
+    store: Vec<u8>,
+    area: Vec<u8>,
+    per: u32,
+}
+
+#[cfg(feature = "buffer")]
+impl Reorder for Proved {
+    fn put(&mut self, n: u32, packet: &mut [u8]) {
+        packet[4..8].copy_from_slice(&(n * self.per).wrapping_mul(STEP).to_be_bytes());
+        let verdicts = self.buffer.offer(packet, &mut self.rows, &mut self.store).unwrap();
+        debug_assert_eq!(verdicts.inserted, self.per);
+    }
+
+    fn get(&mut self) -> bool {
+        self.buffer.draw(&self.store, &mut self.area).unwrap().is_some()
+    }
+}
+
+struct Plain {
+    take: plain::Take,
+    rows: Vec<u32>,
+    store: Vec<u8>,
+    area: Vec<u8>,
+    per: u32,
+}
+
+impl Reorder for Plain {
+    fn put(&mut self, n: u32, packet: &mut [u8]) {
+        packet[4..8].copy_from_slice(&(n * self.per).wrapping_mul(STEP).to_be_bytes());
+        let verdicts = self.take.offer(packet, &mut self.rows, &mut self.store).unwrap();
+        debug_assert_eq!(verdicts.inserted, self.per);
+    }
+
+    fn get(&mut self) -> bool {
+        self.take.draw(&self.store, &mut self.area).unwrap() != reference::Drawn::Empty
+    }
+}
+
+/// Two copies of the frame: into a slot of a store, and out of it.
+struct Copies {
+    store: Vec<u8>,
+    area: Vec<u8>,
+    per: u32,
+    drawn: u32,
+}
+
+impl Reorder for Copies {
+    fn put(&mut self, n: u32, packet: &mut [u8]) {
+        for i in 0..self.per {
+            let slot = 320 * ((n * self.per + i) % 192) as usize;
+            let start = 14 + LENGTH * i as usize;
+            black_box(&mut self.store)[slot..slot + LENGTH].copy_from_slice(&packet[start..start + LENGTH]);
+        }
+    }
+
+    fn get(&mut self) -> bool {
+        let slot = 320 * (self.drawn % 192) as usize;
+        self.drawn = self.drawn.wrapping_add(1);
+        black_box(&mut self.area)[..LENGTH].copy_from_slice(&self.store[slot..slot + LENGTH]);
+        true
+    }
+}
+
+#[cfg(any(feature = "libre", feature = "speexdsp"))]
+struct InC {
+    peer: bench::peers::Peer,
+    area: [u8; 320],
+    per: u32,
+}
+
+#[cfg(any(feature = "libre", feature = "speexdsp"))]
+impl Reorder for InC {
+    fn put(&mut self, n: u32, packet: &mut [u8]) {
+        for i in 0..self.per {
+            let number = n * self.per + i;
+            let start = 14 + LENGTH * i as usize;
+            self.peer.put(number as u16, number.wrapping_mul(STEP), &packet[start..start + LENGTH]);
+        }
+    }
+
+    fn get(&mut self) -> bool {
+        self.peer.get(&mut self.area)
+    }
+}
+
+/// In which order packets are put and frames are got.
+#[derive(Clone, Copy)]
+enum Way {
+    /// one in, one out, with so many held: the packets of each eight in a mixed order
+    Singly { held: u32 },
+    /// so many in, in a mixed order, and all of them out
+    Bursts { packets: u32 },
+    /// so many in, the last first, and all of them out
+    Reversed { packets: u32 },
+}
+
+/// The packets of each eight in a mixed order.
+const MIXED: [u32; 8] = [3, 0, 5, 1, 7, 2, 6, 4];
+
+/// One round: 192 packets or so; `next` is the number of the next packet. Answers how many frames came out.
+fn round(way: Way, per: u32, next: &mut u32, packet: &mut [u8], peer: &mut dyn Reorder) -> usize {
+    let mut out = 0;
+    match way {
+        Way::Singly { held } => {
+            if *next == 0 {
+                for n in 0..held {
+                    peer.put(n, packet);
+                }
+                *next = held;
+            }
+            for _ in 0..24 {
+                for place in MIXED {
+                    peer.put(*next + place, packet);
+                    for _ in 0..per {
+                        out += peer.get() as usize;
+                    }
+                }
+                *next += 8;
+            }
+        }
+        Way::Bursts { packets } => {
+            for _ in 0..(192 / packets).max(1) {
+                for i in 0..packets {
+                    let place = if packets % 8 == 0 { i / 8 * 8 + MIXED[i as usize % 8] } else { i };
+                    peer.put(*next + place, packet);
+                }
+                for _ in 0..packets * per {
+                    out += peer.get() as usize;
+                }
+                *next += packets;
+            }
+        }
+        Way::Reversed { packets } => {
+            for i in (0..packets).rev() {
+                peer.put(*next + i, packet);
+            }
+            for _ in 0..packets * per {
+                out += peer.get() as usize;
+            }
+            *next += packets;
+        }
+    }
+    out
+}
+
+fn gathering() {
+    let mut columns = vec![LIBRARY, RUST];
+    if cfg!(feature = "libre") {
+        columns.push("libre jbuf");
+    }
+    if cfg!(feature = "speexdsp") {
+        columns.push("speexdsp");
+    }
+    columns.push("two memcpys");
+    head("Offer and draw, a frame of 160 bytes", &columns);
+    let ways = [
+        ("singly, 8 held", Way::Singly { held: 8 }, 1),
+        ("singly, 64 held", Way::Singly { held: 64 }, 1),
+        ("singly, 176 held", Way::Singly { held: 176 }, 1),
+        ("bursts of 8 packets", Way::Bursts { packets: 8 }, 1),
+        ("bursts of 192 packets", Way::Bursts { packets: 192 }, 1),
+        ("bursts of 1 packet of 12 frames", Way::Bursts { packets: 1 }, 12),
+        ("bursts of 16 packets of 12 frames", Way::Bursts { packets: 16 }, 12),
+        ("192 packets, the last first", Way::Reversed { packets: 192 }, 1),
+    ];
+    let mut lost = Vec::new();
+    for (title, way, per) in ways {
+        let s = settings(1, 1);
+        let packet = packet(s, &[per], &list(s, 0, per as usize, LENGTH as u32, 1));
+        let mut peers: Vec<(&'static str, Box<dyn Reorder>)> = Vec::new();
+        #[cfg(feature = "buffer")]
+        peers.push((
+            LIBRARY,
+            Box::new(Proved {
+                buffer: heolstorpit::Buffer::new(given(s)).unwrap(),
+                rows: vec![0; 512],
+                store: vec![0; 61440],
+                area: vec![0; 320],
+                per,
+            }),
+        ));
+        peers.push((
+            RUST,
+            Box::new(Plain { take: plain::Take::new(s).unwrap(), rows: vec![0; 512], store: vec![0; 61440], area: vec![0; 320], per }),
+        ));
+        #[cfg(feature = "libre")]
+        peers.push(("libre jbuf", Box::new(InC { peer: bench::peers::Peer::new(bench::peers::LIBRE), area: [0; 320], per })));
+        #[cfg(feature = "speexdsp")]
+        peers.push(("speexdsp", Box::new(InC { peer: bench::peers::Peer::new(bench::peers::SPEEXDSP), area: [0; 320], per })));
+        peers.push(("two memcpys", Box::new(Copies { store: vec![0; 61440], area: vec![0; 320], per, drawn: 0 })));
+
+        let frames = match way {
+            Way::Singly { .. } => 192,
+            Way::Bursts { packets } => (192 / packets).max(1) * packets,
+            Way::Reversed { packets } => packets,
+        } * per;
+        let counts: Vec<(&'static str, std::rc::Rc<std::cell::Cell<(u64, u64)>>)> =
+            peers.iter().map(|(name, _)| (*name, Default::default())).collect();
+        let contenders = peers
+            .into_iter()
+            .zip(&counts)
+            .map(|((name, mut peer), (_, count))| {
+                let (mut next, mut packet, count) = (0, packet.clone(), count.clone());
+                contender(name, move || {
+                    let out = round(way, per, &mut next, &mut packet, peer.as_mut());
+                    let (all, got) = count.get();
+                    count.set((all + frames as u64, got + out as u64));
+                    frames as usize
+                })
+            })
+            .collect();
+        measure(title, &columns, contenders);
+        for (name, count) in counts {
+            let (all, got) = count.get();
+            if got != all {
+                lost.push(format!("{title}: {name} handed out {:.1} % of the frames", 100.0 * got as f64 / all as f64));
+            }
+        }
+    }
+    println!("{}", lost.join("\n"));
+}
+
+fn main() {
+    println!("Nanoseconds an operation, the least of {SAMPLES} samples; in brackets: times as long as {LIBRARY}.");
+    if !cfg!(feature = "libre") {
+        println!("libre-dev is not installed: its jbuf is left out.");
+    }
+    if !cfg!(feature = "speexdsp") {
+        println!("libspeexdsp-dev is not installed: its jitter buffer is left out.");
+    }
+    for (group, on) in [("read", cfg!(feature = "read")), ("write", cfg!(feature = "write")), ("buffer", cfg!(feature = "buffer"))] {
+        if !on {
+            println!("Built without the library's functions of the group `{group}`: the first column there is plain Rust.");
+        }
+    }
+    // words: only these parts
+    let words: Vec<String> = std::env::args().skip(1).collect();
+    for (word, part) in [("reading", reading as fn()), ("writing", writing), ("gathering", gathering)] {
+        if words.is_empty() || words.iter().any(|w| w == word) {
+            part();
+        }
+    }
+}

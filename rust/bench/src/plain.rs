@@ -1,0 +1,517 @@
+//! The same job in plain Rust, made reasonable for release: what one would write without proofs. No lists are made, the state is behind
+//! a reference, and nobody hands in a spoiled one, so it is not tested for that. `tests/plain.rs` holds it to the reference.
+
+use reference::*;
+use std::collections::VecDeque;
+
+// Reading
+
+/// A payload's table, walked: where its sound starts, and how many rows it gives.
+struct Table {
+    sound: usize,
+    rows: usize,
+}
+
+fn frame_length(code: u8) -> Option<usize> {
+    match code {
+        0 => Some(0),
+        8..=22 => Some(80 + 10 * (code as usize - 8)),
+        23..=27 => Some(240 + 20 * (code as usize - 23)),
+        _ => None,
+    }
+}
+
+fn walk(s: Settings, p: &[u8], before: usize) -> Result<Table, u32> {
+    let channels = s.channels as usize;
+    let (mut at, mut rows, mut bytes) = (0, before, 0);
+    loop {
+        let (code, blocks, size, length);
+        if s.format == 3 {
+            if at >= p.len() {
+                return Err(TABLE_PAST_END);
+            }
+            code = p[at] >> 4 & 7;
+            length = match code {
+                0 | 2 => 14,
+                7 => 0,
+                _ => return Err(RESERVED_CODE),
+            };
+            (blocks, size) = (1, 1);
+        } else {
+            if at + 2 > p.len() {
+                return Err(TABLE_PAST_END);
+            }
+            blocks = p[at + 1] as usize;
+            size = if s.format == 2 { 2 + blocks.div_ceil(2) } else { 2 };
+            if at + size > p.len() {
+                return Err(TABLE_PAST_END);
+            }
+            length = frame_length(p[at] >> 2 & 31).ok_or(RESERVED_CODE)?;
+            if blocks == 0 {
+                return Err(NO_FRAME_BLOCKS);
+            }
+        }
+        rows += blocks * channels;
+        if rows > MAX_ROWS {
+            return Err(TOO_MANY_ROWS);
+        }
+        bytes += blocks * channels * length;
+        let more = p[at] & 128 != 0;
+        at += size;
+        if !more {
+            break;
+        }
+    }
+    if bytes != p.len() - at {
+        return Err(BAD_DATA_LENGTH);
+    }
+    Ok(Table { sound: at, rows: rows - before })
+}
+
+/// Writes the rows of a payload that was walked, which stands at `place` of the packet.
+fn put_rows(s: Settings, p: &[u8], place: usize, mut time: u32, table: &Table, out: &mut [u32]) {
+    let mut at = 0;
+    let mut start = (place + table.sound) as u32;
+    let mut rows = out[..ROW_WORDS * table.rows].chunks_exact_mut(ROW_WORDS);
+    let mut first = true;
+    loop {
+        let (class, length, blocks, size);
+        if s.format == 3 {
+            (class, length) = match p[at] >> 4 & 7 {
+                0 => (1, 14),
+                2 => (2, 14),
+                _ => (0, 0),
+            };
+            (blocks, size) = (1, 1);
+        } else {
+            length = frame_length(p[at] >> 2 & 31).unwrap_or(0) as u32;
+            class = (length != 0) as u32;
+            blocks = p[at + 1] as usize;
+            size = if s.format == 2 { 2 + blocks.div_ceil(2) } else { 2 };
+        }
+        for block in 0..blocks {
+            if !first {
+                let gap = if s.format == 2 && block > 0 { p[at + 2 + block / 2] >> (4 - 4 * (block % 2)) & 15 } else { 0 };
+                time = time.wrapping_add((gap as u32 + 1) * if s.format == 3 { GSM_HR_STEP } else { G719_STEP });
+            }
+            first = false;
+            for channel in 0..s.channels as u32 {
+                rows.next().unwrap().copy_from_slice(&[time, 256 * class + channel, start, length]);
+                start += length;
+            }
+        }
+        let more = p[at] & 128 != 0;
+        at += size;
+        if !more {
+            return;
+        }
+    }
+}
+
+fn word(b: &[u8]) -> u32 {
+    u32::from_be_bytes([b[0], b[1], b[2], b[3]])
+}
+
+pub fn read(s: Settings, packet: &[u8], out: &mut [u32]) -> Result<Reading, u32> {
+    if !s.in_range() {
+        return Err(BAD_SETTINGS);
+    }
+    if out.len() < ROW_AREA {
+        return Err(AREA_TOO_SHORT);
+    }
+    read_checked(s, packet, out)
+}
+
+fn read_checked(s: Settings, packet: &[u8], out: &mut [u32]) -> Result<Reading, u32> {
+    if packet.len() < MIN_PACKET || packet.len() > MAX_PACKET {
+        return Err(BAD_PACKET_LENGTH);
+    }
+    if packet[0] >> 6 != 2 {
+        return Err(BAD_VERSION);
+    }
+    let mut start = HEADER_BYTES + 4 * (packet[0] & 15) as usize;
+    if packet[0] & 16 != 0 && start + 4 <= packet.len() {
+        start += 4 + 4 * u16::from_be_bytes([packet[start + 2], packet[start + 3]]) as usize;
+    } else if packet[0] & 16 != 0 {
+        return Err(HEADER_PAST_END);
+    }
+    if start > packet.len() {
+        return Err(HEADER_PAST_END);
+    }
+    let mut end = packet.len();
+    if packet[0] & 32 != 0 {
+        let padding = packet[end - 1] as usize;
+        if padding == 0 || padding > end - start {
+            return Err(BAD_PADDING);
+        }
+        end -= padding;
+    }
+    let timestamp = word(&packet[4..8]);
+    let payload_type = packet[1] & 127;
+    let rows = if payload_type == s.payload_type {
+        let payload = &packet[start..end];
+        let table = walk(s, payload, 0)?;
+        put_rows(s, payload, start, timestamp, &table, out);
+        table.rows
+    } else if payload_type == s.redundancy_type {
+        read_redundancy(s, packet, start, end, timestamp, out)?
+    } else {
+        return Err(OTHER_TYPE);
+    };
+    Ok(Reading {
+        rows: rows as u32,
+        marker: (packet[1] >> 7) as u32,
+        sequence: u16::from_be_bytes([packet[2], packet[3]]) as u32,
+        timestamp,
+        source: word(&packet[8..12]),
+    })
+}
+
+fn read_redundancy(s: Settings, packet: &[u8], start: usize, end: usize, timestamp: u32, out: &mut [u32]) -> Result<usize, u32> {
+    let (mut at, mut summed) = (start, 0);
+    loop {
+        if at >= end {
+            return Err(TABLE_PAST_END);
+        }
+        if packet[at] & 128 == 0 {
+            at += 1;
+            break;
+        }
+        if at + 4 > end {
+            return Err(TABLE_PAST_END);
+        }
+        summed += (word(&packet[at..]) & 1023) as usize;
+        at += 4;
+    }
+    let data = at;
+    if summed > end - data {
+        return Err(BAD_DATA_LENGTH);
+    }
+    // Walk all blocks, then write them: a refusal in the last one leaves the area as it was.
+    for write in [false, true] {
+        let (mut header, mut block, mut rows) = (start, data, 0);
+        loop {
+            let last = packet[header] & 128 == 0;
+            let head = if last { (packet[header] as u32) << 24 } else { word(&packet[header..]) };
+            let block_end = if last { end } else { block + (head & 1023) as usize };
+            if (head >> 24 & 127) as u8 == s.payload_type && block_end > block {
+                let payload = &packet[block..block_end];
+                let table = walk(s, payload, rows)?;
+                if write {
+                    put_rows(s, payload, block, timestamp.wrapping_sub(head >> 10 & 16383), &table, &mut out[ROW_WORDS * rows..]);
+                }
+                rows += table.rows;
+            }
+            if last {
+                if write {
+                    return Ok(rows);
+                }
+                break;
+            }
+            block = block_end;
+            header += 4;
+        }
+    }
+    unreachable!()
+}
+
+// Writing
+
+fn outside(words: &[u32], bytes: &[u8]) -> bool {
+    words.chunks_exact(ROW_WORDS).any(|row| row[2] as u64 + row[3] as u64 > bytes.len() as u64)
+}
+
+/// The table code of a row's class and length.
+fn code(format: u8, class: u32, length: u32) -> Option<u8> {
+    match (format, class, length) {
+        (3, 1, 14) => Some(0),
+        (3, 2, 14) => Some(2),
+        (3, 0, 0) => Some(7),
+        (1 | 2, 0, 0) => Some(0),
+        (1 | 2, 1, 80..=220) if length % 10 == 0 => Some((8 + (length - 80) / 10) as u8),
+        (1 | 2, 1, 240..=320) if length % 20 == 0 => Some((23 + (length - 240) / 20) as u8),
+        _ => None,
+    }
+}
+
+/// The bytes of a list's payload, or nothing where it cannot be written.
+fn plan(s: Settings, words: &[u32]) -> Option<usize> {
+    let channels = s.channels as usize;
+    let rows = words.len() / ROW_WORDS;
+    if rows == 0 || rows > MAX_ROWS || rows % channels != 0 {
+        return None;
+    }
+    let step = if s.format == 3 { GSM_HR_STEP } else { G719_STEP };
+    let (mut size, mut run, mut previous) = (0, 0usize, None);
+    for block in words.chunks_exact(ROW_WORDS * channels) {
+        let (time, length) = (block[0], block[3]);
+        let class = block[1] / 256;
+        code(s.format, class, length)?;
+        for (channel, row) in block.chunks_exact(ROW_WORDS).enumerate() {
+            if row[0] != time || row[1] != 256 * class + channel as u32 || row[3] != length {
+                return None;
+            }
+        }
+        let joins = s.format != 3 && previous.is_some_and(|(_, l)| l == length);
+        if let Some((before, _)) = previous {
+            let ticks = time.wrapping_sub(before);
+            let most = if s.format == 2 && joins { 16 } else { 1 };
+            if ticks % step != 0 || ticks == 0 || ticks / step > most {
+                return None;
+            }
+        }
+        run = if joins { run + 1 } else { 1 };
+        size += channels * length as usize
+            + match s.format {
+                1 if !joins => 2,
+                2 if !joins => 3,
+                2 if run % 2 == 1 => 1,
+                3 => 1,
+                _ => 0,
+            };
+        previous = Some((time, length));
+    }
+    if size > MAX_PAYLOAD {
+        None
+    } else {
+        Some(size)
+    }
+}
+
+/// Writes the payload of a list that was planned.
+fn put_payload(s: Settings, words: &[u32], bytes: &[u8], out: &mut [u8]) {
+    let width = ROW_WORDS * s.channels as usize;
+    let mut at = 0;
+    if s.format == 3 {
+        for row in words.chunks_exact(width) {
+            out[at] = 128 | code(3, row[1] / 256, row[3]).unwrap_or(0) << 4;
+            at += 1;
+        }
+        out[at - 1] &= 127;
+    } else {
+        let mut from = 0;
+        while from < words.len() {
+            let length = words[from + 3];
+            let mut to = from + width;
+            while to < words.len() && words[to + 3] == length {
+                to += width;
+            }
+            let blocks = (to - from) / width;
+            out[at] = if to < words.len() { 128 } else { 0 } | code(s.format, words[from + 1] / 256, length).unwrap_or(0) << 2;
+            out[at + 1] = blocks as u8;
+            at += 2;
+            if s.format == 2 {
+                out[at..at + blocks.div_ceil(2)].fill(0);
+                for i in 1..blocks {
+                    let ticks = words[from + width * i].wrapping_sub(words[from + width * (i - 1)]);
+                    out[at + i / 2] |= ((ticks / G719_STEP - 1) as u8) << (4 - 4 * (i % 2));
+                }
+                at += blocks.div_ceil(2);
+            }
+            from = to;
+        }
+    }
+    for row in words.chunks_exact(ROW_WORDS) {
+        let (start, length) = (row[2] as usize, row[3] as usize);
+        out[at..at + length].copy_from_slice(&bytes[start..start + length]);
+        at += length;
+    }
+}
+
+pub fn write_payload(s: Settings, words: &[u32], bytes: &[u8], out: &mut [u8]) -> Result<u32, u32> {
+    if !s.in_range() {
+        return Err(BAD_SETTINGS);
+    }
+    if outside(words, bytes) {
+        return Err(ROW_OUTSIDE);
+    }
+    if words.len() % ROW_WORDS != 0 {
+        return Err(NOT_WRITABLE);
+    }
+    let size = plan(s, words).ok_or(NOT_WRITABLE)?;
+    if out.len() < size {
+        return Err(AREA_TOO_SHORT);
+    }
+    put_payload(s, words, bytes, &mut out[..size]);
+    Ok(size as u32)
+}
+
+#[allow(clippy::too_many_arguments)]
+pub fn write_packet(
+    s: Settings,
+    marker: bool,
+    sequence: u16,
+    source: u32,
+    counts: &[u32],
+    words: &[u32],
+    bytes: &[u8],
+    out: &mut [u8],
+) -> Result<u32, u32> {
+    if !s.in_range() {
+        return Err(BAD_SETTINGS);
+    }
+    if outside(words, bytes) {
+        return Err(ROW_OUTSIDE);
+    }
+    let rows = words.len() / ROW_WORDS;
+    let redundant = counts.len().wrapping_sub(1);
+    let summed: u64 = counts.iter().map(|count| *count as u64).sum();
+    if words.len() % ROW_WORDS != 0 || redundant > MAX_REDUNDANT || summed != rows as u64 || rows > MAX_ROWS {
+        return Err(NOT_WRITABLE);
+    }
+    if redundant > 0 && s.redundancy_type == NO_REDUNDANCY {
+        return Err(NOT_WRITABLE);
+    }
+    let mut lists = [(0usize, 0usize, 0usize); MAX_REDUNDANT + 1];
+    let headers = if redundant > 0 { 4 * redundant + 1 } else { 0 };
+    let (mut at, mut size) = (0, HEADER_BYTES + headers);
+    for (list, count) in lists.iter_mut().zip(counts) {
+        let to = at + ROW_WORDS * *count as usize;
+        let length = plan(s, &words[at..to]).ok_or(NOT_WRITABLE)?;
+        *list = (at, to, length);
+        size += length;
+        at = to;
+    }
+    let timestamp = words[lists[redundant].0];
+    for list in &lists[..redundant] {
+        if timestamp.wrapping_sub(words[list.0]) > MAX_OFFSET || list.2 > MAX_BLOCK {
+            return Err(NOT_WRITABLE);
+        }
+    }
+    if size > MAX_PACKET {
+        return Err(NOT_WRITABLE);
+    }
+    if out.len() < size {
+        return Err(AREA_TOO_SHORT);
+    }
+    let payload_type = if redundant > 0 { s.redundancy_type } else { s.payload_type };
+    out[0] = 128;
+    out[1] = payload_type | (marker as u8) << 7;
+    out[2..4].copy_from_slice(&sequence.to_be_bytes());
+    out[4..8].copy_from_slice(&timestamp.to_be_bytes());
+    out[8..12].copy_from_slice(&source.to_be_bytes());
+    let mut at = HEADER_BYTES;
+    if redundant > 0 {
+        for list in &lists[..redundant] {
+            let offset = timestamp.wrapping_sub(words[list.0]);
+            let header = (128 | s.payload_type as u32) << 24 | offset << 10 | list.2 as u32;
+            out[at..at + 4].copy_from_slice(&header.to_be_bytes());
+            at += 4;
+        }
+        out[at] = s.payload_type;
+        at += 1;
+    }
+    for (from, to, length) in &lists[..=redundant] {
+        put_payload(s, &words[*from..*to], bytes, &mut out[at..at + length]);
+        at += length;
+    }
+    Ok(size as u32)
+}
+
+// The reorder buffer
+
+#[derive(Clone, Copy)]
+struct Held {
+    time: u32,
+    length: u16,
+    channel: u8,
+    class: u8,
+    slot: u8,
+}
+
+pub struct Take {
+    settings: Settings,
+    held: VecDeque<Held>,
+    occupied: [u64; 3],
+    last: Option<(u32, u8)>,
+}
+
+impl Take {
+    pub fn new(settings: Settings) -> Result<Take, u32> {
+        if !settings.in_range() {
+            return Err(BAD_SETTINGS);
+        }
+        Ok(Take { settings, held: VecDeque::with_capacity(SLOTS), occupied: [0; 3], last: None })
+    }
+
+    pub fn offer(&mut self, packet: &[u8], rows: &mut [u32], store: &mut [u8]) -> Result<Verdicts, u32> {
+        if rows.len() < ROW_AREA || store.len() < STORE_BYTES {
+            return Err(AREA_TOO_SHORT);
+        }
+        let reading = read_checked(self.settings, packet, rows)?;
+        let mut verdicts = Verdicts::default();
+        for row in rows.chunks_exact(ROW_WORDS).take(reading.rows as usize) {
+            if row[1] < 256 {
+                continue;
+            }
+            let bytes = &packet[row[2] as usize..(row[2] + row[3]) as usize];
+            *self.judge(row[0], row[1], bytes, store, &mut verdicts) += 1;
+        }
+        Ok(verdicts)
+    }
+
+    fn judge<'a>(&mut self, time: u32, tag: u32, bytes: &[u8], store: &mut [u8], v: &'a mut Verdicts) -> &'a mut u32 {
+        let (channel, class) = (tag as u8, (tag >> 8) as u8);
+        if let Some((last, last_channel)) = self.last {
+            let ahead = time.wrapping_sub(last) as i32;
+            if ahead < 0 || (ahead == 0 && channel <= last_channel) {
+                return &mut v.late;
+            }
+        } else if let (Some(first), Some(end)) = (self.held.front(), self.held.back()) {
+            // from the first held time, or from this one, all must lie less than 2^31 ahead
+            if time.wrapping_sub(first.time) >= 1 << 31 && end.time.wrapping_sub(time) >= 1 << 31 {
+                return &mut v.far;
+            }
+        }
+        // from the end, where a new frame mostly belongs
+        let mut at = self.held.len();
+        while at > 0 {
+            let held = self.held[at - 1];
+            let ahead = time.wrapping_sub(held.time) as i32;
+            if ahead > 0 || (ahead == 0 && channel > held.channel) {
+                break;
+            }
+            if ahead == 0 && channel == held.channel {
+                let start = held.slot as usize * SLOT_BYTES;
+                let copy = &mut store[start..start + SLOT_BYTES];
+                let better = if class != held.class {
+                    class == 1
+                } else if bytes.len() != held.length as usize {
+                    bytes.len() > held.length as usize
+                } else {
+                    *bytes > copy[..bytes.len()]
+                };
+                if !better {
+                    return &mut v.repeated;
+                }
+                copy[..bytes.len()].copy_from_slice(bytes);
+                self.held[at - 1] = Held { class, length: bytes.len() as u16, ..held };
+                return &mut v.better;
+            }
+            at -= 1;
+        }
+        let Some(word) = self.occupied.iter().position(|word| *word != u64::MAX) else {
+            return &mut v.no_room;
+        };
+        let bit = self.occupied[word].trailing_ones();
+        self.occupied[word] |= 1 << bit;
+        let slot = 64 * word + bit as usize;
+        store[slot * SLOT_BYTES..slot * SLOT_BYTES + bytes.len()].copy_from_slice(bytes);
+        self.held.insert(at, Held { time, length: bytes.len() as u16, channel, class, slot: slot as u8 });
+        &mut v.inserted
+    }
+
+    pub fn draw(&mut self, store: &[u8], area: &mut [u8]) -> Result<Drawn, u32> {
+        if store.len() < STORE_BYTES || area.len() < DRAW_AREA {
+            return Err(AREA_TOO_SHORT);
+        }
+        let Some(first) = self.held.pop_front() else {
+            return Ok(Drawn::Empty);
+        };
+        let (slot, length) = (first.slot as usize, first.length as usize);
+        area[..length].copy_from_slice(&store[slot * SLOT_BYTES..slot * SLOT_BYTES + length]);
+        self.occupied[slot / 64] &= !(1 << (slot % 64));
+        self.last = Some((first.time, first.channel));
+        Ok(Drawn::Frame { time: first.time, channel: first.channel as u32, class: first.class as u32, length: first.length as u32 })
+    }
+}

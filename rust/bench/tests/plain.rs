@@ -1,0 +1,79 @@
+//! The plain Rust version answers and leaves what the reference does.
+
+use bench::plain;
+use cases::{Random, Shape};
+use reference::{DRAW_AREA, ROW_AREA, STORE_BYTES};
+
+#[test]
+fn reading() {
+    let mut r = Random::new(41);
+    let (mut one, mut two) = (vec![0; ROW_AREA], vec![0; ROW_AREA]);
+    for _ in 0..200_000 {
+        let s = if r.percent(2) { cases::bad_settings(&mut r) } else { cases::settings(&mut r) };
+        let bytes = r.pick(&[100, 400, 2036]);
+        let mut packet = cases::packet(&mut r, s, Shape { bytes, rows: 130, alike: false });
+        if r.percent(50) {
+            cases::damage(&mut r, &mut packet);
+        }
+        assert_eq!(plain::read(s, &packet, &mut one), reference::read(s, &packet, &mut two), "{s:?} {packet:02x?}");
+        assert_eq!(one, two);
+    }
+}
+
+#[test]
+fn writing() {
+    let mut r = Random::new(42);
+    for _ in 0..100_000 {
+        let s = cases::settings(&mut r);
+        let (mut list, mut counts) = cases::lists_for_packet(&mut r, s);
+        match r.below(10) {
+            0..=3 => cases::damage_list(&mut r, s, &mut list),
+            4 => cases::counts_of(&mut r, &mut counts),
+            _ => {}
+        }
+        let length = if r.percent(50) { 2048 } else { r.below(2048) };
+        let (mut one, mut two) = (vec![0; length], vec![0; length]);
+        let mine = plain::write_packet(s, true, 1, 2, &counts, &list.words, &list.bytes, &mut one);
+        let theirs = reference::write_packet(s, true, 1, 2, &counts, &list.words, &list.bytes, &mut two);
+        assert_eq!((mine, &one), (theirs, &two), "{s:?} {counts:?} {list:?}");
+        let end = list.words.len().min(4 * counts.first().map_or(0, |count| (*count).min(1000) as usize));
+        let mine = plain::write_payload(s, &list.words[..end], &list.bytes, &mut one);
+        let theirs = reference::write_payload(s, &list.words[..end], &list.bytes, &mut two);
+        assert_eq!((mine, &one), (theirs, &two), "{s:?} {list:?}");
+    }
+}
+
+#[test]
+fn gathering() {
+    let mut r = Random::new(43);
+    let (mut one_rows, mut two_rows) = (vec![0; ROW_AREA], vec![0; ROW_AREA]);
+    let (mut one_store, mut two_store) = (vec![0; STORE_BYTES], vec![0; STORE_BYTES]);
+    let (mut one_area, mut two_area) = (vec![0; DRAW_AREA], vec![0; DRAW_AREA]);
+    for _ in 0..400 {
+        let s = cases::settings(&mut r);
+        let mut take = plain::Take::new(s).unwrap();
+        let mut buffer = reference::fresh(s).0;
+        let base = if r.percent(50) { 0 } else { r.word() };
+        let rows = r.pick(&[1, 8, 128]);
+        for i in 0..200u32 {
+            if r.percent(65) {
+                let mut time = base.wrapping_add(960 * (i / 2 + r.below(40) as u32));
+                if r.percent(3) {
+                    time = time.wrapping_add(r.pick(&[1 << 31, (1 << 31) - 1, 1 << 30, 3 << 30]));
+                }
+                let packet = cases::packet_at(&mut r, s, Shape { bytes: 1200, rows, alike: true }, time);
+                let mine = take.offer(&packet, &mut one_rows, &mut one_store);
+                let (after, theirs) = reference::offer(&buffer, &packet, &mut two_rows, &mut two_store);
+                buffer = after;
+                assert_eq!(mine, theirs);
+                assert!(one_rows == two_rows && one_store == two_store);
+            } else {
+                let mine = take.draw(&one_store, &mut one_area);
+                let (after, theirs) = reference::draw(&buffer, &two_store, &mut two_area);
+                buffer = after;
+                assert_eq!(mine, theirs);
+                assert!(one_area == two_area);
+            }
+        }
+    }
+}

@@ -1,0 +1,99 @@
+/* The header used from C: sizes and places of the structs' fields, and each function called once as its comment says.
+ * -DHAVE_READ, -DHAVE_WRITE, -DHAVE_BUFFER: which functions the archive has. */
+#include "heolstorpit.h"
+
+#include <stdio.h>
+#include <stdlib.h>
+#include <string.h>
+
+#define HOLDS(name, fact) typedef char name[(fact) ? 1 : -1]
+HOLDS(settings_size, sizeof(hsp_settings) == 4);
+HOLDS(reading_size, sizeof(hsp_reading) == 24);
+HOLDS(written_size, sizeof(hsp_written) == 8);
+HOLDS(buffer_size, sizeof(hsp_buffer) == 3112);
+HOLDS(buffer_tags, offsetof(hsp_buffer, tags) == 768);
+HOLDS(buffer_lengths, offsetof(hsp_buffer, lengths) == 1536);
+HOLDS(buffer_slots, offsetof(hsp_buffer, slots) == 2304);
+HOLDS(buffer_occupied, offsetof(hsp_buffer, occupied) == 3072);
+HOLDS(buffer_last, offsetof(hsp_buffer, last_time) == 3096 && offsetof(hsp_buffer, last_channel) == 3100);
+HOLDS(buffer_drawn, offsetof(hsp_buffer, drawn) == 3104 && offsetof(hsp_buffer, settings) == 3108);
+HOLDS(fresh_size, sizeof(hsp_fresh) == 3120 && offsetof(hsp_fresh, buffer) == 8);
+HOLDS(offered_size, sizeof(hsp_offered) == 3144 && offsetof(hsp_offered, buffer) == 32);
+HOLDS(drawn_size, sizeof(hsp_drawn) == 3136 && offsetof(hsp_drawn, buffer) == 24);
+HOLDS(areas, HSP_ROW_AREA == HSP_MAX_ROWS * HSP_ROW_WORDS && HSP_STORE_BYTES == HSP_SLOTS * HSP_SLOT_BYTES);
+
+#define EXPECT(fact)                                                  \
+    do {                                                              \
+        if (!(fact)) {                                                \
+            fprintf(stderr, "%s:%d: not so: %s\n", __FILE__, __LINE__, #fact); \
+            exit(1);                                                  \
+        }                                                             \
+    } while (0)
+
+/* Document 001, 6.1: three mono frames, two of 80 bytes and one of 120, behind an RTP header. */
+static uint8_t packet[12 + 284] = {0x80, 0x80 | 97, 0x12, 0x34, 0, 0, 0x10, 0, 0, 0, 0, 9, 0xA0, 2, 0x30, 1};
+
+int main(void) {
+    hsp_settings settings = {1, 1, 97, HSP_NO_REDUNDANCY};
+    uint32_t rows[HSP_ROW_AREA];
+    size_t i;
+    for (i = 16; i < sizeof packet; i++) packet[i] = (uint8_t)i;
+    memset(rows, 0xEE, sizeof rows);
+
+#ifdef HAVE_READ
+    {
+        hsp_reading r = hsp_read(settings, packet, sizeof packet, rows, HSP_ROW_AREA);
+        EXPECT(r.refusal == 0 && r.rows == 3 && r.marker == 1 && r.sequence == 0x1234 && r.timestamp == 4096 && r.source == 9);
+        EXPECT(rows[0] == 4096 && rows[1] == 256 && rows[2] == 16 && rows[3] == 80);
+        EXPECT(rows[4] == 5056 && rows[5] == 256 && rows[6] == 96 && rows[7] == 80);
+        EXPECT(rows[8] == 6016 && rows[9] == 256 && rows[10] == 176 && rows[11] == 120 && rows[12] == 0xEEEEEEEE);
+        r = hsp_read(settings, packet, sizeof packet - 1, rows, HSP_ROW_AREA);
+        EXPECT(r.refusal == 10 && r.rows == 0 && r.marker == 0 && r.sequence == 0 && r.timestamp == 0 && r.source == 0);
+        settings.channels = 3;
+        EXPECT(hsp_read(settings, packet, sizeof packet, rows, HSP_ROW_AREA).refusal == 11);
+        settings.channels = 1;
+        puts("hsp_read works from C");
+    }
+#endif
+#ifdef HAVE_WRITE
+    {
+        static const uint32_t list[12] = {4096, 256, 16, 80, 5056, 256, 96, 80, 6016, 256, 176, 120};
+        static const uint32_t counts[1] = {3};
+        uint8_t out[HSP_MAX_PACKET];
+        hsp_written w = hsp_write_payload(settings, list, 12, packet, sizeof packet, out, sizeof out);
+        EXPECT(w.refusal == 0 && w.length == 284 && memcmp(out, packet + 12, 284) == 0);
+        w = hsp_write_packet(settings, 2, 0x1234, 9, counts, 1, list, 12, packet, sizeof packet, out, 296);
+        EXPECT(w.refusal == 0 && w.length == 296 && memcmp(out, packet, 296) == 0);
+        w = hsp_write_packet(settings, 2, 0x1234, 9, counts, 1, list, 12, packet, sizeof packet, out, 295);
+        EXPECT(w.refusal == 12 && w.length == 0);
+        puts("hsp_write_payload and hsp_write_packet work from C");
+    }
+#endif
+#ifdef HAVE_BUFFER
+    {
+        static uint8_t store[HSP_STORE_BYTES], area[HSP_DRAW_AREA];
+        hsp_fresh f = hsp_new(settings);
+        hsp_offered o;
+        hsp_drawn d;
+        hsp_buffer first;
+        EXPECT(f.refusal == 0);
+        o = hsp_offer(f.buffer, packet, sizeof packet, rows, HSP_ROW_AREA, store, sizeof store);
+        EXPECT(o.refusal == 0 && o.inserted == 3 && o.late == 0 && o.far == 0 && o.repeated == 0 && o.better == 0 && o.no_room == 0);
+        first = o.buffer;
+        o = hsp_offer(o.buffer, packet, sizeof packet, rows, HSP_ROW_AREA, store, sizeof store);
+        EXPECT(o.refusal == 0 && o.repeated == 3 && o.inserted == 0 && memcmp(&first, &o.buffer, sizeof first) == 0);
+        d = hsp_draw(o.buffer, store, sizeof store, area, sizeof area);
+        EXPECT(d.refusal == 0 && d.empty == 0 && d.time == 4096 && d.channel == 0 && d.frame_class == 1 && d.length == 80);
+        EXPECT(memcmp(area, packet + 16, 80) == 0 && d.buffer.drawn == 1 && d.buffer.last_time == 4096);
+        d = hsp_draw(d.buffer, store, sizeof store, area, sizeof area);
+        d = hsp_draw(d.buffer, store, sizeof store, area, sizeof area);
+        EXPECT(d.time == 6016 && d.length == 120 && memcmp(area, packet + 176, 120) == 0);
+        d = hsp_draw(d.buffer, store, sizeof store, area, sizeof area);
+        EXPECT(d.refusal == 0 && d.empty == 1 && d.time == 0 && d.length == 0);
+        d.buffer.drawn = 2;
+        EXPECT(hsp_draw(d.buffer, store, sizeof store, area, sizeof area).refusal == 15);
+        puts("hsp_new, hsp_offer and hsp_draw work from C");
+    }
+#endif
+    return 0;
+}

@@ -1,0 +1,14 @@
+//! Generated inputs: packets valid and damaged, lists of rows to write, buffers spoiled clause by clause.
+//!
+//! All of it comes from one small deterministic generator, so that a case is named by its seed.
+#![forbid(unsafe_code)]
+
+mod lists;
+mod packets;
+mod random;
+mod spoiled;
+
+pub use lists::{counts_of, damage_list, list_from_packet, lists_for_packet, made_list, List};
+pub use packets::{bad_settings, damage, other_settings, packet, packet_at, payload, settings, Shape};
+pub use random::Random;
+pub use spoiled::{spoil, SPOILS};

@@ -1,0 +1,234 @@
+//! Lists of rows to write, with the bytes they point into.
+
+use crate::{Random, Shape};
+use reference::{Row, Settings, ROW_AREA, ROW_WORDS};
+
+/// Words of rows, and the byte area that they point into.
+#[derive(Clone, Debug, Default)]
+pub struct List {
+    pub words: Vec<u32>,
+    pub bytes: Vec<u8>,
+}
+
+impl List {
+    pub fn rows(&self) -> usize {
+        self.words.len() / ROW_WORDS
+    }
+}
+
+/// The rows of a valid plain payload with no other headers, as the reference reads them; a writer has to take them.
+pub fn list_from_packet(r: &mut Random, s: Settings, shape: Shape, time: u32) -> List {
+    let mut packet = vec![0x80, s.payload_type, 0, 0];
+    packet.extend(time.to_be_bytes());
+    packet.extend([0; 4]);
+    packet.extend(crate::payload(r, s, shape));
+    let mut area = vec![0; ROW_AREA];
+    match reference::read(s, &packet, &mut area) {
+        Ok(reading) => {
+            area.truncate(ROW_WORDS * reading.rows as usize);
+            List { words: area, bytes: packet }
+        }
+        Err(_) => List { words: Vec::new(), bytes: packet },
+    }
+}
+
+/// A list made row by row, its frames anywhere in a byte area, overlapping or not: mostly one that can be written.
+/// `aim` is the number of bytes that its payload is to come close to, where that can be had with rows of no data.
+pub fn made_list(r: &mut Random, s: Settings, time: u32, most_rows: usize, aim: Option<usize>) -> List {
+    let channels = s.channels as usize;
+    let size = 320 + r.below(700);
+    let bytes = r.bytes(size);
+    let step = if s.format == 3 { 160 } else { 960 };
+    let mut words = Vec::new();
+    let mut now = time;
+    let mut run: Option<usize> = None;
+    let (mut payload, mut run_blocks) = (0usize, 0usize);
+    let mut length = pick_length(r, s);
+    let rows = match aim {
+        Some(_) => most_rows,
+        None => r.within(1, most_rows),
+    };
+    while words.len() / ROW_WORDS + channels <= rows.max(channels) {
+        // sometimes another length
+        if r.percent(25) {
+            length = pick_length(r, s);
+        }
+        if let Some(aim) = aim {
+            // close to the aim only frames of no data are added
+            let table = if s.format == 2 { run_blocks.div_ceil(2) } else { 0 };
+            if payload + table + 4 + channels * length > aim {
+                length = 0;
+            }
+            if payload + table + (run != Some(length)) as usize * 2 > aim + r.below(4) {
+                break;
+            }
+        }
+        let same = run == Some(length);
+        if !words.is_empty() {
+            // within an entry of kind 2 there may be a gap
+            let steps = if s.format == 2 && same && r.percent(30) { r.within(1, 16) } else { 1 };
+            now = now.wrapping_add(step * steps as u32);
+        }
+        if s.format == 3 {
+            payload += 1;
+        } else if !same {
+            payload += 2 + if s.format == 2 { run_blocks.div_ceil(2) } else { 0 };
+            run_blocks = 0;
+        }
+        run_blocks += 1;
+        run = Some(length);
+        payload += channels * length;
+        let class = if length == 0 {
+            0
+        } else if s.format == 3 {
+            r.pick(&[1, 1, 2])
+        } else {
+            1
+        };
+        for channel in 0..channels as u32 {
+            let start = match r.below(10) {
+                0 => size - length,
+                1 => 0,
+                _ => r.below(size - length + 1),
+            };
+            words.extend(Row { time: now, class, channel, start: start as u32, length: length as u32 }.words());
+        }
+    }
+    List { words, bytes }
+}
+
+fn pick_length(r: &mut Random, s: Settings) -> usize {
+    if r.percent(12) {
+        0
+    } else if s.format == 3 {
+        14
+    } else {
+        match r.below(3) {
+            0 => r.pick(&[80, 220, 240, 320]),
+            1 => 80 + 10 * r.below(15),
+            _ => r.pick(&[80, 90, 100]),
+        }
+    }
+}
+
+/// Damages the rows of a list: one field, or the order, number or wholeness of the rows.
+pub fn damage_list(r: &mut Random, s: Settings, list: &mut List) {
+    let rows = list.rows();
+    if rows == 0 {
+        list.words.push(r.word());
+        return;
+    }
+    let row = ROW_WORDS * r.below(rows);
+    let step = if s.format == 3 { 160u32 } else { 960 };
+    match r.below(14) {
+        0 => list.words[row] = r.word(),
+        1 => {
+            let change = r.pick(&[1, u32::MAX, step, step.wrapping_neg(), 15 * step, 16 * step, 17 * step, 1 << 31, 16384]);
+            // this row only, or all from here
+            let end = if r.percent(50) { row + ROW_WORDS } else { list.words.len() };
+            for place in (row..end).step_by(ROW_WORDS) {
+                list.words[place] = list.words[place].wrapping_add(change);
+            }
+        }
+        2 => list.words[row + 1] = r.pick(&[0, 1, 2, 255, 256, 257, 258, 512, 513, 768, 65536 + 256, u32::MAX]),
+        3 => list.words[row + 1] ^= r.pick(&[1, 2, 128, 256, 512, 1024, 1 << 16, 1 << 31]),
+        4 => list.words[row + 2] = r.pick(&[0, list.bytes.len() as u32, list.bytes.len() as u32 + 1, u32::MAX, 1 << 31]),
+        5 => {
+            let beyond = list.bytes.len() as u32 - list.words[row + 3].min(list.bytes.len() as u32);
+            list.words[row + 2] = beyond.wrapping_add(r.pick(&[0, 1, u32::MAX]));
+        }
+        6 => list.words[row + 3] = r.pick(&[0, 13, 14, 15, 79, 80, 90, 220, 230, 240, 250, 320, 340, u32::MAX]),
+        7 => list.words[row + 3] = list.words[row + 3].wrapping_add(r.pick(&[1, u32::MAX, 10, 20])),
+        8 => {
+            let other = ROW_WORDS * r.below(rows);
+            for i in 0..ROW_WORDS {
+                list.words.swap(row + i, other + i);
+            }
+        }
+        9 => {
+            list.words.drain(row..row + ROW_WORDS);
+        }
+        10 => {
+            let copy: Vec<u32> = list.words[row..row + ROW_WORDS].to_vec();
+            list.words.splice(row..row, copy);
+        }
+        11 => list.words.truncate(list.words.len() - r.within(1, 3)),
+        12 => {
+            for _ in 0..r.within(1, 5) {
+                list.words.push(r.word() >> r.below(32));
+            }
+        }
+        _ => {
+            let shorter = r.below(list.bytes.len() + 1);
+            list.bytes.truncate(shorter);
+        }
+    }
+}
+
+/// Up to four redundant lists and a primary one, in one word area, all pointing into one byte area.
+pub fn lists_for_packet(r: &mut Random, s: Settings) -> (List, Vec<u32>) {
+    let redundant = if r.percent(25) { 0 } else { r.within(1, 4) };
+    let time = if r.percent(50) { r.word() } else { (r.below(40_000) as u32).wrapping_sub(20_000) };
+    let mut whole = List::default();
+    let mut counts = Vec::new();
+    let most = if r.percent(20) { 128 } else { r.within(1, 12) };
+    for i in 0..=redundant {
+        let offset = match r.below(12) {
+            _ if i == redundant => 0,
+            0 => 16383,
+            1 => 16384,
+            2 => r.word(),
+            3 => 0,
+            4 => (r.below(2000) as u32).wrapping_neg(),
+            _ => 160 * 6 * r.below(17) as u32,
+        };
+        let at = time.wrapping_sub(offset);
+        let aim = match r.below(12) {
+            0 => Some(1018 + r.below(9)),
+            1 => Some(2036 / (redundant + 1)),
+            _ => None,
+        };
+        let list = if r.percent(30) {
+            list_from_packet(r, s, Shape { bytes: 600, rows: most, alike: false }, at)
+        } else {
+            made_list(r, s, at, if aim.is_some() { 128 } else { most }, aim)
+        };
+        let base = whole.bytes.len() as u32;
+        whole.bytes.extend_from_slice(&list.bytes);
+        counts.push(list.rows() as u32);
+        for row in list.words.chunks_exact(ROW_WORDS) {
+            whole.words.extend([row[0], row[1], row[2] + base, row[3]]);
+        }
+    }
+    (whole, counts)
+}
+
+/// The counts, sometimes damaged.
+pub fn counts_of(r: &mut Random, counts: &mut Vec<u32>) {
+    let place = r.below(counts.len());
+    match r.below(8) {
+        0 => counts.clear(),
+        1 => counts.insert(place, 0),
+        2 => counts[place] = counts[place].wrapping_add(r.pick(&[1, u32::MAX, 128])),
+        3 => counts[place] = r.pick(&[0, u32::MAX, 1 << 31]),
+        4 => {
+            while counts.len() < 6 {
+                counts.push(r.below(2) as u32);
+            }
+        }
+        5 => {
+            counts.pop();
+        }
+        6 => {
+            // one list as two
+            let part = r.below(counts[place] as usize + 1) as u32;
+            counts[place] -= part;
+            counts.insert(place, part);
+        }
+        _ => {
+            // two numbers whose sum wraps
+            counts[place] = counts[place].wrapping_add(1 << 31);
+            counts.push(1 << 31);
+        }
+    }
+}

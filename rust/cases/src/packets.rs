@@ -1,0 +1,292 @@
+//! Packets: built by the formats' rules with every field at random, then damaged.
+
+use crate::Random;
+use reference::Settings;
+
+/// Settings in range.
+pub fn settings(r: &mut Random) -> Settings {
+    let format = r.within(1, 3) as u8;
+    let channels = if format == 3 { 1 } else { r.within(1, 2) as u8 };
+    let payload_type = if r.percent(10) { r.pick(&[0, 127]) } else { r.below(128) as u8 };
+    let redundancy_type = loop {
+        let t = if r.percent(30) { 128 } else { r.below(128) as u8 };
+        if t != payload_type {
+            break t;
+        }
+    };
+    Settings { format, channels, payload_type, redundancy_type }
+}
+
+/// Other settings in range, or the same.
+pub fn other_settings(r: &mut Random, s: Settings) -> Settings {
+    let other = settings(r);
+    match r.below(4) {
+        0 => Settings { format: other.format, channels: s.channels.min(if other.format == 3 { 1 } else { 2 }), ..s },
+        1 => Settings { channels: if s.format == 3 { 1 } else { 3 - s.channels }, ..s },
+        2 => Settings { payload_type: s.redundancy_type & 127, redundancy_type: 128, ..s },
+        _ => other,
+    }
+}
+
+/// Settings with one field out of range.
+pub fn bad_settings(r: &mut Random) -> Settings {
+    let s = settings(r);
+    match r.below(6) {
+        0 => Settings { format: r.pick(&[0, 4, 5, 128, 255]), ..s },
+        1 => Settings { channels: r.pick(&[0, 3, 4, 6, 255]), ..s },
+        2 => Settings { format: 3, channels: 2, ..s },
+        3 => Settings { payload_type: r.pick(&[128, 129, 200, 255]), ..s },
+        4 => Settings { redundancy_type: r.pick(&[129, 130, 200, 255]), ..s },
+        _ => Settings { redundancy_type: s.payload_type, ..s },
+    }
+}
+
+/// How large a payload is to be, and what its frames hold.
+#[derive(Clone, Copy, Debug)]
+pub struct Shape {
+    /// bytes of the payload, at most
+    pub bytes: usize,
+    /// rows, at most (at least one frame-block is made)
+    pub rows: usize,
+    /// frames of few different bytes and lengths, so that copies are equal or nearly so
+    pub alike: bool,
+}
+
+struct Entry {
+    code: u8,
+    length: usize,
+    blocks: usize,
+}
+
+fn code(r: &mut Random, s: Settings, alike: bool) -> (u8, usize) {
+    if s.format == 3 {
+        return r.pick(&[(0, 14), (0, 14), (2, 14), (7, 0)]);
+    }
+    let code = if r.percent(15) {
+        0
+    } else if alike {
+        r.pick(&[8, 8, 9])
+    } else {
+        r.within(8, 27) as u8
+    };
+    (code, g719_length(code))
+}
+
+fn g719_length(code: u8) -> usize {
+    match code as usize {
+        0 => 0,
+        c if c <= 22 => 80 + 10 * (c - 8),
+        c => 240 + 20 * (c - 23),
+    }
+}
+
+/// A valid payload: tables and sound, with the reserved and padding bits and every displacement at random.
+pub fn payload(r: &mut Random, s: Settings, shape: Shape) -> Vec<u8> {
+    let channels = s.channels as usize;
+    let mut entries: Vec<Entry> = Vec::new();
+    let (mut bytes, mut rows) = (0, 0);
+    let most = match r.below(4) {
+        0 => 1,
+        1 => r.within(1, 4),
+        _ => 128,
+    };
+    while entries.len() < most {
+        let (code, length) = code(r, s, shape.alike);
+        let blocks = if s.format == 3 {
+            1
+        } else if r.percent(5) {
+            r.within(1, 64)
+        } else {
+            r.within(1, 5)
+        };
+        let table = match s.format {
+            1 => 2,
+            2 => 2 + blocks.div_ceil(2),
+            _ => 1,
+        };
+        let size = table + blocks * channels * length;
+        if !entries.is_empty() && (bytes + size > shape.bytes || rows + blocks * channels > shape.rows) {
+            break;
+        }
+        bytes += size;
+        rows += blocks * channels;
+        entries.push(Entry { code, length, blocks });
+    }
+    let mut payload = Vec::with_capacity(bytes);
+    let mut sound = 0;
+    for (i, entry) in entries.iter().enumerate() {
+        let another = if i + 1 < entries.len() { 128 } else { 0 };
+        if s.format == 3 {
+            payload.push(another | entry.code << 4 | r.byte() & 15);
+        } else {
+            payload.push(another | entry.code << 2 | r.byte() & 3);
+            payload.push(entry.blocks as u8);
+            if s.format == 2 {
+                for _ in 0..entry.blocks.div_ceil(2) {
+                    let near = r.percent(60);
+                    payload.push(if near { r.byte() & 0x11 } else { r.byte() });
+                }
+            }
+        }
+        sound += entry.blocks * channels * entry.length;
+    }
+    let start = payload.len();
+    payload.resize(start + sound, r.byte() & 1);
+    if !shape.alike {
+        r.fill(&mut payload[start..]);
+    } else if sound > 0 {
+        for _ in 0..r.below(3) {
+            let place = start + r.below(sound);
+            payload[place] = r.byte() & 3;
+        }
+    }
+    payload
+}
+
+/// A packet with all kinds of headers, mostly valid, at a random time.
+pub fn packet(r: &mut Random, s: Settings, shape: Shape) -> Vec<u8> {
+    let time = match r.below(4) {
+        0 => r.word(),
+        1 => (r.below(100_000) as u32).wrapping_sub(50_000),
+        2 => 0x8000_0000u32.wrapping_add(r.below(100_000) as u32).wrapping_sub(50_000),
+        _ => r.below(5) as u32,
+    };
+    packet_at(r, s, shape, time)
+}
+
+/// A packet with all kinds of headers, mostly valid, at this time.
+pub fn packet_at(r: &mut Random, s: Settings, shape: Shape, time: u32) -> Vec<u8> {
+    let plain = s.redundancy_type == 128 || r.percent(50);
+    let mut first = 0x80;
+    let mut middle = Vec::new();
+    if r.percent(15) {
+        let sources = r.within(1, 15);
+        first |= sources as u8;
+        middle.extend(r.bytes(4 * sources));
+    }
+    if r.percent(15) {
+        let words = if r.percent(90) { r.below(8) } else { r.below(300) };
+        first |= 0x10;
+        middle.extend(r.bytes(2));
+        middle.extend((words as u16).to_be_bytes());
+        middle.extend(r.bytes(4 * words));
+    }
+    let padding = match r.below(100) {
+        0..=11 => r.within(1, 8),
+        12..=14 => r.within(1, 255),
+        _ => 0,
+    };
+    if padding > 0 {
+        first |= 0x20;
+    }
+    let mut packet = vec![first, if plain { s.payload_type } else { s.redundancy_type } | r.byte() & 128];
+    packet.extend(r.bytes(2));
+    packet.extend(time.to_be_bytes());
+    packet.extend(r.bytes(4));
+    packet.extend(middle);
+    if plain {
+        let bytes = payload(r, s, shape);
+        packet.extend(bytes);
+    } else {
+        redundancy(r, s, shape, &mut packet);
+    }
+    if padding > 0 {
+        packet.extend(r.bytes(padding - 1));
+        packet.push(padding as u8);
+    }
+    packet
+}
+
+fn redundancy(r: &mut Random, s: Settings, shape: Shape, packet: &mut Vec<u8>) {
+    let blocks = match r.below(20) {
+        0 => r.within(5, 60),
+        1..=3 => 0,
+        _ => r.within(1, 4),
+    };
+    let mut data = Vec::new();
+    for _ in 0..blocks {
+        let block_type = block_type(r, s);
+        let part = Shape { bytes: (shape.bytes / (blocks + 1)).min(1023), rows: (shape.rows / (blocks + 1)).max(1), ..shape };
+        let bytes = block(r, s, part, block_type);
+        let length = if bytes.len() > 1023 { 0 } else { bytes.len() };
+        let offset = match r.below(6) {
+            0 => 0,
+            1 => 16383,
+            2 => r.below(16384),
+            _ => 160 * 6 * r.below(17),
+        };
+        packet.push(128 | block_type);
+        packet.extend(((offset << 10 | length) as u32).to_be_bytes().into_iter().skip(1));
+        data.extend_from_slice(&bytes[..length]);
+    }
+    let block_type = block_type(r, s);
+    packet.push(block_type);
+    packet.extend(data);
+    let part = Shape { bytes: shape.bytes / (blocks + 1), rows: (shape.rows / (blocks + 1)).max(1), ..shape };
+    packet.extend(block(r, s, part, block_type));
+}
+
+fn block_type(r: &mut Random, s: Settings) -> u8 {
+    match r.below(10) {
+        0 => r.below(128) as u8,
+        1 => s.redundancy_type & 127,
+        _ => s.payload_type,
+    }
+}
+
+fn block(r: &mut Random, s: Settings, shape: Shape, block_type: u8) -> Vec<u8> {
+    if r.percent(10) {
+        Vec::new()
+    } else if block_type == s.payload_type {
+        payload(r, s, shape)
+    } else {
+        let length = r.below(40);
+        r.bytes(length)
+    }
+}
+
+/// Damages a packet: flips bits, cuts, lengthens, overwrites, mostly near its front.
+pub fn damage(r: &mut Random, packet: &mut Vec<u8>) {
+    if packet.is_empty() {
+        packet.push(r.byte());
+        return;
+    }
+    let front = packet.len().min(if r.percent(70) { 24 } else { 2048 });
+    match r.below(12) {
+        0..=3 => {
+            for _ in 0..r.within(1, 3) {
+                let place = r.below(front);
+                packet[place] ^= 1 << r.below(8);
+            }
+        }
+        4 => {
+            let place = r.below(front);
+            packet[place] = r.byte();
+        }
+        5 => {
+            let place = r.below(front);
+            packet[place] = r.pick(&[0, 1, 127, 128, 255]);
+        }
+        6 => packet.truncate(r.below(packet.len() + 1)),
+        7 => {
+            let less = r.within(1, 4).min(packet.len());
+            packet.truncate(packet.len() - less);
+        }
+        8 => {
+            let more = if r.percent(80) { r.within(1, 4) } else { r.below(2100) };
+            packet.extend(r.bytes(more));
+        }
+        9 => {
+            let place = r.below(front);
+            packet.remove(place);
+        }
+        10 => {
+            let place = r.below(front + 1);
+            packet.insert(place, r.byte());
+        }
+        _ => {
+            let length = packet.len();
+            packet[length - 1] = r.byte();
+        }
+    }
+}

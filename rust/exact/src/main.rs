@@ -1,0 +1,147 @@
+//! Each call with every area in a heap block of exactly its length, so that valgrind sees any byte read or written outside; the
+//! answers are compared with the reference too. Arguments: none, or the number of cases for each function.
+#![forbid(unsafe_code)]
+#![allow(unused_imports, dead_code)]
+
+use cases::{Random, Shape};
+use heolstorpit::{raw, Settings};
+use reference::{DRAW_AREA, ROW_AREA, STORE_BYTES};
+
+fn main() {
+    let cases: usize = match std::env::args().nth(1) {
+        None => 2000,
+        Some(word) => word.parse().expect("the number of cases"),
+    };
+    let mut r = Random::new(31);
+    #[cfg(feature = "read")]
+    read(&mut r, cases);
+    #[cfg(feature = "write")]
+    write(&mut r, cases);
+    #[cfg(feature = "buffer")]
+    buffer(&mut r, cases);
+}
+
+fn settings(s: reference::Settings) -> Settings {
+    Settings { format: s.format, channels: s.channels, payload_type: s.payload_type, redundancy_type: s.redundancy_type }
+}
+
+/// A heap block of exactly these elements.
+fn exact<T: Copy>(values: &[T]) -> Box<[T]> {
+    Box::from(values)
+}
+
+fn some_packet(r: &mut Random, s: reference::Settings) -> Box<[u8]> {
+    let shape = Shape { bytes: r.pick(&[100, 400, 2036]), rows: 128, alike: r.percent(50) };
+    let mut packet = cases::packet(r, s, shape);
+    if r.percent(50) {
+        cases::damage(r, &mut packet);
+    }
+    exact(&packet)
+}
+
+#[cfg(feature = "read")]
+fn read(r: &mut Random, cases: usize) {
+    for _ in 0..cases {
+        let s = if r.percent(3) { cases::bad_settings(r) } else { cases::settings(r) };
+        let packet = some_packet(r, s);
+        let words = if r.percent(90) { ROW_AREA } else { r.below(ROW_AREA) };
+        let (mut one, mut two) = (exact(&vec![7; words]), exact(&vec![7; words]));
+        let answer = raw::read(settings(s), &packet, &mut one);
+        let expected = reference::read(s, &packet, &mut two);
+        assert_eq!((answer.refusal, answer.rows, one), (expected.err().unwrap_or(0), expected.map_or(0, |e| e.rows), two));
+    }
+    println!("exact lengths: {cases} calls of read");
+}
+
+#[cfg(feature = "write")]
+fn write(r: &mut Random, cases: usize) {
+    for _ in 0..cases {
+        let s = cases::settings(r);
+        let (mut list, mut counts) = cases::lists_for_packet(r, s);
+        match r.below(10) {
+            0..=2 => cases::damage_list(r, s, &mut list),
+            3 => cases::counts_of(r, &mut counts),
+            _ => {}
+        }
+        let (rows, bytes, counts) = (exact(&list.words), exact(&list.bytes), exact(&counts));
+        let length = reference::write_packet(s, true, 1, 2, &counts, &rows, &bytes, &mut [0; 2048]);
+        let out = match length {
+            Ok(length) if r.percent(80) => length as usize,
+            Ok(length) => r.below(length as usize),
+            Err(_) => r.below(100),
+        };
+        let (mut one, mut two) = (exact(&vec![7; out]), exact(&vec![7; out]));
+        let answer = raw::write_packet(settings(s), 1, 1, 2, &counts, &rows, &bytes, &mut one);
+        let expected = reference::write_packet(s, true, 1, 2, &counts, &rows, &bytes, &mut two);
+        assert_eq!((answer.refusal, answer.length, one), (expected.err().unwrap_or(0), expected.unwrap_or(0), two));
+
+        let first = exact(&rows[..rows.len().min(4 * counts.first().map_or(0, |count| (*count).min(1000) as usize))]);
+        let length = reference::write_payload(s, &first, &bytes, &mut [0; 2048]);
+        let out = length.map_or(r.below(100), |length| length as usize);
+        let (mut one, mut two) = (exact(&vec![7; out]), exact(&vec![7; out]));
+        let answer = raw::write_payload(settings(s), &first, &bytes, &mut one);
+        let expected = reference::write_payload(s, &first, &bytes, &mut two);
+        assert_eq!((answer.refusal, answer.length, one), (expected.err().unwrap_or(0), expected.unwrap_or(0), two));
+    }
+    println!("exact lengths: {cases} calls of write_packet and of write_payload");
+}
+
+#[cfg(feature = "buffer")]
+fn buffer(r: &mut Random, cases: usize) {
+    let mut buffer = reference::Buffer::zero();
+    let (mut one_store, mut two_store) = (exact(&vec![7; STORE_BYTES]), exact(&vec![7; STORE_BYTES]));
+    for i in 0..cases {
+        if i % 200 == 0 {
+            buffer = reference::fresh(cases::settings(r)).0;
+        }
+        let mut given = buffer;
+        if r.percent(10) {
+            let way = r.below(cases::SPOILS);
+            cases::spoil(r, &mut given, way);
+        }
+        let state = raw_buffer(&given);
+        if r.percent(65) {
+            let shape = Shape { bytes: 2036, rows: r.pick(&[1, 8, 128]), alike: true };
+            let time = (960 * r.below(300) as u32).wrapping_sub(960 * 150);
+            let mut packet = cases::packet_at(r, buffer.settings, shape, time);
+            if r.percent(10) {
+                cases::damage(r, &mut packet);
+            }
+            let packet = exact(&packet);
+            let words = if r.percent(95) { ROW_AREA } else { r.below(ROW_AREA) };
+            let (mut one, mut two) = (exact(&vec![7; words]), exact(&vec![7; words]));
+            let answer = raw::offer(state, &packet, &mut one, &mut one_store);
+            let (after, expected) = reference::offer(&given, &packet, &mut two, &mut two_store);
+            assert!(answer.refusal == expected.err().unwrap_or(0) && answer.buffer == raw_buffer(&after));
+            assert!(answer.inserted == expected.map_or(0, |v| v.inserted) && one == two && one_store == two_store);
+            if given == buffer {
+                buffer = after;
+            }
+        } else {
+            let bytes = if r.percent(95) { DRAW_AREA } else { r.below(DRAW_AREA) };
+            let (mut one, mut two) = (exact(&vec![7; bytes]), exact(&vec![7; bytes]));
+            let answer = raw::draw(state, &one_store, &mut one);
+            let (after, expected) = reference::draw(&given, &two_store, &mut two);
+            assert!(answer.refusal == expected.err().unwrap_or(0) && answer.buffer == raw_buffer(&after) && one == two);
+            if given == buffer {
+                buffer = after;
+            }
+        }
+    }
+    println!("exact lengths: {cases} calls of offer and draw");
+}
+
+#[cfg(feature = "buffer")]
+fn raw_buffer(b: &reference::Buffer) -> raw::Buffer {
+    raw::Buffer {
+        times: b.times,
+        tags: b.tags,
+        lengths: b.lengths,
+        slots: b.slots,
+        occupied: b.occupied,
+        last_time: b.last_time,
+        last_channel: b.last_channel,
+        drawn: b.drawn,
+        settings: settings(b.settings),
+    }
+}

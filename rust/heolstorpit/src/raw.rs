@@ -1,0 +1,191 @@
+//! The calls with the answers as C gets them: numbers, the refusal among them. Safe, on slices.
+//!
+//! The structs are those of include/heolstorpit.h, field by field; the functions hand each slice over as a pointer and a
+//! length, and the library is proved to stay inside them, whatever the values.
+
+/// `hsp_settings`: what was agreed with the sender.
+#[repr(C)]
+#[derive(Clone, Copy, Debug, Default, PartialEq, Eq, Hash)]
+pub struct Settings {
+    /// 1 G.719 basic, 2 G.719 interleaved, 3 GSM-HR
+    pub format: u8,
+    /// 1 or 2; for GSM-HR only 1
+    pub channels: u8,
+    /// RTP payload type of the sound, 0 to 127
+    pub payload_type: u8,
+    /// RTP payload type of redundancy payloads, 0 to 127 and another; or 128: none
+    pub redundancy_type: u8,
+}
+
+/// `hsp_reading`
+#[repr(C)]
+#[derive(Clone, Copy, Debug, Default, PartialEq, Eq)]
+pub struct Reading {
+    pub refusal: u32,
+    pub rows: u32,
+    pub marker: u32,
+    pub sequence: u32,
+    pub timestamp: u32,
+    pub source: u32,
+}
+
+/// `hsp_written`
+#[repr(C)]
+#[derive(Clone, Copy, Debug, Default, PartialEq, Eq)]
+pub struct Written {
+    pub refusal: u32,
+    pub length: u32,
+}
+
+/// `hsp_buffer`: the reorder buffer's state, 3,112 bytes with no padding.
+#[repr(C)]
+#[derive(Clone, Copy, Debug, PartialEq, Eq)]
+pub struct Buffer {
+    pub times: [u32; 192],
+    pub tags: [u32; 192],
+    pub lengths: [u32; 192],
+    pub slots: [u32; 192],
+    pub occupied: [u64; 3],
+    pub last_time: u32,
+    pub last_channel: u32,
+    pub drawn: u32,
+    pub settings: Settings,
+}
+
+const _: () = assert!(size_of::<Buffer>() == 3112 && align_of::<Buffer>() == 8);
+
+/// `hsp_fresh`
+#[repr(C)]
+#[derive(Clone, Copy, Debug, PartialEq, Eq)]
+pub struct Fresh {
+    pub refusal: u32,
+    pub buffer: Buffer,
+}
+
+/// `hsp_offered`
+#[repr(C)]
+#[derive(Clone, Copy, Debug, PartialEq, Eq)]
+pub struct Offered {
+    pub refusal: u32,
+    pub late: u32,
+    pub far: u32,
+    pub repeated: u32,
+    pub better: u32,
+    pub no_room: u32,
+    pub inserted: u32,
+    pub buffer: Buffer,
+}
+
+/// `hsp_drawn`
+#[repr(C)]
+#[derive(Clone, Copy, Debug, PartialEq, Eq)]
+pub struct Drawn {
+    pub refusal: u32,
+    pub empty: u32,
+    pub time: u32,
+    pub channel: u32,
+    pub frame_class: u32,
+    pub length: u32,
+    pub buffer: Buffer,
+}
+
+mod c {
+    use super::*;
+
+    #[allow(dead_code)]
+    unsafe extern "C" {
+        pub fn hsp_read(settings: Settings, packet: *const u8, packet_length: usize, rows: *mut u32, rows_length: usize) -> Reading;
+        pub fn hsp_write_payload(
+            settings: Settings,
+            rows: *const u32,
+            rows_length: usize,
+            bytes: *const u8,
+            bytes_length: usize,
+            out: *mut u8,
+            out_length: usize,
+        ) -> Written;
+        pub fn hsp_write_packet(
+            settings: Settings,
+            marker: u8,
+            sequence: u16,
+            source: u32,
+            counts: *const u32,
+            counts_length: usize,
+            rows: *const u32,
+            rows_length: usize,
+            bytes: *const u8,
+            bytes_length: usize,
+            out: *mut u8,
+            out_length: usize,
+        ) -> Written;
+        pub fn hsp_new(settings: Settings) -> Fresh;
+        pub fn hsp_offer(
+            buffer: Buffer,
+            packet: *const u8,
+            packet_length: usize,
+            rows: *mut u32,
+            rows_length: usize,
+            store: *mut u8,
+            store_length: usize,
+        ) -> Offered;
+        pub fn hsp_draw(buffer: Buffer, store: *const u8, store_length: usize, area: *mut u8, area_length: usize) -> Drawn;
+    }
+}
+
+// Safety of all the calls below: a slice's pointer and length are those of memory that lives through the call, and a `&mut`
+// slice overlaps no other; the functions are proved, with no condition on their arguments, to read and write only inside.
+
+#[cfg(feature = "read")]
+pub fn read(settings: Settings, packet: &[u8], rows: &mut [u32]) -> Reading {
+    unsafe { c::hsp_read(settings, packet.as_ptr(), packet.len(), rows.as_mut_ptr(), rows.len()) }
+}
+
+#[cfg(feature = "write")]
+pub fn write_payload(settings: Settings, rows: &[u32], bytes: &[u8], out: &mut [u8]) -> Written {
+    unsafe { c::hsp_write_payload(settings, rows.as_ptr(), rows.len(), bytes.as_ptr(), bytes.len(), out.as_mut_ptr(), out.len()) }
+}
+
+#[cfg(feature = "write")]
+#[allow(clippy::too_many_arguments)]
+pub fn write_packet(
+    settings: Settings,
+    marker: u8,
+    sequence: u16,
+    source: u32,
+    counts: &[u32],
+    rows: &[u32],
+    bytes: &[u8],
+    out: &mut [u8],
+) -> Written {
+    unsafe {
+        c::hsp_write_packet(
+            settings,
+            marker,
+            sequence,
+            source,
+            counts.as_ptr(),
+            counts.len(),
+            rows.as_ptr(),
+            rows.len(),
+            bytes.as_ptr(),
+            bytes.len(),
+            out.as_mut_ptr(),
+            out.len(),
+        )
+    }
+}
+
+#[cfg(feature = "buffer")]
+pub fn new(settings: Settings) -> Fresh {
+    unsafe { c::hsp_new(settings) }
+}
+
+#[cfg(feature = "buffer")]
+pub fn offer(buffer: Buffer, packet: &[u8], rows: &mut [u32], store: &mut [u8]) -> Offered {
+    unsafe { c::hsp_offer(buffer, packet.as_ptr(), packet.len(), rows.as_mut_ptr(), rows.len(), store.as_mut_ptr(), store.len()) }
+}
+
+#[cfg(feature = "buffer")]
+pub fn draw(buffer: Buffer, store: &[u8], area: &mut [u8]) -> Drawn {
+    unsafe { c::hsp_draw(buffer, store.as_ptr(), store.len(), area.as_mut_ptr(), area.len()) }
+}

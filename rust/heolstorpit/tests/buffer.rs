@@ -1,0 +1,357 @@
+//! `Buffer::new`, `offer` and `draw` against the reference: whole histories of calls, with answers, buffers, stores and areas
+//! compared after each call; and the same calls on spoiled buffers.
+
+mod common;
+
+use cases::{Random, Shape};
+use common::{around, settings, Seen, Twice};
+use heolstorpit::{raw, Buffer};
+use reference::{Drawn, Settings, Verdicts, DRAW_AREA, ROW_AREA, SLOTS, STORE_BYTES};
+
+fn to_raw(b: &reference::Buffer) -> raw::Buffer {
+    raw::Buffer {
+        times: b.times,
+        tags: b.tags,
+        lengths: b.lengths,
+        slots: b.slots,
+        occupied: b.occupied,
+        last_time: b.last_time,
+        last_channel: b.last_channel,
+        drawn: b.drawn,
+        settings: settings(b.settings),
+    }
+}
+
+/// A buffer with its lent areas, held by the library and by the reference.
+struct Pair {
+    buffer: reference::Buffer,
+    rows: Twice<u32>,
+    store: Twice<u8>,
+    area: Twice<u8>,
+    seen: Seen,
+}
+
+impl Pair {
+    fn new(r: &mut Random) -> Pair {
+        Pair {
+            buffer: reference::Buffer::zero(),
+            rows: Twice::new(ROW_AREA + 64, |words| r.fill_words(words)),
+            store: Twice::new(STORE_BYTES + 64, |bytes| r.fill(bytes)),
+            area: Twice::new(DRAW_AREA + 64, |bytes| r.fill(bytes)),
+            seen: Seen::default(),
+        }
+    }
+
+    fn fresh(&mut self, s: Settings) {
+        let answer = raw::new(settings(s));
+        let (buffer, expected) = reference::fresh(s);
+        assert_eq!(answer, raw::Fresh { refusal: expected.err().unwrap_or(0), buffer: to_raw(&buffer) }, "new, settings {s:?}");
+        self.seen.refusal(answer.refusal);
+        self.buffer = buffer;
+    }
+
+    /// Offers to this buffer, with row area and store of these lengths; answers what is left of it.
+    fn offer_to(&mut self, buffer: reference::Buffer, packet: &[u8], rows: usize, store: usize) -> reference::Buffer {
+        let (my_rows, their_rows) = self.rows.lend(rows);
+        let (my_store, their_store) = self.store.lend(store);
+        let answer = raw::offer(to_raw(&buffer), packet, my_rows, my_store);
+        let (after, expected) = reference::offer(&buffer, packet, their_rows, their_store);
+        let (refusal, v) = match expected {
+            Ok(v) => (0, v),
+            Err(refusal) => (refusal, Verdicts::default()),
+        };
+        let Verdicts { late, far, repeated, better, no_room, inserted } = v;
+        let numbers = raw::Offered { refusal, late, far, repeated, better, no_room, inserted, buffer: to_raw(&after) };
+        let areas = self.rows.same() && self.store.same();
+        let kept = refusal == 0 || (self.rows.unchanged() && self.store.unchanged());
+        assert!(
+            answer == numbers && areas && kept,
+            "offer differs; areas equal: {areas}\nlibrary {answer:?}\nreference {numbers:?}\nto {buffer:?}\nrow area {rows}, store {store}\npacket {packet:02x?}"
+        );
+        self.seen.refusal(refusal);
+        for (name, n) in
+            [("late", late), ("far", far), ("repeated", repeated), ("better", better), ("no room", no_room), ("inserted", inserted)]
+        {
+            self.seen.add(name, n as u64);
+        }
+        after
+    }
+
+    fn draw_from(&mut self, buffer: reference::Buffer, store: usize, area: usize) -> (reference::Buffer, Result<Drawn, u32>) {
+        let (my_store, their_store) = self.store.lend(store);
+        let (my_area, their_area) = self.area.lend(area);
+        let answer = raw::draw(to_raw(&buffer), my_store, my_area);
+        let (after, expected) = reference::draw(&buffer, their_store, their_area);
+        let mut numbers = raw::Drawn { refusal: 0, empty: 0, time: 0, channel: 0, frame_class: 0, length: 0, buffer: to_raw(&after) };
+        match expected {
+            Ok(Drawn::Frame { time, channel, class, length }) => {
+                numbers = raw::Drawn { time, channel, frame_class: class, length, ..numbers };
+                self.seen.add("drawn", 1);
+            }
+            Ok(Drawn::Empty) => {
+                numbers.empty = 1;
+                self.seen.add("empty", 1);
+            }
+            Err(refusal) => numbers.refusal = refusal,
+        }
+        let areas = self.store.same() && self.area.same() && self.store.unchanged();
+        let kept = matches!(expected, Ok(Drawn::Frame { .. })) || self.area.unchanged();
+        assert!(
+            answer == numbers && areas && kept,
+            "draw differs; areas equal: {areas}\nlibrary {answer:?}\nreference {numbers:?}\nfrom {buffer:?}\nstore {store}, draw area {area}"
+        );
+        self.seen.refusal(answer.refusal);
+        (after, expected)
+    }
+
+    fn offer(&mut self, packet: &[u8]) {
+        self.buffer = self.offer_to(self.buffer, packet, ROW_AREA, STORE_BYTES);
+        if self.buffer.held() == SLOTS {
+            self.seen.add("offers that leave 192 held", 1);
+        }
+    }
+
+    fn draw(&mut self) -> Result<Drawn, u32> {
+        let (after, expected) = self.draw_from(self.buffer, STORE_BYTES, DRAW_AREA);
+        self.buffer = after;
+        expected
+    }
+
+    /// A call with areas of lengths around their limits; refused or not, the history goes on with what it leaves.
+    fn odd_areas(&mut self, r: &mut Random, packet: &[u8]) {
+        let rows = around(r, ROW_AREA);
+        let store = if r.percent(80) { around(r, STORE_BYTES) } else { STORE_BYTES };
+        if r.percent(60) {
+            self.buffer = self.offer_to(self.buffer, packet, rows, store);
+        } else {
+            let area = around(r, DRAW_AREA);
+            self.buffer = self.draw_from(self.buffer, store, area).0;
+        }
+    }
+
+    /// Both calls on a spoiled copy. Where it is well-formed still, the store may change, for both alike.
+    fn spoiled(&mut self, r: &mut Random, packet: &[u8]) {
+        let mut copy = self.buffer;
+        let way = r.below(cases::SPOILS);
+        cases::spoil(r, &mut copy, way);
+        if r.percent(15) {
+            let way = r.below(cases::SPOILS);
+            cases::spoil(r, &mut copy, way);
+        }
+        let store = if r.percent(90) { STORE_BYTES } else { around(r, STORE_BYTES) };
+        if copy.settings.in_range() {
+            self.seen.add(
+                format!("spoiled way {way:2}, {}", if reference::is_well_formed(&copy) { "still well-formed" } else { "malformed" }),
+                1,
+            );
+        }
+        self.offer_to(copy, packet, ROW_AREA, store);
+        self.draw_from(copy, store, DRAW_AREA).1.ok();
+    }
+}
+
+/// How the packets of a history come.
+struct Stream {
+    now: u32,
+    step: u32,
+    spread: usize,
+    shape: Shape,
+}
+
+impl Stream {
+    fn new(r: &mut Random, s: Settings) -> Stream {
+        let step = if s.format == 3 { 160 } else { 960 };
+        let now = match r.below(5) {
+            0 => 0,
+            1 => 0u32.wrapping_sub(step * r.below(40) as u32),
+            2 => (1u32 << 31).wrapping_sub(step * r.below(40) as u32),
+            3 => r.word() & 0xffff,
+            _ => r.word(),
+        };
+        let rows = if r.percent(10) { 128 } else { r.pick(&[1, 4, 12]) };
+        let spread = r.pick(&[1, 8, 40, 400]);
+        Stream { now, step, spread, shape: Shape { bytes: r.pick(&[400, 1200, 2036]), rows, alike: r.percent(80) } }
+    }
+
+    fn packet(&mut self, r: &mut Random, buffer: &reference::Buffer) -> Vec<u8> {
+        if r.percent(40) {
+            self.now = self.now.wrapping_add(self.step);
+        }
+        let jitter = self.step.wrapping_mul(r.below(self.spread) as u32);
+        let mut time = if r.percent(50) { self.now.wrapping_add(jitter) } else { self.now.wrapping_sub(jitter) };
+        if r.percent(4) {
+            // around the far and late distances from a held or drawn time
+            let from = if buffer.drawn == 1 && r.percent(50) { buffer.last_time } else { buffer.times[r.below(buffer.held().max(1))] };
+            time = from.wrapping_add(r.pick(&[0, 1, u32::MAX, (1 << 31) - 1, 1 << 31, (1 << 31) + 1, 1 << 30, 3 << 30]));
+        }
+        let mut packet = cases::packet_at(r, buffer.settings, self.shape, time);
+        if r.percent(8) {
+            cases::damage(r, &mut packet);
+        }
+        packet
+    }
+}
+
+#[test]
+fn histories() {
+    let mut r = Random::new(21);
+    let mut p = Pair::new(&mut r);
+    for _ in 0..900 {
+        let s = cases::settings(&mut r);
+        p.fresh(s);
+        let mut stream = Stream::new(&mut r, s);
+        let draws = r.pick(&[0, 5, 20, 50, 70]);
+        let calls = r.pick(&[20, 100, 500, 1000]);
+        for i in 0..calls {
+            let packet = stream.packet(&mut r, &p.buffer);
+            match r.below(100) {
+                0..=2 => p.odd_areas(&mut r, &packet),
+                3..=7 => p.spoiled(&mut r, &packet),
+                n if n < 8 + draws && i > 10 => {
+                    p.draw().unwrap();
+                }
+                _ => p.offer(&packet),
+            }
+        }
+        // to the end, now and then
+        if r.percent(60) {
+            while p.draw().unwrap() != Drawn::Empty {}
+        }
+    }
+    p.seen.report("buffer, histories");
+    p.seen.at_least(
+        1000,
+        &[
+            "accepted",
+            "refusal 10",
+            "refusal 12",
+            "refusal 15",
+            "late",
+            "far",
+            "repeated",
+            "better",
+            "no room",
+            "inserted",
+            "drawn",
+            "empty",
+            "offers that leave 192 held",
+        ],
+    );
+    p.seen.at_least(100, &["refusal  1", "refusal  2", "refusal  3", "refusal  4", "refusal  5", "refusal  6", "refusal  7", "refusal 11"]);
+}
+
+/// Buffers of all fillings, each spoiled in every way many times.
+#[test]
+fn spoiled_buffers() {
+    let mut r = Random::new(22);
+    let mut p = Pair::new(&mut r);
+    for round in 0..400 {
+        let s = cases::settings(&mut r);
+        p.fresh(s);
+        let mut stream = Stream::new(&mut r, s);
+        let target = if round % 10 == 0 { SLOTS } else { r.pick(&[0, 1, 2, 3, 8, 30]) };
+        for _ in 0..600 {
+            if p.buffer.held() >= target {
+                break;
+            }
+            let packet = stream.packet(&mut r, &p.buffer);
+            p.offer(&packet);
+        }
+        if r.percent(60) {
+            for _ in 0..r.below(4) {
+                p.draw().unwrap();
+            }
+        }
+        for way in 0..cases::SPOILS {
+            for _ in 0..8 {
+                let packet = stream.packet(&mut r, &p.buffer);
+                let mut copy = p.buffer;
+                cases::spoil(&mut r, &mut copy, way);
+                let sound = reference::is_well_formed(&copy);
+                p.seen.add(if sound { "spoiled and well-formed still" } else { "spoiled and malformed" }, 1);
+                p.offer_to(copy, &packet, ROW_AREA, STORE_BYTES);
+                p.draw_from(copy, STORE_BYTES, DRAW_AREA).1.ok();
+            }
+        }
+    }
+    p.seen.report("buffer, spoiled");
+    p.seen.at_least(1000, &["accepted", "refusal 11", "refusal 15", "spoiled and well-formed still", "spoiled and malformed"]);
+}
+
+/// Full buffers: 192 held, then repeats, better copies and no room; drawn to the end; filled again in the slots given back.
+#[test]
+fn full_buffers() {
+    let mut r = Random::new(23);
+    let mut p = Pair::new(&mut r);
+    for _ in 0..60 {
+        let s = cases::settings(&mut r);
+        p.fresh(s);
+        let mut stream = Stream::new(&mut r, s);
+        stream.spread = 400;
+        stream.shape.rows = 128;
+        for _ in 0..3 {
+            for _ in 0..60 {
+                let packet = stream.packet(&mut r, &p.buffer);
+                p.offer(&packet);
+            }
+            for _ in 0..r.within(1, SLOTS) {
+                p.draw().unwrap();
+            }
+            stream.now = p.buffer.last_time.wrapping_add(200 * stream.step);
+        }
+        while p.draw().unwrap() != Drawn::Empty {}
+    }
+    p.seen.report("buffer, full");
+    p.seen.at_least(1000, &["no room", "better", "repeated", "offers that leave 192 held"]);
+}
+
+/// `new` for all settings with fields around their limits.
+#[test]
+fn fresh_buffers() {
+    let mut r = Random::new(24);
+    let mut p = Pair::new(&mut r);
+    for format in 0..=255 {
+        for channels in [0, 1, 2, 3, 255] {
+            for payload_type in [0, 1, 127, 128, 129, 255] {
+                for redundancy_type in [0, 1, 127, 128, 129, 255] {
+                    p.fresh(Settings { format, channels, payload_type, redundancy_type });
+                }
+            }
+        }
+    }
+    p.seen.report("buffer, new");
+}
+
+/// Document 001's six interleaved packets in every order draw document 01's list; through the friendly functions.
+#[test]
+fn six_interleaved_packets() {
+    let expected = [1, 5, 6, 9, 10, 11, 13, 14, 15, 16, 17, 18, 19, 20, 21, 22, 23, 24, 26, 27, 28, 31, 32, 36];
+    let mut orders: Vec<Vec<u32>> = vec![vec![]];
+    for _ in 0..6 {
+        let next = |order: &Vec<u32>| {
+            let rest = [1, 5, 9, 13, 17, 21].into_iter().filter(|first| !order.contains(first));
+            rest.map(|first| [&order[..], &[first]].concat()).collect::<Vec<_>>()
+        };
+        orders = orders.iter().flat_map(next).collect();
+    }
+    let s = heolstorpit::Settings { format: 2, channels: 1, payload_type: 97, redundancy_type: 128 };
+    let base = 0u32.wrapping_sub(18 * 960);
+    let (mut rows, mut store, mut area) = (vec![0; ROW_AREA], vec![0; STORE_BYTES], vec![0; DRAW_AREA]);
+    for order in orders {
+        let mut buffer = Buffer::new(s).unwrap();
+        for first in order {
+            let mut packet = vec![0x80, 97, 0, first as u8];
+            packet.extend(base.wrapping_add(960 * first).to_be_bytes());
+            packet.extend([0, 0, 0, 7, 0x20, 4, 0x04, 0x44]);
+            packet.extend((0..320).map(|i| (first + i / 80 * 5) as u8));
+            assert_eq!(buffer.offer(&packet, &mut rows, &mut store).unwrap().inserted, 4);
+        }
+        assert_eq!(buffer.held(), 24);
+        for number in expected {
+            let frame = buffer.draw(&store, &mut area).unwrap().unwrap();
+            assert_eq!((frame.time, frame.channel, frame.length), (base.wrapping_add(960 * number), 0, 80));
+            assert!(area[..80].iter().all(|byte| *byte as u32 == number));
+        }
+        assert_eq!(buffer.draw(&store, &mut area), Ok(None));
+    }
+}

@@ -1,0 +1,265 @@
+//! `read` against the reference: answers and whole row areas, over packets valid and damaged, long and short.
+
+mod common;
+
+use cases::{Random, Shape};
+use common::{around, settings, Seen, Twice};
+use heolstorpit::{raw, Refusal};
+use reference::{Settings, ROW_AREA};
+
+struct Comparer {
+    area: Twice<u32>,
+    seen: Seen,
+}
+
+impl Comparer {
+    fn new(r: &mut Random) -> Comparer {
+        Comparer { area: Twice::new(ROW_AREA + 64, |words| r.fill_words(words)), seen: Seen::default() }
+    }
+
+    /// Reads one packet with both.
+    fn compare(&mut self, s: Settings, packet: &[u8], area: usize) {
+        let (mine, theirs) = self.area.lend(area);
+        let answer = raw::read(settings(s), packet, mine);
+        let expected = reference::read(s, packet, theirs);
+        let numbers = match expected {
+            Ok(r) => {
+                raw::Reading { refusal: 0, rows: r.rows, marker: r.marker, sequence: r.sequence, timestamp: r.timestamp, source: r.source }
+            }
+            Err(refusal) => raw::Reading { refusal, ..raw::Reading::default() },
+        };
+        assert!(
+            answer == numbers && self.area.same() && (answer.refusal == 0 || self.area.unchanged()),
+            "read differs: library {answer:?}, reference {expected:?}, areas equal: {}\nsettings {s:?}, row area {area}\npacket {packet:02x?}",
+            self.area.same()
+        );
+        self.seen.refusal(answer.refusal);
+        self.seen.add("rows", answer.rows as u64);
+        if answer.rows == 128 {
+            self.seen.add("packets of 128 rows", 1);
+        }
+    }
+}
+
+const REFUSALS: [&str; 13] = [
+    "accepted",
+    "refusal  1",
+    "refusal  2",
+    "refusal  3",
+    "refusal  4",
+    "refusal  5",
+    "refusal  6",
+    "refusal  7",
+    "refusal  8",
+    "refusal  9",
+    "refusal 10",
+    "refusal 11",
+    "refusal 12",
+];
+
+fn shape(r: &mut Random) -> Shape {
+    let bytes = match r.below(10) {
+        0 => 2036,
+        1 => 2020 + r.below(40),
+        2 => r.below(2036),
+        _ => r.below(400),
+    };
+    let rows = match r.below(10) {
+        0 => 128,
+        1 => 120 + r.below(16),
+        _ => 40,
+    };
+    Shape { bytes, rows, alike: false }
+}
+
+#[test]
+fn packets_valid_and_damaged() {
+    let mut r = Random::new(1);
+    let mut c = Comparer::new(&mut r);
+    for _ in 0..1_000_000 {
+        let s = if r.percent(2) { cases::bad_settings(&mut r) } else { cases::settings(&mut r) };
+        let shape = shape(&mut r);
+        let mut packet = cases::packet(&mut r, s, shape);
+        if r.percent(55) {
+            for _ in 0..r.within(1, 3) {
+                cases::damage(&mut r, &mut packet);
+            }
+        }
+        let area = if r.percent(5) { around(&mut r, ROW_AREA) } else { ROW_AREA };
+        c.compare(s, &packet, area);
+    }
+    c.seen.report("read, packets valid and damaged");
+    c.seen.at_least(1000, &REFUSALS);
+    c.seen.at_least(100, &["packets of 128 rows"]);
+}
+
+/// Random bytes behind a plausible header, so that tables of all shapes are met.
+#[test]
+fn random_bytes() {
+    let mut r = Random::new(2);
+    let mut c = Comparer::new(&mut r);
+    for _ in 0..400_000 {
+        let s = cases::settings(&mut r);
+        let length = match r.below(8) {
+            0 => r.below(14),
+            1 => 2040 + r.below(16),
+            _ => 12 + r.below(60),
+        };
+        let mut packet = r.bytes(length);
+        if length >= 2 && r.percent(95) {
+            packet[0] = 0x80 | if r.percent(10) { r.byte() & 0x3f } else { 0 };
+            packet[1] = if r.percent(50) { s.payload_type } else { s.redundancy_type & 127 };
+        }
+        // tables of small numbers are met more often
+        for byte in packet.iter_mut().skip(12) {
+            match r.below(8) {
+                0..=2 => *byte &= 0x83,
+                3 => *byte &= 0xA3,
+                _ => {}
+            }
+        }
+        c.compare(s, &packet, ROW_AREA);
+    }
+    c.seen.report("read, random bytes");
+    c.seen.at_least(1000, &["accepted", "refusal  6", "refusal  7", "refusal  8", "refusal  9", "refusal 10"]);
+}
+
+/// Every bit of the first 40 bytes flipped, every length cut to, every pair of neighbouring bytes zeroed.
+#[test]
+fn each_bit_and_each_length() {
+    let mut r = Random::new(3);
+    let mut c = Comparer::new(&mut r);
+    for _ in 0..250 {
+        let s = cases::settings(&mut r);
+        let bytes = if r.percent(80) { 200 } else { 2036 };
+        let packet = cases::packet(&mut r, s, Shape { bytes, rows: 128, alike: false });
+        c.compare(s, &packet, ROW_AREA);
+        for bit in 0..8 * packet.len().min(40) {
+            let mut flipped = packet.clone();
+            flipped[bit / 8] ^= 1 << (bit % 8);
+            c.compare(s, &flipped, ROW_AREA);
+        }
+        for length in 0..packet.len() {
+            c.compare(s, &packet[..length], ROW_AREA);
+        }
+        for place in 0..packet.len().min(200) {
+            let mut zeroed = packet.clone();
+            zeroed[place] = 0;
+            if place + 1 < zeroed.len() {
+                zeroed[place + 1] = 0;
+            }
+            c.compare(s, &zeroed, ROW_AREA);
+        }
+    }
+    c.seen.report("read, each bit and each length");
+    c.seen.at_least(100, &["accepted"]);
+}
+
+/// Every length of packet and of row area around the limits, and all settings with fields around theirs.
+#[test]
+fn limits() {
+    let mut r = Random::new(4);
+    let mut c = Comparer::new(&mut r);
+    for format in [0, 1, 2, 3, 4, 128, 255] {
+        for channels in [0, 1, 2, 3, 4, 255] {
+            for payload_type in [0, 1, 97, 126, 127, 128, 129, 255] {
+                for redundancy_type in [0, 1, 97, 127, 128, 129, 255] {
+                    let s = Settings { format, channels, payload_type, redundancy_type };
+                    let packet = cases::packet(
+                        &mut r,
+                        Settings { format: format % 4, channels: channels.clamp(1, 2), ..s },
+                        Shape { bytes: 300, rows: 20, alike: false },
+                    );
+                    for area in [0, 511, 512, 513] {
+                        c.compare(s, &packet, area);
+                    }
+                }
+            }
+        }
+    }
+    // A packet of each length from 0 to 2,060: a payload of no data, padded to the length; and with the padding count off by one.
+    let s = Settings { format: 1, channels: 1, payload_type: 97, redundancy_type: 98 };
+    for length in 0..2060usize {
+        let mut packet = vec![0; length];
+        let header = [0x80, 97, 0, 1, 0, 0, 0, 2, 0, 0, 0, 3, 0, 1];
+        let front = length.min(header.len());
+        packet[..front].copy_from_slice(&header[..front]);
+        c.compare(s, &packet, ROW_AREA);
+        if length > 14 {
+            for padding in [length - 14, length - 13, length - 12, length - 11, 0] {
+                packet[0] = 0xA0;
+                packet[length - 1] = padding as u8;
+                c.compare(s, &packet, ROW_AREA);
+            }
+            // the same length made up by an extension
+            if length >= 18 {
+                for words in [(length - 18) / 4, (length - 18) / 4 + 1, (length - 16) / 4, (length - 16) / 4 + 1] {
+                    packet[0] = 0x90;
+                    packet[14..16].copy_from_slice(&(words as u16).to_be_bytes());
+                    packet[length - 2..].copy_from_slice(&[0, 1]);
+                    c.compare(s, &packet, ROW_AREA);
+                }
+            }
+        }
+    }
+    // Rows around 128 over one and two entries, one and two channels, plain and split over blocks.
+    for channels in [1u8, 2] {
+        for format in [1u8, 2] {
+            let s = Settings { format, channels, payload_type: 97, redundancy_type: 98 };
+            for a in 0..=255u8 {
+                for b in [0u8, 1, 2, 63, 64, 65, 127, 128, 129, 255] {
+                    let entry = |more: u8, blocks: u8| {
+                        let mut bytes = vec![more, blocks];
+                        if format == 2 {
+                            bytes.extend(vec![0; (blocks as usize).div_ceil(2)]);
+                        }
+                        bytes
+                    };
+                    let mut plain = vec![0x80, 97, 0, 1, 0, 0, 0, 2, 0, 0, 0, 3];
+                    plain.extend(entry(128, a));
+                    plain.extend(entry(0, b));
+                    c.compare(s, &plain, ROW_AREA);
+                    let mut split = vec![0x80, 98, 0, 1, 0, 0, 0, 2, 0, 0, 0, 3];
+                    let first = entry(0, a);
+                    split.extend([128 + 97, 0, 0, first.len() as u8, 97]);
+                    split.extend(first);
+                    split.extend(entry(0, b));
+                    c.compare(s, &split, ROW_AREA);
+                }
+            }
+        }
+    }
+    c.seen.report("read, limits");
+    c.seen.at_least(100, &["accepted", "refusal  1", "refusal  3", "refusal  4", "refusal  8", "refusal  9", "refusal 11", "refusal 12"]);
+}
+
+/// The friendly answers say the same as the raw ones.
+#[test]
+fn friendly_answers() {
+    let mut r = Random::new(5);
+    for _ in 0..20_000 {
+        let s = cases::settings(&mut r);
+        let mut packet = cases::packet(&mut r, s, Shape { bytes: 300, rows: 128, alike: false });
+        if r.percent(50) {
+            cases::damage(&mut r, &mut packet);
+        }
+        let (mut one, mut two) = (vec![0; ROW_AREA], vec![0; ROW_AREA]);
+        let friendly = heolstorpit::read(settings(s), &packet, &mut one);
+        let answer = raw::read(settings(s), &packet, &mut two);
+        assert_eq!(one, two);
+        match friendly {
+            Ok(reading) => {
+                assert_eq!(
+                    (0, reading.rows, reading.marker as u32, reading.sequence as u32, reading.timestamp, reading.source),
+                    (answer.refusal, answer.rows, answer.marker, answer.sequence, answer.timestamp, answer.source)
+                );
+                let rows: Vec<u32> = heolstorpit::Row::list(&one, reading.rows).flat_map(|row| row.words()).collect();
+                assert_eq!(rows, one[..4 * reading.rows as usize]);
+            }
+            Err(refusal) => assert_eq!((refusal.number(), Refusal::from_number(answer.refusal)), (answer.refusal, Some(refusal))),
+        }
+    }
+    let words: std::collections::HashSet<String> = Refusal::ALL.iter().map(|refusal| refusal.to_string()).collect();
+    assert_eq!(words.len(), 15);
+    assert_eq!((Refusal::from_number(0), Refusal::from_number(16)), (None, None));
+}

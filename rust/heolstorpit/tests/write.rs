@@ -1,0 +1,319 @@
+//! `write_payload` and `write_packet` against the reference: answers and whole areas, over lists that can be written and lists
+//! that cannot, areas short and long.
+
+mod common;
+
+use cases::{List, Random, Shape};
+use common::{settings, Seen, Twice};
+use heolstorpit::{raw, Header};
+use reference::{Settings, MAX_PACKET, MAX_PAYLOAD};
+
+const MOST: usize = 2300;
+
+/// What is written beside the rows of a packet.
+#[derive(Clone, Copy, Debug)]
+struct Head {
+    marker: u8,
+    sequence: u16,
+    source: u32,
+}
+
+struct Comparer {
+    out: Twice<u8>,
+    seen: Seen,
+}
+
+impl Comparer {
+    fn new(r: &mut Random) -> Comparer {
+        Comparer { out: Twice::new(MOST, |bytes| r.fill(bytes)), seen: Seen::default() }
+    }
+
+    fn judge(&mut self, answer: raw::Written, expected: Result<u32, u32>, case: impl Fn() -> String) {
+        let numbers = match expected {
+            Ok(length) => raw::Written { refusal: 0, length },
+            Err(refusal) => raw::Written { refusal, length: 0 },
+        };
+        assert!(
+            answer == numbers && self.out.same() && (answer.refusal == 0 || self.out.unchanged()),
+            "library {answer:?}, reference {expected:?}, areas equal: {}\n{}",
+            self.out.same(),
+            case()
+        );
+        self.seen.refusal(answer.refusal);
+        self.seen.add("bytes written", answer.length as u64);
+    }
+
+    /// Writes one payload with both; answers what the reference does.
+    fn payload(&mut self, s: Settings, list: &List, out: usize) -> Result<u32, u32> {
+        let (mine, theirs) = self.out.lend(out);
+        let answer = raw::write_payload(settings(s), &list.words, &list.bytes, mine);
+        let expected = reference::write_payload(s, &list.words, &list.bytes, theirs);
+        self.judge(answer, expected, || {
+            format!("write_payload, settings {s:?}, out {out}\nrows {:?}\nbytes {:02x?}", list.words, list.bytes)
+        });
+        expected
+    }
+
+    fn packet(&mut self, s: Settings, head: Head, counts: &[u32], list: &List, out: usize) -> Result<u32, u32> {
+        let Head { marker, sequence, source } = head;
+        let (mine, theirs) = self.out.lend(out);
+        let answer = raw::write_packet(settings(s), marker, sequence, source, counts, &list.words, &list.bytes, mine);
+        let expected = reference::write_packet(s, marker != 0, sequence, source, counts, &list.words, &list.bytes, theirs);
+        self.judge(answer, expected, || {
+            format!(
+                "write_packet, settings {s:?}, {head:?}, counts {counts:?}, out {out}\nrows {:?}\nbytes {:02x?}",
+                list.words, list.bytes
+            )
+        });
+        expected
+    }
+
+    /// The same call with areas around the length that it writes.
+    fn out_lengths(&mut self, r: &mut Random, written: Result<u32, u32>, mut call: impl FnMut(&mut Comparer, usize)) {
+        match written {
+            Ok(length) if r.percent(30) => {
+                for out in [length as usize, length as usize - 1, r.below(length as usize), 0] {
+                    call(self, out);
+                }
+            }
+            Err(_) if r.percent(10) => call(self, r.below(MOST)),
+            _ => {}
+        }
+    }
+}
+
+fn head(r: &mut Random) -> Head {
+    Head { marker: if r.percent(50) { r.pick(&[0, 1]) } else { r.byte() }, sequence: r.word() as u16, source: r.word() }
+}
+
+fn time(r: &mut Random) -> u32 {
+    if r.percent(50) {
+        r.word()
+    } else {
+        (r.below(40_000) as u32).wrapping_sub(20_000)
+    }
+}
+
+fn list(r: &mut Random, s: Settings) -> List {
+    let time = time(r);
+    match r.below(10) {
+        0..=3 => {
+            let bytes = r.pick(&[100, 400, 2036]);
+            let rows = r.pick(&[4, 40, 128]);
+            cases::list_from_packet(r, s, Shape { bytes, rows, alike: false }, time)
+        }
+        4 => {
+            let aim = 2028 + r.below(12);
+            cases::made_list(r, s, time, 128, Some(aim))
+        }
+        5 => cases::made_list(r, s, time, 140, None),
+        _ => cases::made_list(r, s, time, 16, None),
+    }
+}
+
+#[test]
+fn payloads() {
+    let mut r = Random::new(11);
+    let mut c = Comparer::new(&mut r);
+    for _ in 0..300_000 {
+        let s = if r.percent(2) { cases::bad_settings(&mut r) } else { cases::settings(&mut r) };
+        let good = if s.in_range() { s } else { cases::settings(&mut r) };
+        let mut list = list(&mut r, good);
+        let damaged = r.percent(50);
+        if damaged {
+            for _ in 0..r.within(1, 2) {
+                cases::damage_list(&mut r, good, &mut list);
+            }
+        }
+        let written = c.payload(s, &list, MOST);
+        if written.is_ok_and(|length| length as usize == MAX_PAYLOAD) {
+            c.seen.add("payloads of 2,036 bytes", 1);
+        }
+        c.out_lengths(&mut r, written, |c, out| {
+            c.payload(s, &list, out).ok();
+        });
+    }
+    c.seen.report("write_payload");
+    c.seen.at_least(1000, &["accepted", "refusal 11", "refusal 12", "refusal 13", "refusal 14"]);
+    c.seen.at_least(20, &["payloads of 2,036 bytes"]);
+}
+
+/// A list that some plain payload reads to is never refused with 13: whatever payload it came from.
+#[test]
+fn what_was_read_can_be_written() {
+    let mut r = Random::new(12);
+    let mut c = Comparer::new(&mut r);
+    for _ in 0..60_000 {
+        let s = cases::settings(&mut r);
+        let bytes = r.pick(&[100, 400, 2036]);
+        let time = time(&mut r);
+        let list = cases::list_from_packet(&mut r, s, Shape { bytes, rows: 128, alike: false }, time);
+        if list.words.is_empty() {
+            continue;
+        }
+        let mut out = vec![0; MOST];
+        let length = heolstorpit::write_payload(settings(s), &list.words, &list.bytes, &mut out).expect("a payload reads to this list");
+        assert!(length <= list.bytes.len() - 12, "the payload written is no longer than the one read");
+        let head = head(&mut r);
+        c.packet(s, head, &[list.rows() as u32], &list, MOST).expect("a packet reads to this list");
+    }
+    c.seen.report("write, what was read");
+}
+
+#[test]
+fn packets() {
+    let mut r = Random::new(13);
+    let mut c = Comparer::new(&mut r);
+    for _ in 0..250_000 {
+        let s = if r.percent(2) { cases::bad_settings(&mut r) } else { cases::settings(&mut r) };
+        let good = if s.in_range() { s } else { cases::settings(&mut r) };
+        let (mut list, mut counts) = cases::lists_for_packet(&mut r, good);
+        match r.below(10) {
+            0..=1 => cases::damage_list(&mut r, good, &mut list),
+            2 => cases::counts_of(&mut r, &mut counts),
+            _ => {}
+        }
+        let head = head(&mut r);
+        let written = c.packet(s, head, &counts, &list, MOST);
+        if let Ok(length) = written {
+            c.seen.add(format!("packets of {} lists", counts.len()), 1);
+            if length as usize >= MAX_PACKET - 3 {
+                c.seen.add("packets of 2,045 to 2,048 bytes", 1);
+            }
+        }
+        c.out_lengths(&mut r, written, |c, out| {
+            c.packet(s, head, &counts, &list, out).ok();
+        });
+    }
+    c.seen.report("write_packet");
+    c.seen.at_least(
+        1000,
+        &[
+            "accepted",
+            "refusal 11",
+            "refusal 12",
+            "refusal 13",
+            "refusal 14",
+            "packets of 1 lists",
+            "packets of 2 lists",
+            "packets of 3 lists",
+            "packets of 4 lists",
+            "packets of 5 lists",
+        ],
+    );
+}
+
+/// Sizes one by one: blocks around 1,023 bytes, payloads around 2,036, packets around 2,048, rows around 128, offsets around 16,383.
+#[test]
+fn limits() {
+    let mut r = Random::new(14);
+    let mut c = Comparer::new(&mut r);
+    let bytes = r.bytes(400);
+    let head = Head { marker: 1, sequence: 2, source: 3 };
+    // Lists of `sound` frames and then `none` rows of no data: kind 3 takes 15 bytes for the first and 1 for the second.
+    let made = |step: u32, length: u32, time: u32, sound: usize, none: usize| -> Vec<u32> {
+        (0..sound + none)
+            .flat_map(|i| {
+                let time = time.wrapping_add(step * i as u32);
+                if i < sound {
+                    [time, 256, 7, length]
+                } else {
+                    [time, 0, 400, 0]
+                }
+            })
+            .collect()
+    };
+    let gsm = Settings { format: 3, channels: 1, payload_type: 3, redundancy_type: 4 };
+    for none in 0..=140 {
+        for sound in [0, 1, 66, 67, 68, 69] {
+            let list = List { words: made(160, 14, 0, sound, none), bytes: bytes.clone() };
+            c.payload(gsm, &list, MOST).ok();
+            // as a redundant block before one frame, and as the primary after it
+            for (counts, before) in [([(sound + none) as u32, 1], true), ([1, (sound + none) as u32], false)] {
+                let one = made(160, 14, 3200, 1, 0);
+                let words =
+                    if before { [&list.words[..], &one[..]].concat() } else { [&one[..], &made(160, 14, 3200, sound, none)[..]].concat() };
+                c.packet(gsm, head, &counts, &List { words, bytes: bytes.clone() }, MOST).ok();
+            }
+        }
+    }
+    for format in [1u8, 2] {
+        let s = Settings { format, channels: 1, payload_type: 3, redundancy_type: 4 };
+        for none in 0..=128usize {
+            for (length, sound) in [(320, 6), (80, 24), (80, 25), (220, 9), (240, 8), (100, 20), (170, 6), (80, 12), (90, 11)] {
+                let list = List { words: made(960, length, 0, sound, none), bytes: bytes.clone() };
+                c.payload(s, &list, MOST).ok();
+                let one = made(960, 80, 9600, 1, 0);
+                let words = [&list.words[..], &one[..]].concat();
+                c.packet(s, head, &[(sound + none) as u32, 1], &List { words, bytes: bytes.clone() }, MOST).ok();
+            }
+        }
+        // two, three, four and five lists whose packet comes to 2,048 and more
+        for lists in 2..=5usize {
+            for (length, each) in [(80, 5), (80, 6), (90, 5), (100, 5), (110, 4), (320, 1), (320, 2), (80, 12)] {
+                for none in 0..24 {
+                    let mut words = Vec::new();
+                    let mut counts = Vec::new();
+                    for i in 0..lists {
+                        let none = if i == 0 { none } else { 0 };
+                        words.extend(made(960, length, 960 * i as u32, each, none));
+                        counts.push((each + none) as u32);
+                    }
+                    c.packet(s, head, &counts, &List { words, bytes: bytes.clone() }, MOST).ok();
+                }
+            }
+        }
+    }
+    // offsets, at a time where the difference wraps too
+    for time in [0u32, 20_000, 100_000] {
+        for offset in [0, 1, 960, 16382, 16383, 16384, 16385, 32767, 32768, 65536, 1 << 24, 1 << 31, u32::MAX, u32::MAX - 16383] {
+            let words = [made(160, 14, time.wrapping_sub(offset), 1, 0), made(160, 14, time, 1, 0)].concat();
+            c.packet(gsm, head, &[1, 1], &List { words, bytes: bytes.clone() }, MOST).ok();
+        }
+    }
+    // every value of the marker byte
+    for marker in 0..=255 {
+        let list = List { words: made(160, 14, 5, 1, 0), bytes: bytes.clone() };
+        c.packet(gsm, Head { marker, ..head }, &[1], &list, MOST).unwrap();
+    }
+    // every displacement, and steps that have none
+    let s = Settings { format: 2, channels: 1, payload_type: 3, redundancy_type: 4 };
+    for steps in 0..=40u32 {
+        for extra in [0, 1, 959] {
+            let second = 960 * steps + extra;
+            let words = vec![0, 256, 0, 80, second, 256, 0, 80, second + 960, 256, 0, 80];
+            c.payload(s, &List { words, bytes: bytes.clone() }, MOST).ok();
+        }
+    }
+    c.seen.report("write, limits");
+}
+
+/// The friendly answers say the same as the raw ones.
+#[test]
+fn friendly_answers() {
+    let mut r = Random::new(15);
+    for _ in 0..10_000 {
+        let s = cases::settings(&mut r);
+        let (mut list, counts) = cases::lists_for_packet(&mut r, s);
+        if r.percent(30) {
+            cases::damage_list(&mut r, s, &mut list);
+        }
+        let header = Header { marker: r.percent(50), sequence: r.word() as u16, source: r.word() };
+        let (mut one, mut two) = (vec![0; MOST], vec![0; MOST]);
+        let friendly = heolstorpit::write_packet(settings(s), header, &counts, &list.words, &list.bytes, &mut one);
+        let answer = raw::write_packet(
+            settings(s),
+            header.marker as u8,
+            header.sequence,
+            header.source,
+            &counts,
+            &list.words,
+            &list.bytes,
+            &mut two,
+        );
+        assert_eq!(
+            (friendly.map_err(|refusal| refusal.number()), one),
+            (if answer.refusal == 0 { Ok(answer.length as usize) } else { Err(answer.refusal) }, two)
+        );
+    }
+}

@@ -1,0 +1,64 @@
+//! Document 01 ("The intended build and its rules") in plain Rust: what the proved library is compared with.
+//!
+//! It is written from that paper alone, sentence by sentence, to be read beside it: lists instead of areas, one
+//! pass for each rule, no care for speed. Nothing of the library is used here, and nothing here is used by the library.
+//!
+//! A refusal is its number in document 01's table, in `Err`.
+#![forbid(unsafe_code)]
+
+mod buffer;
+mod reading;
+mod sizes;
+mod writing;
+
+pub use buffer::{draw, fresh, is_well_formed, offer, Buffer, Drawn, Verdicts};
+pub use reading::{read, Reading};
+pub use sizes::*;
+pub use writing::{write_packet, write_payload};
+
+/// What a call is told about the stream. Document 01: kind, channels, plain payload type, redundancy type.
+#[derive(Clone, Copy, Debug, Default, PartialEq, Eq)]
+pub struct Settings {
+    pub format: u8,
+    pub channels: u8,
+    pub payload_type: u8,
+    pub redundancy_type: u8,
+}
+
+impl Settings {
+    /// "Settings: kind 1 to 3; channels 1 or 2 (kind 3: only 1); plain payload type 0 to 127; redundancy type 0 to
+    /// 127 and not the plain one, or 128 for none."
+    pub fn in_range(&self) -> bool {
+        let format = (1..=3).contains(&self.format);
+        let channels = match self.format {
+            3 => self.channels == 1,
+            _ => self.channels == 1 || self.channels == 2,
+        };
+        let plain = self.payload_type <= 127;
+        let redundancy =
+            self.redundancy_type == NO_REDUNDANCY || (self.redundancy_type <= 127 && self.redundancy_type != self.payload_type);
+        format && channels && plain && redundancy
+    }
+}
+
+/// One frame as the packet has it: document 01's row, taken apart.
+#[derive(Clone, Copy, Debug, PartialEq, Eq)]
+pub struct Row {
+    pub time: u32,
+    /// 0 no data, 1 sound, 2 SID (document 01: sort)
+    pub class: u32,
+    pub channel: u32,
+    pub start: u32,
+    pub length: u32,
+}
+
+impl Row {
+    /// "A row is: timestamp; 256 × sort + channel; start in the packet; length."
+    pub fn words(&self) -> [u32; 4] {
+        [self.time, 256 * self.class + self.channel, self.start, self.length]
+    }
+
+    pub fn from_words(words: &[u32]) -> Row {
+        Row { time: words[0], class: words[1] / 256, channel: words[1] % 256, start: words[2], length: words[3] }
+    }
+}

@@ -1,0 +1,265 @@
+//! Reading a packet: "The RTP header", "Redundancy", "G.719 tables of contents", "GSM-HR tables".
+
+use crate::*;
+
+/// What reading answers beside the rows.
+#[derive(Clone, Copy, Debug, Default, PartialEq, Eq)]
+pub struct Reading {
+    pub rows: u32,
+    pub marker: u32,
+    pub sequence: u32,
+    pub timestamp: u32,
+    pub source: u32,
+}
+
+/// Reads a packet into the row area. The answer and the words after the last row stay as document 01 says; a refusal
+/// changes no word.
+pub fn read(settings: Settings, packet: &[u8], area: &mut [u32]) -> Result<Reading, u32> {
+    if !settings.in_range() {
+        return Err(BAD_SETTINGS);
+    }
+    if area.len() < ROW_AREA {
+        return Err(AREA_TOO_SHORT);
+    }
+    let (reading, rows) = packet_rows(settings, packet)?;
+    for (i, row) in rows.iter().enumerate() {
+        area[ROW_WORDS * i..ROW_WORDS * (i + 1)].copy_from_slice(&row.words());
+    }
+    Ok(reading)
+}
+
+/// The header's fields and the rows of a packet, or the first refusal of 1 to 10 that applies.
+pub(crate) fn packet_rows(settings: Settings, packet: &[u8]) -> Result<(Reading, Vec<Row>), u32> {
+    if packet.len() < MIN_PACKET || packet.len() > MAX_PACKET {
+        return Err(BAD_PACKET_LENGTH);
+    }
+    let version = packet[0] >> 6;
+    let padded = packet[0] & 0b0010_0000 != 0;
+    let extended = packet[0] & 0b0001_0000 != 0;
+    let sources = (packet[0] & 0b0000_1111) as usize;
+    let marker = (packet[1] >> 7) as u32;
+    let payload_type = packet[1] & 127;
+    let sequence = big_endian(&packet[2..4]);
+    let timestamp = big_endian(&packet[4..8]);
+    let source = big_endian(&packet[8..12]);
+    if version != 2 {
+        return Err(BAD_VERSION);
+    }
+
+    // "Then 4 × CC bytes. With X: two bytes passed over, a 16-bit count, and that many 32-bit words."
+    let mut start = HEADER_BYTES + 4 * sources;
+    if start > packet.len() {
+        return Err(HEADER_PAST_END);
+    }
+    if extended {
+        if start + 4 > packet.len() {
+            return Err(HEADER_PAST_END);
+        }
+        let words = big_endian(&packet[start + 2..start + 4]) as usize;
+        start += 4 + 4 * words;
+        if start > packet.len() {
+            return Err(HEADER_PAST_END);
+        }
+    }
+
+    // "With P, the last byte of the packet says how many end bytes are padding, itself included: at least 1, at most
+    // the bytes after the headers."
+    let mut end = packet.len();
+    if padded {
+        let padding = packet[packet.len() - 1] as usize;
+        if padding < 1 || padding > packet.len() - start {
+            return Err(BAD_PADDING);
+        }
+        end -= padding;
+    }
+
+    let mut rows = Vec::new();
+    if payload_type == settings.payload_type {
+        payload_rows(settings, packet, start, end, timestamp, &mut rows)?;
+    } else if payload_type == settings.redundancy_type {
+        redundancy_rows(settings, packet, start, end, timestamp, &mut rows)?;
+    } else {
+        return Err(OTHER_TYPE);
+    }
+    let reading = Reading { rows: rows.len() as u32, marker, sequence, timestamp, source };
+    Ok((reading, rows))
+}
+
+struct Block {
+    payload_type: u8,
+    time: u32,
+    length: usize,
+}
+
+/// The redundancy payload that lies at `start..end` of the packet.
+fn redundancy_rows(settings: Settings, packet: &[u8], start: usize, end: usize, timestamp: u32, rows: &mut Vec<Row>) -> Result<(), u32> {
+    // "all block headers are walked first (6)"
+    let mut blocks = Vec::new();
+    let mut at = start;
+    let last_type = loop {
+        if at + 1 > end {
+            return Err(TABLE_PAST_END);
+        }
+        let payload_type = packet[at] & 127;
+        if packet[at] & 128 == 0 {
+            at += 1;
+            break payload_type;
+        }
+        if at + 4 > end {
+            return Err(TABLE_PAST_END);
+        }
+        // "F = 1, type 7 bits, offset 14 bits, length 10 bits"
+        let rest = big_endian(&packet[at + 1..at + 4]);
+        let offset = rest >> 10;
+        let length = (rest & 1023) as usize;
+        // "A block's time is the packet's timestamp less its offset, modulo 2^32."
+        blocks.push(Block { payload_type, time: timestamp.wrapping_sub(offset), length });
+        at += 4;
+    };
+
+    // "then lengths summed (10)"; "the last takes all that remains"
+    let summed: usize = blocks.iter().map(|b| b.length).sum();
+    if summed > end - at {
+        return Err(BAD_DATA_LENGTH);
+    }
+    blocks.push(Block { payload_type: last_type, time: timestamp, length: end - at - summed });
+
+    // "then each block is read as a payload, in order". "Only blocks of the plain type give rows; others, a nested
+    // redundancy type included, are passed over. A block of length 0 gives no rows."
+    for block in blocks {
+        if block.payload_type == settings.payload_type && block.length != 0 {
+            payload_rows(settings, packet, at, at + block.length, block.time, rows)?;
+        }
+        at += block.length;
+    }
+    Ok(())
+}
+
+/// A group of frame-blocks of one length: a table entry. `steps[i]` is the number of steps from the frame-block before.
+struct Entry {
+    class: u32,
+    length: u32,
+    steps: Vec<u32>,
+}
+
+/// The payload that lies at `start..end` of the packet, its first frame-block at `time`; its rows are added to `rows`.
+fn payload_rows(settings: Settings, packet: &[u8], start: usize, end: usize, time: u32, rows: &mut Vec<Row>) -> Result<(), u32> {
+    let channels = settings.channels as usize;
+    let mut entries: Vec<Entry> = Vec::new();
+    let mut so_far = rows.len();
+    let mut at = start;
+    loop {
+        // 6: a table entry runs past the end
+        let size = match settings.format {
+            1 => 2,
+            2 if at + 2 <= end => 2 + (packet[at + 1] as usize).div_ceil(2),
+            2 => 2,
+            _ => 1,
+        };
+        if at + size > end {
+            return Err(TABLE_PAST_END);
+        }
+        // 7: reserved L or type
+        let code = match settings.format {
+            3 => (packet[at] >> 4) & 7,
+            _ => (packet[at] >> 2) & 31,
+        };
+        let Some((class, length)) = frame_of(settings.format, code) else {
+            return Err(RESERVED_CODE);
+        };
+        // 8: frame-block count 0
+        let blocks = match settings.format {
+            3 => 1,
+            _ => packet[at + 1] as usize,
+        };
+        if blocks == 0 {
+            return Err(NO_FRAME_BLOCKS);
+        }
+        // 9: more than 128 rows so far
+        so_far += blocks * channels;
+        if so_far > MAX_ROWS {
+            return Err(TOO_MANY_ROWS);
+        }
+        let steps = (0..blocks)
+            .map(|i| {
+                let first = i == 0;
+                if first && entries.is_empty() {
+                    // "the payload's first frame-block stands at the payload's time"
+                    0
+                } else if first || settings.format != 2 {
+                    // "a later entry's first follows directly", "Kind 1 always steps by one"
+                    1
+                } else {
+                    // "one 4-bit displacement per frame-block, high half first"; "the step is displacement + 1"
+                    let pair = packet[at + 2 + i / 2];
+                    let displacement = if i % 2 == 0 { pair >> 4 } else { pair & 15 };
+                    displacement as u32 + 1
+                }
+            })
+            .collect();
+        entries.push(Entry { class, length, steps });
+        let another = packet[at] & 128 != 0;
+        at += size;
+        if !another {
+            break;
+        }
+    }
+
+    // 10: bytes too few or left over after the tables
+    let sound: usize = entries.iter().map(|e| e.steps.len() * channels * e.length as usize).sum();
+    if sound != end - at {
+        return Err(BAD_DATA_LENGTH);
+    }
+
+    // "Sound follows the last entry: frame-block by frame-block, channels 0, 1 within each."
+    let mut now = time;
+    for entry in &entries {
+        for step in &entry.steps {
+            now = now.wrapping_add(step * step_ticks(settings.format));
+            for channel in 0..channels as u32 {
+                rows.push(Row { time: now, class: entry.class, channel, start: at as u32, length: entry.length });
+                at += entry.length as usize;
+            }
+        }
+    }
+    Ok(())
+}
+
+/// Class and length of the frames that a table code announces; nothing where the code is reserved.
+pub(crate) fn frame_of(format: u8, code: u8) -> Option<(u32, u32)> {
+    let code = code as u32;
+    if format == 3 {
+        // "Type 0 is sound and 2 is SID, 14 bytes each; 7 is no data; the rest are reserved."
+        match code {
+            0 => Some((1, 14)),
+            2 => Some((2, 14)),
+            7 => Some((0, 0)),
+            _ => None,
+        }
+    } else {
+        // "L = 0 is no data; 8 to 22 is 80 + 10 × (L − 8) bytes; 23 to 27 is 240 + 20 × (L − 23)"
+        match code {
+            0 => Some((0, 0)),
+            8..=22 => Some((1, 80 + 10 * (code - 8))),
+            23..=27 => Some((1, 240 + 20 * (code - 23))),
+            _ => None,
+        }
+    }
+}
+
+/// The code that announces frames of this class and length, if there is one.
+pub(crate) fn code_of(format: u8, class: u32, length: u32) -> Option<u8> {
+    (0..32).find(|code| (format != 3 || *code < 8) && frame_of(format, *code) == Some((class, length)))
+}
+
+pub(crate) fn step_ticks(format: u8) -> u32 {
+    if format == 3 {
+        GSM_HR_STEP
+    } else {
+        G719_STEP
+    }
+}
+
+fn big_endian(bytes: &[u8]) -> u32 {
+    bytes.iter().fold(0, |number, byte| number * 256 + *byte as u32)
+}

@@ -1,0 +1,39 @@
+//! The figures of document 01's "Sizes" and the numbers of its refusals.
+
+pub const HEADER_BYTES: usize = 12;
+pub const MIN_PACKET: usize = 12;
+pub const MAX_PACKET: usize = 2048;
+/// "a payload written alone at most 2,036 bytes"
+pub const MAX_PAYLOAD: usize = 2036;
+pub const MAX_ROWS: usize = 128;
+pub const ROW_WORDS: usize = 4;
+/// the row area read into, in words
+pub const ROW_AREA: usize = 512;
+pub const SLOTS: usize = 192;
+pub const SLOT_BYTES: usize = 320;
+pub const STORE_BYTES: usize = 61_440;
+pub const DRAW_AREA: usize = 320;
+pub const MAX_REDUNDANT: usize = 4;
+pub const MAX_OFFSET: u32 = 16_383;
+pub const MAX_BLOCK: usize = 1_023;
+/// "128 for none"
+pub const NO_REDUNDANCY: u8 = 128;
+/// "one frame-block is 960 ticks"; kind 3: "Step 160 ticks"
+pub const G719_STEP: u32 = 960;
+pub const GSM_HR_STEP: u32 = 160;
+
+pub const BAD_PACKET_LENGTH: u32 = 1;
+pub const BAD_VERSION: u32 = 2;
+pub const HEADER_PAST_END: u32 = 3;
+pub const BAD_PADDING: u32 = 4;
+pub const OTHER_TYPE: u32 = 5;
+pub const TABLE_PAST_END: u32 = 6;
+pub const RESERVED_CODE: u32 = 7;
+pub const NO_FRAME_BLOCKS: u32 = 8;
+pub const TOO_MANY_ROWS: u32 = 9;
+pub const BAD_DATA_LENGTH: u32 = 10;
+pub const BAD_SETTINGS: u32 = 11;
+pub const AREA_TOO_SHORT: u32 = 12;
+pub const NOT_WRITABLE: u32 = 13;
+pub const ROW_OUTSIDE: u32 = 14;
+pub const BAD_BUFFER: u32 = 15;

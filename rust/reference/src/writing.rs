@@ -1,0 +1,197 @@
+//! Writing a payload and a packet.
+//!
+//! Refusal 13 is "no plain payload within 2,036 bytes reads to the list given". The payload that document 01's rule
+//! gives is made, read back by `reading`, and held against the list: where it does not read to the list, the answer is
+//! 13. (That no other payload reads to it either is what the library proves; `tests` below tries all small ones.)
+
+use crate::reading::{code_of, packet_rows, step_ticks};
+use crate::*;
+
+/// Writes one payload for the list of rows, which point into `bytes`.
+pub fn write_payload(settings: Settings, rows: &[u32], bytes: &[u8], out: &mut [u8]) -> Result<u32, u32> {
+    let list = rows_asked(settings, rows, bytes)?;
+    let payload = payload_of(settings, &list, bytes).ok_or(NOT_WRITABLE)?;
+    put(&payload, out)
+}
+
+/// Writes one packet: redundant lists, then the primary list, `counts` saying how many rows each has.
+#[allow(clippy::too_many_arguments)]
+pub fn write_packet(
+    settings: Settings,
+    marker: bool,
+    sequence: u16,
+    source: u32,
+    counts: &[u32],
+    rows: &[u32],
+    bytes: &[u8],
+    out: &mut [u8],
+) -> Result<u32, u32> {
+    let list = rows_asked(settings, rows, bytes)?;
+    let packet = packet_of(settings, marker, sequence, source, counts, &list, bytes).ok_or(NOT_WRITABLE)?;
+    put(&packet, out)
+}
+
+/// The rows of a word area; 11, 14, and 13 for an area that is no whole number of rows.
+fn rows_asked(settings: Settings, words: &[u32], bytes: &[u8]) -> Result<Vec<Row>, u32> {
+    if !settings.in_range() {
+        return Err(BAD_SETTINGS);
+    }
+    // "14 is asked of its whole rows only"
+    let list: Vec<Row> = words.chunks_exact(ROW_WORDS).map(Row::from_words).collect();
+    if list.iter().any(|row| row.start as u64 + row.length as u64 > bytes.len() as u64) {
+        return Err(ROW_OUTSIDE);
+    }
+    // "An empty frame list is 13, and so is a word area that is no whole number of rows"
+    if list.is_empty() || words.len() % ROW_WORDS != 0 {
+        return Err(NOT_WRITABLE);
+    }
+    Ok(list)
+}
+
+/// "the area written to is shorter than the bytes to be written" is 12; "bytes of the area past those written stay".
+fn put(written: &[u8], out: &mut [u8]) -> Result<u32, u32> {
+    if out.len() < written.len() {
+        return Err(AREA_TOO_SHORT);
+    }
+    out[..written.len()].copy_from_slice(written);
+    Ok(written.len() as u32)
+}
+
+/// The payload for a list alone, or nothing where that is 13.
+fn payload_of(settings: Settings, list: &[Row], bytes: &[u8]) -> Option<Vec<u8>> {
+    let payload = canonical(settings, list, bytes)?;
+    if payload.len() > MAX_PAYLOAD {
+        return None;
+    }
+    let first = list.first()?;
+    if reads_to(settings, &payload, first.time, list, bytes) {
+        Some(payload)
+    } else {
+        None
+    }
+}
+
+/// Does this plain payload, at this time, read to the list: "the same times, channels, sorts, lengths and frame bytes;
+/// starts may differ"?
+pub(crate) fn reads_to(settings: Settings, payload: &[u8], time: u32, list: &[Row], bytes: &[u8]) -> bool {
+    let mut packet = header(false, settings.payload_type, 0, time, 0);
+    packet.extend_from_slice(payload);
+    let Ok((_, back)) = packet_rows(settings, &packet) else {
+        return false;
+    };
+    back.len() == list.len()
+        && back.iter().zip(list).all(|(b, l)| {
+            (b.time, b.channel, b.class, b.length) == (l.time, l.channel, l.class, l.length) && frame(&packet, b) == frame(bytes, l)
+        })
+}
+
+fn frame<'a>(bytes: &'a [u8], row: &Row) -> &'a [u8] {
+    &bytes[row.start as usize..(row.start + row.length) as usize]
+}
+
+/// "In kinds 1 and 2 writing uses one entry for each longest run of frame-blocks of equal length, channels of a
+/// frame-block together and equal in length; in kind 3, one entry a frame." Nothing where a class and length has no
+/// code, or a step no displacement.
+fn canonical(settings: Settings, list: &[Row], bytes: &[u8]) -> Option<Vec<u8>> {
+    let channels = settings.channels as usize;
+    let mut payload = Vec::new();
+    if settings.format == 3 {
+        for (i, row) in list.iter().enumerate() {
+            let another = if i + 1 < list.len() { 128 } else { 0 };
+            payload.push(another + 16 * code_of(3, row.class, row.length)?);
+        }
+    } else {
+        let blocks: Vec<&[Row]> = list.chunks(channels).collect();
+        let runs: Vec<&[&[Row]]> = blocks.chunk_by(|a, b| a[0].length == b[0].length).collect();
+        for (i, run) in runs.iter().enumerate() {
+            let first = run[0][0];
+            let another = if i + 1 < runs.len() { 128 } else { 0 };
+            payload.push(another + 4 * code_of(settings.format, first.class, first.length)?);
+            payload.push(u8::try_from(run.len()).ok()?);
+            if settings.format == 2 {
+                // DIS1 is 0; so are the padding bits
+                let mut displacements = vec![0];
+                for two in run.windows(2) {
+                    let ticks = two[1][0].time.wrapping_sub(two[0][0].time);
+                    if ticks % step_ticks(2) != 0 || ticks == 0 || ticks / step_ticks(2) > 16 {
+                        return None;
+                    }
+                    displacements.push((ticks / step_ticks(2) - 1) as u8);
+                }
+                if displacements.len() % 2 == 1 {
+                    displacements.push(0);
+                }
+                payload.extend(displacements.chunks(2).map(|two| 16 * two[0] + two[1]));
+            }
+        }
+    }
+    for row in list {
+        payload.extend_from_slice(frame(bytes, row));
+    }
+    Some(payload)
+}
+
+/// The packet for the lists, or nothing where that is 13.
+fn packet_of(settings: Settings, marker: bool, sequence: u16, source: u32, counts: &[u32], rows: &[Row], bytes: &[u8]) -> Option<Vec<u8>> {
+    // "no count or more than five counts are given, the counts don't make up the area"
+    if counts.is_empty() || counts.len() > MAX_REDUNDANT + 1 {
+        return None;
+    }
+    if counts.iter().map(|count| *count as u64).sum::<u64>() != rows.len() as u64 {
+        return None;
+    }
+    // "128 rows"
+    if rows.len() > MAX_ROWS {
+        return None;
+    }
+    // "a list alone is 13"
+    let mut lists = Vec::new();
+    let mut rest = rows;
+    for count in counts {
+        let (list, after) = rest.split_at(*count as usize);
+        lists.push((list.first()?.time, payload_of(settings, list, bytes)?));
+        rest = after;
+    }
+    let (timestamp, primary) = lists.pop()?;
+
+    // "With no redundant list the packet is plain."
+    if lists.is_empty() {
+        let mut packet = header(marker, settings.payload_type, sequence, timestamp, source);
+        packet.extend(primary);
+        return if packet.len() > MAX_PACKET { None } else { Some(packet) };
+    }
+    // "redundant lists come with redundancy type 128"
+    if settings.redundancy_type == NO_REDUNDANCY {
+        return None;
+    }
+    let mut packet = header(marker, settings.redundancy_type, sequence, timestamp, source);
+    for (time, payload) in &lists {
+        // "an offset or length is too large"
+        let offset = timestamp.wrapping_sub(*time);
+        if offset > MAX_OFFSET || payload.len() > MAX_BLOCK {
+            return None;
+        }
+        let word = (offset << 10) + payload.len() as u32;
+        packet.push(128 + settings.payload_type);
+        packet.extend_from_slice(&word.to_be_bytes()[1..]);
+    }
+    packet.push(settings.payload_type);
+    for (_, payload) in lists {
+        packet.extend(payload);
+    }
+    packet.extend(primary);
+    if packet.len() > MAX_PACKET {
+        None
+    } else {
+        Some(packet)
+    }
+}
+
+/// The twelve bytes of the RTP header. "The writer uses no CC, X or P".
+fn header(marker: bool, payload_type: u8, sequence: u16, timestamp: u32, source: u32) -> Vec<u8> {
+    let mut bytes = vec![128, if marker { 128 + payload_type } else { payload_type }];
+    bytes.extend_from_slice(&sequence.to_be_bytes());
+    bytes.extend_from_slice(&timestamp.to_be_bytes());
+    bytes.extend_from_slice(&source.to_be_bytes());
+    bytes
+}

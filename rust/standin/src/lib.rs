@@ -1,0 +1,139 @@
+//! The C functions over the reference. mutants.sh builds it over a reference with a fault planted in it, links the tests to
+//! that, and sees them fail.
+
+use reference::{Buffer, Drawn, Settings, Verdicts};
+use std::slice::{from_raw_parts, from_raw_parts_mut};
+
+#[repr(C)]
+#[derive(Clone, Copy)]
+pub struct CSettings(u8, u8, u8, u8);
+
+#[repr(C)]
+pub struct CReading(u32, u32, u32, u32, u32, u32);
+
+#[repr(C)]
+pub struct CWritten(u32, u32);
+
+#[repr(C)]
+#[derive(Clone, Copy)]
+pub struct CBuffer {
+    columns: [[u32; 192]; 4],
+    occupied: [u64; 3],
+    last: [u32; 3],
+    settings: CSettings,
+}
+
+#[repr(C)]
+pub struct CFresh(u32, CBuffer);
+
+#[repr(C)]
+pub struct COffered([u32; 7], CBuffer);
+
+#[repr(C)]
+pub struct CDrawn([u32; 6], CBuffer);
+
+fn settings(s: CSettings) -> Settings {
+    Settings { format: s.0, channels: s.1, payload_type: s.2, redundancy_type: s.3 }
+}
+
+fn buffer(b: CBuffer) -> Buffer {
+    let [times, tags, lengths, slots] = b.columns;
+    let [last_time, last_channel, drawn] = b.last;
+    Buffer { times, tags, lengths, slots, occupied: b.occupied, last_time, last_channel, drawn, settings: settings(b.settings) }
+}
+
+fn c_buffer(b: Buffer) -> CBuffer {
+    let s = b.settings;
+    CBuffer {
+        columns: [b.times, b.tags, b.lengths, b.slots],
+        occupied: b.occupied,
+        last: [b.last_time, b.last_channel, b.drawn],
+        settings: CSettings(s.format, s.channels, s.payload_type, s.redundancy_type),
+    }
+}
+
+fn written(answer: Result<u32, u32>) -> CWritten {
+    match answer {
+        Ok(length) => CWritten(0, length),
+        Err(refusal) => CWritten(refusal, 0),
+    }
+}
+
+#[no_mangle]
+pub unsafe extern "C" fn hsp_read(s: CSettings, packet: *const u8, n: usize, rows: *mut u32, m: usize) -> CReading {
+    match reference::read(settings(s), from_raw_parts(packet, n), from_raw_parts_mut(rows, m)) {
+        Ok(r) => CReading(0, r.rows, r.marker, r.sequence, r.timestamp, r.source),
+        Err(refusal) => CReading(refusal, 0, 0, 0, 0, 0),
+    }
+}
+
+#[no_mangle]
+pub unsafe extern "C" fn hsp_write_payload(
+    s: CSettings,
+    rows: *const u32,
+    n: usize,
+    bytes: *const u8,
+    m: usize,
+    out: *mut u8,
+    o: usize,
+) -> CWritten {
+    written(reference::write_payload(settings(s), from_raw_parts(rows, n), from_raw_parts(bytes, m), from_raw_parts_mut(out, o)))
+}
+
+#[no_mangle]
+#[allow(clippy::too_many_arguments)]
+pub unsafe extern "C" fn hsp_write_packet(
+    s: CSettings,
+    marker: u8,
+    sequence: u16,
+    source: u32,
+    counts: *const u32,
+    c: usize,
+    rows: *const u32,
+    n: usize,
+    bytes: *const u8,
+    m: usize,
+    out: *mut u8,
+    o: usize,
+) -> CWritten {
+    let counts = from_raw_parts(counts, c);
+    let rows = from_raw_parts(rows, n);
+    let bytes = from_raw_parts(bytes, m);
+    written(reference::write_packet(settings(s), marker != 0, sequence, source, counts, rows, bytes, from_raw_parts_mut(out, o)))
+}
+
+#[no_mangle]
+pub extern "C" fn hsp_new(s: CSettings) -> CFresh {
+    let (b, answer) = reference::fresh(settings(s));
+    CFresh(answer.err().unwrap_or(0), c_buffer(b))
+}
+
+#[no_mangle]
+pub unsafe extern "C" fn hsp_offer(
+    b: CBuffer,
+    packet: *const u8,
+    n: usize,
+    rows: *mut u32,
+    m: usize,
+    store: *mut u8,
+    k: usize,
+) -> COffered {
+    let (after, answer) =
+        reference::offer(&buffer(b), from_raw_parts(packet, n), from_raw_parts_mut(rows, m), from_raw_parts_mut(store, k));
+    let (refusal, v) = match answer {
+        Ok(v) => (0, v),
+        Err(refusal) => (refusal, Verdicts::default()),
+    };
+    COffered([refusal, v.late, v.far, v.repeated, v.better, v.no_room, v.inserted], c_buffer(after))
+}
+
+#[no_mangle]
+pub unsafe extern "C" fn hsp_draw(b: CBuffer, store: *const u8, k: usize, area: *mut u8, n: usize) -> CDrawn {
+    let (after, answer) = reference::draw(&buffer(b), from_raw_parts(store, k), from_raw_parts_mut(area, n));
+    let numbers = match answer {
+        Ok(Drawn::Frame { time, channel, class, length }) => [0, 0, time, channel, class, length],
+        Ok(Drawn::Empty) => [0, 1, 0, 0, 0, 0],
+        Err(refusal) => [refusal, 0, 0, 0, 0, 0],
+    };
+    CDrawn(numbers, c_buffer(after))
+}
