@@ -1,0 +1,39 @@
+// hsp_write_packet: a packet written.
+use crate::writing::HspWritten;
+use encoder::writing::Written;
+use rtp::refusal;
+use rtp::settings::Settings;
+use sender::packets;
+ghost use mathlib.Core.Path.{_≡_};
+ghost use lib.ListN.{length};
+ghost use Rattle.rtp.specs.Areas.{over};
+ghost use Rattle.encoder.specs.Writings.{encodedNumbers, encodedBytes};
+ghost use Rattle.sender.specs.Packets.{sending};
+ghost use Rattle.heolstorpit.specs.Answers.{writtenAnswer};
+
+// An hsp_written, as hsp_write_payload answers.
+#[no_mangle]
+pub extern "C" fn hsp_write_packet(
+    settings: Settings,
+    marker: u8,
+    sequence: u16,
+    source: u32,
+    counts: &[u32],
+    rows: &[u32],
+    bytes: &[u8],
+    out: &mut [u8],
+) -> HspWritten
+    ensures { λ r. ⌜ (writtenAnswer r ≡ encodedNumbers (sending settings (record { marker = marker; sequence = sequence; source = source }) (now (counts .entry)) (now (rows .entry)) (now (bytes .entry)) (length (now (out .entry)))))
+        × (now (out .exit) ≡ over (encodedBytes (sending settings (record { marker = marker; sequence = sequence; source = source }) (now (counts .entry)) (now (rows .entry)) (now (bytes .entry)) (length (now (out .entry))))) (now (out .entry))) ⌝ }
+{
+    match packets::write_packet(settings, marker, sequence, source, counts, rows, bytes, out) {
+        Written::Refused(reason) => HspWritten {
+            refusal: refusal::refusal_number(reason),
+            length: 0,
+        },
+        Written::Bytes(count) => HspWritten {
+            refusal: 0,
+            length: count as u32,
+        },
+    }
+}
