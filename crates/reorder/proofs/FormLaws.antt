@@ -1,36 +1,29 @@
--- What a well-formed buffer is, as facts of its entries, one by one; that it is the encoding of its model; and that such facts of a model make its encoding
--- well-formed.
-use Prim.Native.Nat.{ℕ, zero, suc, _+_, _-_, _*_, _/_, _%_, _^_, _≤_, _<_, Ordering, Ordering·lt, Ordering·eq, Ordering·gt}
+-- What a well-formed buffer is, as facts of its entries, one by one; and that it is the encoding of its model.
+use Prim.Native.Nat.{ℕ, zero, suc, _+_, _*_, _/_, _%_, _^_, _≤_, _<_, Ordering, Ordering·lt, Ordering·eq, Ordering·gt}
 use mathlib.Core.Path.{_≡_, refl, sym, ap, subst, _∙_}
 use mathlib.Core.Logic.{_⊎_, inl, inr}
 use mathlib.Core.List.{List, [], _∷_, map, List·Memᴰ, List·Memᴰ·head as here, List·Memᴰ·tail as there, List·Memᴰ·not-nil as nowhere, List·Memᴰ·cases-cons as cases}
 use mathlib.Core.Bool.{Bool, true, false, cond}
 use mathlib.Core.Option.{Option, none, some}
 use native.Mathlib.Omega.{arith}
-use borrow.Author.Tests.{eqb-true, eqb-false, ltb-true, eq-eqb, ne-eqb, lt-ltb, leb-true}
-use lib.Count.{ones, ones-le}
-use lib.Dec.{ltb, leb, eqb}
-use lib.ListN.{length, getD, take, drop, length-map}
+use borrow.Author.Tests.{eqb-true, eqb-false, ltb-true, eq-eqb, ne-eqb, lt-ltb}
+use lib.Dec.{ltb, eqb}
+use lib.ListN.{length, getD, take, drop}
 use lib.Seq.{drop-cons}
 use Rattle.rtp.specs.declared.settings.Settings.{Settings}
 use Rattle.rtp.proofs.TestLaws.{not-both}
-use Rattle.rtp.specs.Ranges.{gsmHr}
-use Rattle.payload.specs.Frames.{noData, sound, sid, gsmLength}
-use Rattle.payload.specs.Codes.{noCode, lengthCode, codeFor}
-use Rattle.playout.specs.Sizes.{slots, slotSize}
+use Rattle.playout.specs.Sizes.{slots}
 use Rattle.playout.specs.Pairs.{half, ahead, order, isAfter}
 use Rattle.playout.specs.Entries.{Entry, Held, sideOfEntry}
-use Rattle.playout.proofs.RankLaws.{FrameClass}
-use Rattle.playout.proofs.MergeLaws.{Chain}
 use Rattle.playout.proofs.SoundLaws.{Rising, Stretch}
 use Rattle.reorder.specs.declared.buffer.Buffer.{Buffer}
 use Rattle.reorder.specs.Bits.{markOf, heldIn, wordAt, wordsOf, isFree, sameWords}
-use Rattle.reorder.specs.Layout.{tagOf, padTo, column, flagOf, encode, entryAt, entriesFrom, decode, fresh}
+use Rattle.reorder.specs.Layout.{tagOf, padTo, column, flagOf, encode, entryAt, entriesFrom, decode}
 use Rattle.reorder.specs.WellFormed.{allowed, lastFine, sinceLast, ascends, entryFine, fineFrom, zeros, unusedZero, wellFormed}
 use Rattle.reorder.specs.Claims.{Machine}
 use Rattle.reorder.proofs.CheckLaws.{both, and-then, free-parts}
-use Rattle.reorder.proofs.WordLaws.{slotOf, slotsOf, SlotFacts, own-few, own-distinct, distinct-own, countIn, Distinct, count-none, count-here, distinct-none, distinct-cons, mark-count, words-cons, held-slots}
-use Rattle.reorder.proofs.LayoutLaws.{Octets, column-first, decode-encode}
+use Rattle.reorder.proofs.WordLaws.{slotOf, slotsOf, SlotFacts, own-few, distinct-own, countIn, Distinct, count-none, count-here, distinct-none, distinct-cons, mark-count, words-cons}
+use Rattle.reorder.proofs.LayoutLaws.{Octets}
 
 -- The facts
 
@@ -60,7 +53,7 @@ after-gt Ordering·gt h = refl
 -- The entries' tests, in turn, and what they say
 
 -- the slots of entries on top of others
-onto : List Entry → List ℕ → List ℕ
+pub onto : List Entry → List ℕ → List ℕ
 onto [] ss = ss
 onto (e ∷ es) ss = onto es (e .slot ∷ ss)
 
@@ -79,17 +72,17 @@ unfolding wordAt
 word-none k = refl
 
 -- after the entry before, if any, and so on
-abbrev From : Option Entry → List Entry → Type 0
+abbrev pub From : Option Entry → List Entry → Type 0
 From p [] = Unit {0}
 From p (e ∷ es) = (ascends p e ≡ true) × From (some e) es
 
-record Parts (b : Buffer) (first : ℕ) (e : Entry) : Type 0 where
+pub record Parts (b : Buffer) (first : ℕ) (e : Entry) : Type 0 where
   pub frame : allowed (b .settings .format) (e .class) (e .length) ≡ true
   pub channel : e .channel < b .settings .channels
   pub since : sinceLast b e ≡ true
   pub near : ahead (e .time) first < half
 
-record Run (b : Buffer) (first : ℕ) (p : Option Entry) (ss : List ℕ) (es : List Entry) : Type 0 where
+pub record Run (b : Buffer) (first : ℕ) (p : Option Entry) (ss : List ℕ) (es : List Entry) : Type 0 where
   pub each : (e : Entry) → List·Memᴰ e es → Parts b first e
   pub from : From p es
   pub distinct : Distinct (onto es ss)
@@ -133,7 +126,7 @@ module _ (b : Buffer) (first : ℕ) where
     within = λ x h. d .within x (omega (arith, onto-count x es ss));
   }
 
-  run-back : (p : Option Entry) (ss : List ℕ) (es : List Entry) → Run b first p ss es → fineFrom b first p (wordsOf ss) es ≡ true
+  pub run-back : (p : Option Entry) (ss : List ℕ) (es : List Entry) → Run b first p ss es → fineFrom b first p (wordsOf ss) es ≡ true
   unfolding fineFrom onto
   run-back p ss [] r = r .words
   run-back p ss (e ∷ es) r =
@@ -155,7 +148,7 @@ from-rising (e ∷ es) f = go e es (f .1)
     go e [] f = tt
     go e (x ∷ es) f = (after-gt (sideOfEntry x e) (f .0), go x es (f .1))
 
-rising-from : (es : List Entry) → Rising es → From none es
+pub rising-from : (es : List Entry) → Rising es → From none es
 rising-from [] r = tt
 rising-from (e ∷ es) r = (refl, go e es r)
   where
@@ -176,7 +169,7 @@ pad-take zero xs h = zero-rest xs h
 pad-take (suc n) [] h = refl
 pad-take (suc n) (x ∷ xs) h = ap (λ (l : List ℕ). x ∷ l) (pad-take n xs h)
 
-pad-zeros : (n : ℕ) (xs : List ℕ) → zeros (drop (length xs) (padTo n xs)) ≡ true
+pub pad-zeros : (n : ℕ) (xs : List ℕ) → zeros (drop (length xs) (padTo n xs)) ≡ true
 unfolding zeros padTo
 pad-zeros zero [] = refl
 pad-zeros zero (x ∷ xs) = refl
@@ -228,17 +221,17 @@ same-words ss w e h =
     let r = eqb-true (wordAt 2 ss) (getD w 2 0) (c .1) in
     (λ j. p j ∷ q j ∷ r j ∷ []) ∙ sym (three-words w e)
 
-words-same : {v w : List ℕ} → v ≡ w → sameWords v w ≡ true
+pub words-same : {v w : List ℕ} → v ≡ w → sameWords v w ≡ true
 words-same {w = w} e = ap (λ (v : List ℕ). sameWords v w) e ∙ and-then (eqb (getD w 0 0) (getD w 0 0)) _ (eq-eqb (getD w 0 0) (getD w 0 0) refl)
     (and-then (eqb (getD w 1 0) (getD w 1 0)) _ (eq-eqb (getD w 1 0) (getD w 1 0) refl) (eq-eqb (getD w 2 0) (getD w 2 0) refl))
 
-onto-words : (es : List Entry) → wordsOf (onto es []) ≡ wordsOf (slotsOf es)
+pub onto-words : (es : List Entry) → wordsOf (onto es []) ≡ wordsOf (slotsOf es)
 onto-words es = λ j. word 0 j ∷ word 1 j ∷ word 2 j ∷ []
   where
     word : (k : ℕ) → wordAt k (onto es []) ≡ wordAt k (slotsOf es)
     word k = omega (arith, onto-word k es [], word-none k)
 
-onto-distinct : (es : List Entry) → Distinct (slotsOf es) → Distinct (onto es [])
+pub onto-distinct : (es : List Entry) → Distinct (slotsOf es) → Distinct (onto es [])
 onto-distinct es d = record {
   once = λ x. omega (arith, d .once x, onto-count x es [], count-none x);
   within = λ x h. d .within x (omega (arith, onto-count x es [], count-none x));
@@ -355,91 +348,3 @@ module _ (b : Buffer) (machine : Machine b) (ok : wellFormed b ≡ true) where
         drawn = flag-is (b .drawn) (b .«last_time») (b .«last_channel») (b .settings .channels) last i;
         settings = b .settings;
       }
-
--- Back: the facts of a model make its encoding well-formed
-
-module _ (st : Settings) (h : Held) (F : Facts st h) where
-  last-fine : lastFine (encode st h) ≡ true
-  last-fine = go (h .drawn) refl
-    where
-      go : (d : Bool) → h .drawn ≡ d
-          → cond (eqb (flagOf d) 0) (cond (eqb (h .lastTime) 0) (eqb (h .lastChannel) 0) false) (cond (eqb (flagOf d) 1) (ltb (h .lastChannel) (st .channels)) false) ≡ true
-      go true e = lt-ltb (h .lastChannel) (st .channels) (F .last-channel e)
-      go false e =
-          and-then (eqb (h .lastTime) 0) (eqb (h .lastChannel) 0) (eq-eqb (h .lastTime) 0 (F .no-last e .0)) (eq-eqb (h .lastChannel) 0 (F .no-last e .1))
-
-  rest-zero : unusedZero (encode st h) (heldIn (wordsOf (slotsOf (h .entries)))) ≡ true
-  rest-zero =
-      and-then (zeros (drop m (column (λ e. e .time) (h .entries)))) _ (zero (λ e. e .time))
-      (and-then (zeros (drop m (column tagOf (h .entries)))) _ (zero tagOf)
-      (and-then (zeros (drop m (column (λ e. e .length) (h .entries)))) _ (zero (λ e. e .length)) (zero slotOf)))
-    where
-      m : ℕ
-      m = heldIn (wordsOf (slotsOf (h .entries)))
-
-      zero : (f : Entry → ℕ) → zeros (drop m (column f (h .entries))) ≡ true
-      zero f =
-          ap (λ (k : ℕ). zeros (drop k (column f (h .entries)))) (held-slots (h .entries) (F .slot-facts) ∙ sym (length-map (h .entries) f))
-          ∙ pad-zeros slots (map f (h .entries))
-
-  since : (e : Entry) → List·Memᴰ e (h .entries) → sinceLast (encode st h) e ≡ true
-  since e m = go (h .drawn) refl
-    where
-      go : (d : Bool) → h .drawn ≡ d → cond (eqb (flagOf d) 0) true (isAfter (order (e .time) (e .channel) (h .lastTime) (h .lastChannel))) ≡ true
-      go true q = ap isAfter (F .after-last q e m)
-      go false q = refl
-
-  near : (es : List Entry) → Stretch es → (e : Entry) → List·Memᴰ e es → ahead (e .time) (getD (column (λ x. x .time) es) 0 0) < half
-  near [] s e m = absurd (nowhere m)
-  near (x ∷ es) s e m = rw (column-first (λ y. y .time) x es) (s e m)
-
-  fine : fineFrom (encode st h) (getD (column (λ e. e .time) (h .entries)) 0 0) none (0 ∷ 0 ∷ 0 ∷ []) (h .entries) ≡ true
-  unfolding wordAt
-  fine = run-back (encode st h) (getD (column (λ e. e .time) (h .entries)) 0 0) none [] (h .entries) (record {
-    each = λ e m. record { frame = F .each e m .frame; channel = F .each e m .channel; since = since e m; near = near (h .entries) (F .stretch) e m };
-    from = rising-from (h .entries) (F .rising);
-    distinct = onto-distinct (h .entries) (own-distinct (h .entries) (F .slot-facts));
-    words = words-same (onto-words (h .entries));
-  })
-
-  pub well-formed : wellFormed (encode st h) ≡ true
-  unfolding wellFormed
-  well-formed =
-      and-then (lastFine (encode st h)) _ last-fine
-      (and-then (unusedZero (encode st h) (heldIn (wordsOf (slotsOf (h .entries))))) _ rest-zero
-      (ap (λ (g : Held). fineFrom (encode st h) (getD (column (λ e. e .time) (h .entries)) 0 0) none (0 ∷ 0 ∷ 0 ∷ []) (g .entries))
-      (decode-encode st h (F .room) (λ e m. F .each e m .octet) (F .slot-facts)) ∙ fine))
-
-pub fresh-formed : (st : Settings) → wellFormed (fresh st) ≡ true
-unfolding wellFormed fineFrom zeros entriesFrom ones
-fresh-formed st = refl
-
--- A frame that is allowed
-
-length-short : (n : ℕ) → ltb (lengthCode n) noCode ≡ true → n ≤ slotSize
-unfolding lengthCode
-length-short n h = go (ltb n 80) (leb n 220) (ltb n 240) (leb n 320) refl refl h
-  where
-    go : (a b c d : Bool) → leb n 220 ≡ b → leb n 320 ≡ d
-        → ltb (cond a noCode (cond b (cond (eqb ((n - 80) % 10) 0) (8 + (n - 80) / 10) noCode) (cond c noCode (cond d (cond (eqb ((n - 240) % 20) 0) (23 + (n - 240) / 20) noCode) noCode)))) noCode ≡ true
-        → n ≤ slotSize
-    go true b c d p q h = not-both false h refl
-    go false true c d p q h = let r = leb-true n 220 p in omega arith
-    go false false true d p q h = not-both false h refl
-    go false false false true p q h = leb-true n 320 q
-    go false false false false p q h = not-both false h refl
-
-pub allowed-frame : (format class n : ℕ) → allowed format class n ≡ true → FrameClass class × (n ≤ slotSize)
-unfolding codeFor
-allowed-frame format class n h = go (eqb class noData) (eqb format gsmHr) (eqb n gsmLength) (eqb class sound) (eqb class sid) refl refl refl h
-  where
-    go : (o f l s i : Bool) → eqb n gsmLength ≡ l → eqb class sound ≡ s → eqb class sid ≡ i
-        → cond o false (ltb (cond f (cond o (cond (eqb n 0) 7 noCode) (cond l (cond s 0 (cond i 2 noCode)) noCode)) (cond o (cond (eqb n 0) 0 noCode) (cond s (lengthCode n) noCode))) noCode) ≡ true
-        → FrameClass class × (n ≤ slotSize)
-    go true f l s i p q r h = not-both false h refl
-    go false true true true i p q r h = let u = eqb-true n gsmLength p in let v = eqb-true class sound q in ((omega arith, omega arith), omega arith)
-    go false true true false true p q r h = let u = eqb-true n gsmLength p in let v = eqb-true class sid r in ((omega arith, omega arith), omega arith)
-    go false true true false false p q r h = not-both false h refl
-    go false true false s i p q r h = not-both false h refl
-    go false false l true i p q r h = let v = eqb-true class sound q in ((omega arith, omega arith), length-short n h)
-    go false false l false i p q r h = not-both false h refl

@@ -5,6 +5,8 @@ pub mod WordLaws
 pub mod LayoutLaws
 pub mod PlaceLaws
 pub mod FormLaws
+pub mod FormBackLaws
+pub mod AllowedLaws
 pub mod FreeLaws
 pub mod CallLaws
 pub mod StateLaws

@@ -19,7 +19,8 @@ use Rattle.playout.proofs.JudgeLaws.{judge-cases, judge-last, judge-room}
 use Rattle.playout.proofs.SoundLaws.{IsFrame, Frames, IsEntry, Sound, fresh, judge-sound, judge-length, drawnFirst, draw-sound}
 use Rattle.reorder.specs.WellFormed.{allowed}
 use Rattle.reorder.proofs.WordLaws.{SlotFacts}
-use Rattle.reorder.proofs.FormLaws.{EntryFacts, Facts, allowed-frame}
+use Rattle.reorder.proofs.FormLaws.{EntryFacts, Facts}
+use Rattle.reorder.proofs.AllowedLaws.{allowed-frame}
 
 -- the buffer's model, with its store, under settings in range
 pub record Good (st : Settings) (h : Held) (s : List ℕ) : Type 0 where

@@ -31,7 +31,8 @@ use Rattle.reorder.proofs.WordLaws.{slotOf, slotsOf, free-is}
 use Rattle.reorder.proofs.FreeLaws.{free-when-room}
 use Rattle.reorder.proofs.LayoutLaws.{noEntry, at-member, column-insert, column-set, column-same, words-insert, words-set}
 use Rattle.reorder.proofs.PlaceLaws.{AtPlace, place-at, fits-is}
-use Rattle.reorder.proofs.FormLaws.{facts, decode-length, words-held, encode-decode, allowed-frame}
+use Rattle.reorder.proofs.FormLaws.{facts, decode-length, words-held, encode-decode}
+use Rattle.reorder.proofs.AllowedLaws.{allowed-frame}
 
 -- the entry at a place of the list is that at the place of the columns
 entries-at : (b : Buffer) (k i j : ℕ) → j < k → getD (entriesFrom b k i) j noEntry ≡ entryAt b (i + j)

@@ -21,7 +21,7 @@ use Rattle.reorder.specs.Rows.{copiesOf}
 use Rattle.reorder.specs.Calls.{NewOutcome, OfferOutcome, offerCall, offerRead, DrawOutcome, drawCall, drawFirst}
 use Rattle.reorder.specs.Claims.{Machine, KeepsWellFormed}
 use Rattle.reorder.proofs.CallLaws.{new-in, offer-out, offer-rows, offer-store, offer-reads, draw-out, draw-store, draw-area, draw-goes}
-use Rattle.reorder.proofs.FormLaws.{fresh-formed}
+use Rattle.reorder.proofs.FormBackLaws.{fresh-formed}
 use Rattle.reorder.proofs.StateLaws.{judgeAll-good, draw-good}
 use Rattle.reorder.proofs.BridgeLaws.{buffer-good, good-fine}
 use Rattle.reorder.proofs.CopyLaws.{read-fit}

@@ -1,4 +1,5 @@
 // Occupied slots as three 64-bit words.
+use crate::buffer::SLOTS;
 ghost use mathlib.Core.Path.{_≡_};
 ghost use Prim.Native.Nat.{_≤_, _<_, _^_, _/_, _%_};
 ghost use lib.Count.{ones};
@@ -77,7 +78,7 @@ pub(crate) fn unmark(words: [u64; 3], slot: usize) -> [u64; 3]
 pub(crate) fn is_free(words: [u64; 3], slot: usize) -> bool
     ensures { λ r. ⌜ r ≡ isFree words slot ⌝ }
 {
-    if 192 <= slot {
+    if SLOTS <= slot {
         return false;
     }
     let i = slot / 64;

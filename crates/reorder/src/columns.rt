@@ -1,4 +1,5 @@
 // Columns of a buffer.
+use crate::buffer::SLOTS;
 use playout::order;
 use playout::order::Side;
 ghost use mathlib.Core.Path.{_≡_};
@@ -114,7 +115,7 @@ pub(crate) fn zero_from(column: &[u32; 192], n: usize) -> bool
     let values: &[u32] = column;
     let mut sum: u64 = 0;
     let mut i = n;
-    while i < 192 {
+    while i < SLOTS {
         sum += values[i] as u64;
         i += 1;
     }

@@ -17,11 +17,11 @@ use Rattle.rtp.proofs.TestLaws.{by-test}
 use Rattle.payload.specs.Rows.{rowsIn}
 use Rattle.encoder.specs.Lists.{outside}
 use Rattle.encoder.specs.Writings.{Encoded, noBytes, bytesOf, encoded, Numbers, encodedNumbers, encodedBytes, refusedNumbers, measured}
-use Rattle.encoder.proofs.AttachLaws.{either}
 use Rattle.encoder.proofs.WritingLaws.{in-range-some, numbers-encoded, measured-plan}
 use Rattle.sender.specs.Parts.{maxOffset, maxBlock, Part, Parts, noParts, partsOf, primaryPart, prependPart, redundantPart, parts}
 use Rattle.sender.specs.Packets.{blockHeaderBytes, headersBytes, blocksBytes}
 use Rattle.sender.specs.Room.{Counted, offsetOf, redundantNumbers, addNumbers, listsNumbers, listsHeaders, HeadersFit, listBytes, listsPayloads}
+use Rattle.sender.proofs.RangeLaws.{ranged}
 use Rattle.sender.proofs.WordLaws.{rows-take, rows-drop, first-fits, counted-rest, inside-first, inside-rest, whole-first}
 use Rattle.sender.proofs.ListsLaws.{number-some, lists-one, lists-more, redundant-none, redundant-long, redundant-far, redundant-all, add-none, add-rest, add-both, headers-one, headers-more, payloads-one, payloads-more}
 
@@ -32,22 +32,6 @@ none-numbers q = refl
 pub bytes-numbers : (p : List ℕ) → encodedNumbers (bytesOf p) ≡ record { refusal = 0; count = length p }
 unfolding encodedNumbers
 bytes-numbers p = refl
-
--- types of settings in range
-pub plain-type : (st : Settings) → inRange st ≡ true → st .«payload_type» < 128
-unfolding inRange
-plain-type st h =
-    let a = either (eqb (st .channels) 0) _ h in
-    let b = either (ltb (maxChannels (st .format)) (st .channels)) _ (a .1) in
-    omega (arith, ltb-false 127 (st .«payload_type») (either (ltb 127 (st .«payload_type»)) _ (b .1) .0))
-
-pub other-type : (st : Settings) → inRange st ≡ true → eqb (st .«redundancy_type») noRedundancy ≡ false → st .«redundancy_type» < 128
-unfolding inRange
-other-type st h n =
-    let a = either (eqb (st .channels) 0) _ h in
-    let b = either (ltb (maxChannels (st .format)) (st .channels)) _ (a .1) in
-    let c = either (ltb 127 (st .«payload_type»)) _ (b .1) in
-    omega (arith, ltb-false 127 (st .«redundancy_type») (either (ltb 127 (st .«redundancy_type»)) _ (rw n at (c .1)) .0))
 
 -- the bytes of the parts, but for the primary block's header
 abbrev pub partsSize : List Part → List ℕ → ℕ
@@ -139,7 +123,7 @@ module _ (st : Settings) (bytes : List ℕ) (time : ℕ) (i : inRange st ≡ tru
           record {
             sizes = sum ∙ sym (add-both (redundantNumbers st time front) (listsNumbers st time (m ∷ ns) others) (4 + length q) (partsSize cs d) (sym (redundant-all st time front (length q) z short near)) (h .sizes));
             heads = headers-more st time (n ∷ m ∷ ns) ws (omega arith) ∙ rw (k, h .heads) (sym (more-headers (st .«payload_type») b cs));
-            fit = (record { type = plain-type st i; near = near; short = omega (arith, k) }, h .fit);
+            fit = (record { type = ranged st i .plain; near = near; short = omega (arith, k) }, h .fit);
             payloads = payloads-more st bytes (n ∷ m ∷ ns) ws (omega arith) ∙ rw (y, h .payloads) (sym (more-blocks b cs d));
             many = ap suc (h .many);
           }

@@ -1,3 +1,4 @@
+pub mod RangeLaws
 pub mod HeaderBackLaws
 pub mod SameFrameLaws
 pub mod PayloadBackLaws

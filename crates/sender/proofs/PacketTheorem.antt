@@ -8,7 +8,7 @@ use lib.ListN.{length}
 use lib.Dec.{ltb, eqb}
 use borrow.Author.Tests.{eq-eqb, ne-eqb, ltb-false, eqb-true, eqb-false}
 use Rattle.rtp.specs.Sizes.{maxPacket, maxRows, rowWidth}
-use Rattle.rtp.specs.Ranges.{noRedundancy, maxChannels, inRange}
+use Rattle.rtp.specs.Ranges.{noRedundancy, inRange}
 use Rattle.rtp.specs.declared.settings.Settings.{Settings}
 use Rattle.rtp.specs.declared.refusal.Refusal.{Refusal}
 use Rattle.payload.specs.Rows.{Row}
@@ -24,32 +24,13 @@ use Rattle.encoder.proofs.PlanRowLaws.{Times}
 use Rattle.sender.specs.Parts.{maxRedundant, total, primaryTime, Part, Parts, noParts, partsOf, parts}
 use Rattle.sender.specs.Packets.{Heading, headerBytes, bodyBytes, packetType, redundancyMissing, assembledFrom, assembled, countsFit, sending}
 use Rattle.sender.specs.Claims.{ReadsBack, PacketRoundTrip}
+use Rattle.sender.proofs.RangeLaws.{Ranged, ranged}
 use Rattle.sender.proofs.HeaderBackLaws.{headOf, header-back, payload-after}
 use Rattle.sender.proofs.PayloadBackLaws.{Back, payload-back}
 use Rattle.sender.proofs.PartLaws.{Made, made, primary-small}
 use Rattle.sender.proofs.BlocksBackLaws.{redundant-back}
 
--- What settings in range, and words, say
-
-record Ranged (st : Settings) : Type 0 where
-  channels : 1 ≤ st .channels
-  plain : st .«payload_type» < 128
-  redundant : eqb (st .«redundancy_type») noRedundancy ≡ false → (st .«redundancy_type» < 128) × (st .«redundancy_type» ≡ st .«payload_type» → ⊥)
-
-ranged : (st : Settings) → inRange st ≡ true → Ranged st
-unfolding inRange
-ranged st h =
-    let a = either (eqb (st .channels) 0) _ h in
-    let b = either (ltb (maxChannels (st .format)) (st .channels)) _ (a .1) in
-    let c = either (ltb 127 (st .«payload_type»)) _ (b .1) in
-    record {
-      channels = omega (arith, eqb-false (st .channels) 0 (a .0));
-      plain = omega (arith, ltb-false 127 (st .«payload_type») (c .0));
-      redundant = λ n.
-          let d = either (ltb 127 (st .«redundancy_type»)) _ (rw n at (c .1)) in
-          let e = either (eqb (st .«redundancy_type») (st .«payload_type»)) true (d .1) in
-          (omega (arith, ltb-false 127 (st .«redundancy_type») (d .0)), eqb-false _ _ (e .0));
-    }
+-- What the counts say
 
 few-rows : (counts ws : List ℕ) → countsFit counts ws ≡ true → length (rowsIn ws) ≤ maxRows
 few-rows counts ws h =

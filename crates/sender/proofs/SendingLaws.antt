@@ -19,7 +19,8 @@ use Rattle.sender.specs.Parts.{maxRedundant, total, primaryTime, Part, P
 use Rattle.sender.specs.Packets.{Heading, headerBytes, headersBytes, blocksBytes, bodyBytes, packetType, redundancyMissing, withinPacket, assembledFrom, countsFit, assembled, sending}
 use Rattle.sender.specs.Room.{Counted, listsNumbers, withinNumbers, packetNumbers, listsHeaders, listsPayloads, headersSize, PayloadsRoom, BlocksRoom, BytesRoom, PacketRoom}
 use Rattle.sender.proofs.ListsLaws.{number-some, length-headers}
-use Rattle.sender.proofs.AgreeLaws.{none-numbers, bytes-numbers, other-type, partsSize, Agrees, agrees}
+use Rattle.sender.proofs.RangeLaws.{ranged}
+use Rattle.sender.proofs.AgreeLaws.{none-numbers, bytes-numbers, partsSize, Agrees, agrees}
 
 -- How many bytes
 
@@ -113,7 +114,7 @@ module _ (st : Settings) (h : Heading) (time : ℕ) (bytes counts ws : List ℕ)
       let s = length-append (listsHeaders st time counts ws) (listsPayloads st bytes counts ws) in
       let k = length-headers st time counts ws in
       record {
-        type = other-type st (r .settings) a;
+        type = ranged st (r .settings) .redundant a .0;
         room = omega (arith, w .1);
         blocks = record {
           headers = record { counted = r .counted; some = r .some; fit = d .fit; room = omega (arith, w .1) };

@@ -11,7 +11,7 @@ use Rattle.reorder.specs.Columns.{placeFrom}
 use Rattle.reorder.specs.Layout.{decode, assembled}
 use Rattle.reorder.specs.Judging.{copyIn, FrameFits}
 use Rattle.reorder.proofs.BridgeLaws.{few-channels}
-use Rattle.reorder.proofs.FormLaws.{allowed-frame}
+use Rattle.reorder.proofs.AllowedLaws.{allowed-frame}
 use Rattle.reorder.proofs.StepLaws.{step-late, step-far, near-none, near-some, held-at, step-found, place-in, step-full, step-new}
 use borrow.Author.Needs.{needs}
 use Rattle.reorder.proofs.judging.judge_copy.Statement.{statement}

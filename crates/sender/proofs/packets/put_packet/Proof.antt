@@ -11,7 +11,7 @@ use Rattle.payload.specs.Rows.{rowsIn}
 use Rattle.sender.specs.Parts.{parts}
 use Rattle.sender.specs.Packets.{Heading, headerBytes, assembledFrom}
 use Rattle.sender.specs.Room.{listsHeaders, listsPayloads}
-use Rattle.sender.proofs.AgreeLaws.{plain-type}
+use Rattle.sender.proofs.RangeLaws.{ranged}
 use Rattle.sender.proofs.SendingLaws.{Plain, plain-packet, Redundant, redundant-packet}
 use borrow.Author.Needs.{needs}
 use Rattle.sender.proofs.packets.put_packet.Statement.{statement}
@@ -32,7 +32,7 @@ redundant-at : (c : tie.Else1) → let a = c .before .before .before .before .be
 redundant-at c = let a = c .before .before .before .before .before .args in redundant-packet (a .asked) (heading (c .before .before .before .before .before)) (a .time) (now (a .bytes)) (now (a .counts)) (now (a .rows)) (length (now (a .out))) (c .before .before .before .before .before .pre) (c .if1 .left)
 
 put-header-requires : tie.Need-put-header-requires
-put-header-requires c κs = (plain-at (c .before) .room, plain-type (c .before .before .before .before .before .before .args .asked) (c .before .before .before .before .before .before .pre .settings))
+put-header-requires c κs = (plain-at (c .before) .room, ranged (c .before .before .before .before .before .before .args .asked) (c .before .before .before .before .before .before .pre .settings) .plain)
 
 sub-put-payloads : tie.Need-sub-put-payloads
 sub-put-payloads c = omega (arith, plain-at (c .before .before .before .before) .room, c .before .before .put-header .kept .0)
