@@ -15,7 +15,7 @@ use Rattle.playout.specs.declared.order.Side.{Side}
 use Rattle.playout.specs.Entries.{Entry}
 use Rattle.reorder.specs.declared.buffer.Buffer.{Buffer}
 use Rattle.reorder.specs.declared.buffer.Fixed.{Fixed}
-use Rattle.reorder.specs.Bits.{heldIn, markOf, marked, isFree, sameWords}
+use Rattle.reorder.specs.Bits.{heldIn, markOf, marked, isFree, claimed, sameWords}
 use Rattle.reorder.specs.Layout.{entryAt, entriesFrom, assembled}
 use Rattle.reorder.specs.WellFormed.{allowed, ascends, entryFine, fineFrom, wellFormed}
 use Rattle.reorder.specs.Checks.{sinceLastOf, partsFine, ascendsAt, lastFineOf, restZero, entriesFine}
@@ -39,6 +39,9 @@ failed {r = r} e h = sym e ∙ not-true r h
 -- a slot that is free
 pub free-parts : (ws : List ℕ) (s : ℕ) → isFree ws s ≡ true → (s < slots) × (markOf ws s ≡ 0)
 free-parts ws s h = let a = both (ltb s slots) (eqb (markOf ws s) 0) h in (ltb-true s slots (a .0), eqb-true (markOf ws s) 0 (a .1))
+
+pub claimed-free : (ws : List ℕ) (s : ℕ) → isFree ws s ≡ true → claimed ws s ≡ marked ws s
+claimed-free ws s h = ap (λ (b : Bool). cond b (marked ws s) ws) h
 
 -- a test that is known
 when : {b : Bool} (x y : Bool) → b ≡ true → cond b x y ≡ x

@@ -14,6 +14,7 @@ use Rattle.playout.specs.Pairs.{half, ahead, order, sideOf}
 use Rattle.playout.specs.declared.order.Side.{Side}
 use Rattle.reorder.specs.declared.columns.Place.{Place}
 use Rattle.reorder.specs.Columns.{insertAt, removeFirst, placeAt, placeFrom, withinFrom}
+use lib.Bits.{bitOr, or-add-and, and-le-l, and-le-r}
 use Rattle.reorder.specs.WellFormed.{zeros}
 
 -- Insertion: v and k - 1 of what follows are still to be stored from place i on, before the rest from place m on
@@ -98,22 +99,22 @@ module _ (times : List ℕ) (t n i : ℕ) where
 
 -- A sum of values is 0 where all are
 
-pub zeros-end : (xs : List ℕ) (i sum : ℕ) → length xs ≤ i → cond (eqb sum 0) (zeros (drop i xs)) false ≡ eqb sum 0
+pub zeros-end : (xs : List ℕ) (i any : ℕ) → length xs ≤ i → cond (eqb any 0) (zeros (drop i xs)) false ≡ eqb any 0
 unfolding zeros
-zeros-end xs i sum h = rw (drop-of-length-le xs {i = i} h) (by-test (eqb sum 0) (λ e. rw e) (λ e. rw e))
+zeros-end xs i any h = rw (drop-of-length-le xs {i = i} h) (by-test (eqb any 0) (λ e. rw e) (λ e. rw e))
 
-pub zeros-more : (xs : List ℕ) (i sum : ℕ) → i < length xs
-    → cond (eqb (sum + getD xs i 0) 0) (zeros (drop (i + 1) xs)) false ≡ cond (eqb sum 0) (zeros (drop i xs)) false
+pub zeros-more : (xs : List ℕ) (i any : ℕ) → i < length xs
+    → cond (eqb (bitOr any (getD xs i 0)) 0) (zeros (drop (i + 1) xs)) false ≡ cond (eqb any 0) (zeros (drop i xs)) false
 unfolding zeros
-zeros-more xs i sum h = rw (drop-cons xs i 0 h, add-one i) (go (getD xs i 0) (zeros (drop (suc i) xs)))
+zeros-more xs i any h = rw (drop-cons xs i 0 h, add-one i) (go (getD xs i 0) (zeros (drop (suc i) xs)))
   where
-    go : (x : ℕ) (z : Bool) → cond (eqb (sum + x) 0) z false ≡ cond (eqb sum 0) (cond (eqb x 0) z false) false
+    go : (x : ℕ) (z : Bool) → cond (eqb (bitOr any x) 0) z false ≡ cond (eqb any 0) (cond (eqb x 0) z false) false
     go x z =
-        by-test (eqb sum 0)
+        by-test (eqb any 0)
         (λ e. by-test (eqb x 0)
-        (λ f. let q = eqb-true sum 0 e in let r = eqb-true x 0 f in rw (e, f, eq-eqb (sum + x) 0 (omega arith)))
-        (λ f. let r = eqb-false x 0 f in rw (e, f, ne-eqb (sum + x) 0 (omega arith))))
-        (λ e. let q = eqb-false sum 0 e in rw (e, ne-eqb (sum + x) 0 (omega arith)))
+        (λ f. let q = eqb-true any 0 e in let r = eqb-true x 0 f in rw (e, f, eq-eqb (bitOr any x) 0 (omega (arith, or-add-and any x))))
+        (λ f. let r = eqb-false x 0 f in rw (e, f, ne-eqb (bitOr any x) 0 (omega (arith, or-add-and any x, and-le-l any x)))))
+        (λ e. let q = eqb-false any 0 e in rw (e, ne-eqb (bitOr any x) 0 (omega (arith, or-add-and any x, and-le-r any x))))
 
 -- a value at a place of a list, those from there on after it
 unfoldable pub inserted : {A : Type 0} → ℕ → A → List A → List A

@@ -57,5 +57,9 @@ lowestFree ws = lowestFrom ws slots 0
 abbrev pub isFree : List ℕ → ℕ → Bool
 isFree ws s = cond (ltb s slots) (eqb (markOf ws s) 0) false
 
+-- the words with slot s marked, if it is free
+abbrev pub claimed : List ℕ → ℕ → List ℕ
+claimed ws s = cond (isFree ws s) (marked ws s) ws
+
 abbrev pub sameWords : List ℕ → List ℕ → Bool
 sameWords v w = cond (eqb (getD v 0 0) (getD w 0 0)) (cond (eqb (getD v 1 0) (getD w 1 0)) (eqb (getD v 2 0) (getD w 2 0)) false) false

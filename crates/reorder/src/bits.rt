@@ -1,11 +1,11 @@
 // Occupied slots as three 64-bit words.
 use crate::buffer::SLOTS;
 ghost use mathlib.Core.Path.{_≡_};
-ghost use Prim.Native.Nat.{_≤_, _<_, _^_, _/_, _%_};
+ghost use Prim.Native.Nat.{_+_, _≤_, _<_, _^_, _/_, _%_};
 ghost use lib.Count.{ones};
 ghost use lib.ListN.{getD};
 ghost use Rattle.playout.specs.Sizes.{slots};
-ghost use Rattle.reorder.specs.Bits.{markOf, LowestZero, heldIn, marked, unmarked, lowestFree, isFree, sameWords};
+ghost use Rattle.reorder.specs.Bits.{bitAt, markOf, LowestZero, heldIn, marked, unmarked, lowestFree, isFree, claimed, sameWords};
 
 fn ones_of(word: u64) -> u32
     ensures { λ r. ⌜ (r ≡ ones word) × (r ≤ 64) ⌝ }
@@ -50,6 +50,14 @@ fn power(bit: usize) -> u64
     1u64 << bit
 }
 
+// A word with a bit set, which was not.
+fn with_bit(word: u64, bit: usize) -> u64
+    requires { ⌜ (bit < 64) × (bitAt bit word ≡ 0) ⌝ }
+    ensures { λ r. ⌜ r ≡ word + 2 ^ bit ⌝ }
+{
+    word + power(bit)
+}
+
 // The words with a slot marked, which was not.
 pub(crate) fn mark(words: [u64; 3], slot: usize) -> [u64; 3]
     requires { ⌜ (slot < slots) × (markOf words slot ≡ 0) ⌝ }
@@ -57,8 +65,7 @@ pub(crate) fn mark(words: [u64; 3], slot: usize) -> [u64; 3]
 {
     let mut next = words;
     let i = slot / 64;
-    let bit = power(slot % 64);
-    next[i] = next[i] + bit;
+    next[i] = with_bit(next[i], slot % 64);
     next
 }
 
@@ -74,16 +81,22 @@ pub(crate) fn unmark(words: [u64; 3], slot: usize) -> [u64; 3]
     next
 }
 
-// Whether a slot is one of the 192 and not marked.
-pub(crate) fn is_free(words: [u64; 3], slot: usize) -> bool
-    ensures { λ r. ⌜ r ≡ isFree words slot ⌝ }
+// A slot marked, if it is one of the 192 and is not marked yet: whether it was so.
+pub(crate) fn claim(words: &mut [u64; 3], slot: usize) -> bool
+    ensures { λ r. ⌜ r ≡ isFree (now (words .entry)) slot ⌝ }
+    ensures { λ r. ⌜ now (words .exit) ≡ claimed (now (words .entry)) slot ⌝ }
 {
     if SLOTS <= slot {
         return false;
     }
     let i = slot / 64;
-    let shifted = words[i] >> (slot % 64);
-    shifted % 2 == 0
+    let word = words[i];
+    let shifted = word >> (slot % 64);
+    if shifted % 2 == 0 {
+        words[i] = with_bit(word, slot % 64);
+        return true;
+    }
+    false
 }
 
 pub(crate) fn same_words(v: [u64; 3], w: [u64; 3]) -> bool

@@ -113,11 +113,11 @@ pub(crate) fn zero_from(column: &[u32; 192], n: usize) -> bool
     ensures { λ r. ⌜ r ≡ zeros (drop n (now (column .entry))) ⌝ }
 {
     let values: &[u32] = column;
-    let mut sum: u64 = 0;
+    let mut any = 0;
     let mut i = n;
     while i < SLOTS {
-        sum += values[i] as u64;
+        any |= values[i];
         i += 1;
     }
-    sum == 0
+    any == 0
 }

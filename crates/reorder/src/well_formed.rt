@@ -113,11 +113,9 @@ fn entries_fine(
             return false;
         }
         let slot = held[i] as usize;
-        if !bits::is_free(seen, slot) {
+        if !bits::claim(&mut seen, slot) {
             return false;
         }
-        let next = bits::mark(seen, slot);
-        seen = next;
         i += 1;
     }
     bits::same_words(seen, occupied)

@@ -1,4 +1,4 @@
-use Prim.Native.Nat.{_-_, _*_, _≤_}
+use Prim.Native.Nat.{_-_, _≤_}
 use mathlib.Core.Path.{_≡_, refl, _∙_, sym}
 use mathlib.Core.Bool.{cond, false}
 use lib.Dec.{eqb}
@@ -14,25 +14,19 @@ use Rattle.reorder.proofs.columns.zero_from.Reads as reads
 use Rattle.reorder.proofs.columns.zero_from.Lts as lts
 
 abbrev Inv-loop : tie.InvT-loop
-Inv-loop column n values sum₀ i₀ sum i = (i ≤ slots) × (sum ≤ 4294967295 * i) × (cond (eqb sum 0) (zeros (drop i values)) false ≡ zeros (drop n column)) × (length values ≡ slots)
+Inv-loop column n values any₀ i₀ any i = (i ≤ slots) × (cond (eqb any 0) (zeros (drop i values)) false ≡ zeros (drop n column)) × (length values ≡ slots)
 
 abbrev μ-loop : tie.MeasureT-loop
-μ-loop column n values sum₀ i₀ sum i = slots - i
+μ-loop column n values any₀ i₀ any i = slots - i
 
 loop-holds : tie.Need-loop-holds Inv-loop μ-loop
-loop-holds c = (search needs, search needs, refl, search needs)
+loop-holds c = (search needs, refl, search needs)
 
-mul-sum : tie.Need-mul-sum Inv-loop μ-loop
-mul-sum c = search needs
+mul-any : tie.Need-mul-any Inv-loop μ-loop
+mul-any c = search needs
 
-shared-slice-read-sum : tie.Need-shared-slice-read-sum Inv-loop μ-loop
-shared-slice-read-sum c = search needs
-
-cast-sum : tie.Need-cast-sum Inv-loop μ-loop
-cast-sum c = omega (arith, c .shared-slice-known .given (c .before .before .loop .i))
-
-add-sum : tie.Need-add-sum Inv-loop μ-loop
-add-sum c = omega (arith, c .shared-slice-known .given (c .before .before .loop .i))
+shared-slice-read-any : tie.Need-shared-slice-read-any Inv-loop μ-loop
+shared-slice-read-any c = search needs
 
 add-i : tie.Need-add-i Inv-loop μ-loop
 add-i c = search needs
@@ -43,12 +37,12 @@ loop-less c = search needs
 loop-again : tie.Need-loop-again Inv-loop μ-loop
 loop-again c =
     let l = c .before .before .loop in
-    (omega arith, omega (arith, c .shared-slice-known .given (l .i)), zeros-more _ (l .i) (l .sum) (omega arith) ∙ l .inv .2, l .inv .3)
+    (omega arith, zeros-more _ (l .i) (l .any) (omega arith) ∙ l .inv .1, l .inv .2)
 
 returns : tie.Need-returns Inv-loop μ-loop
 returns c =
     let l = c .before .loop in
-    sym (zeros-end _ (l .i) (l .sum) (omega arith)) ∙ l .inv .2
+    sym (zeros-end _ (l .i) (l .any) (omega arith)) ∙ l .inv .1
 
 pub zero-from-spec : {M : Type 1} → statement M
 zero-from-spec =
@@ -57,10 +51,8 @@ zero-from-spec =
     Inv-loop
     μ-loop
     loop-holds
-    mul-sum
-    shared-slice-read-sum
-    cast-sum
-    add-sum
+    mul-any
+    shared-slice-read-any
     add-i
     loop-less
     loop-again

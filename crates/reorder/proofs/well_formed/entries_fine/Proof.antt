@@ -4,14 +4,13 @@ use mathlib.Core.Path.{_≡_, _∙_, sym, ap}
 use native.Mathlib.Nat.{sub-zero}
 use native.Mathlib.Omega.{arith}
 use Rattle.reorder.specs.Checks.{entriesFine}
-use Rattle.reorder.proofs.CheckLaws.{passed, failed, free-parts, restFine, fine-end, fine-parts, fine-up, fine-taken, fine-more}
+use Rattle.reorder.proofs.CheckLaws.{passed, failed, claimed-free, restFine, fine-end, fine-parts, fine-up, fine-taken, fine-more}
 use borrow.Author.Needs.{needs}
 use Rattle.reorder.proofs.well_formed.entries_fine.Statement.{statement}
 use Rattle.reorder.proofs.well_formed.entries_fine.Tie as tie
 use Rattle.reorder.proofs.well_formed.entries_fine.Reads as reads
 use Rattle.reorder.proofs.well_formed.entries_fine.Lts as lts
-use Rattle.reorder.proofs.bits.is_free.Reads as is-free-reads
-use Rattle.reorder.proofs.bits.mark.Reads as mark-reads
+use Rattle.reorder.proofs.bits.claim.Reads as claim-reads
 use Rattle.reorder.proofs.bits.same_words.Reads as same-words-reads
 use Rattle.reorder.proofs.well_formed.ascends.Reads as ascends-reads
 use Rattle.reorder.proofs.well_formed.parts_fine.Reads as parts-fine-reads
@@ -74,21 +73,16 @@ shared-slice-read-slot c = search needs
 cast-slot : tie.Need-cast-slot Inv-loop μ-loop
 cast-slot c = omega (arith, c .shared-slice-known .given (c .before .before .before .before .before .before .before .before .before .loop .i))
 
-is-free-requires : tie.Need-is-free-requires Inv-loop μ-loop
-is-free-requires c κs = search needs
+claim-requires : tie.Need-claim-requires Inv-loop μ-loop
+claim-requires c κs = search needs
 
 returns-3 : tie.Need-returns-3 Inv-loop μ-loop
 returns-3 c =
-    let q = c .before .before .before in
+    let q = c .before .before .before .before in
     let p = q .before .before in
     let l = p .before .before .before .before .before .before .loop in
     sym (fine-taken _ _ _ _ _ _ _ (l .i) (l .seen) (omega arith) (passed (p .before .parts-fine .ensures) (p .if1 .left))
-    (passed (q .before .ascends .ensures) (q .if2 .left)) (failed (c .before .is-free .ensures) (c .if3 .taken))) ∙ l .inv .1
-
-mark-requires : tie.Need-mark-requires Inv-loop μ-loop
-mark-requires c κs =
-    let l = c .before .before .before .before .before .before .before .before .before .before .before .loop in
-    free-parts (l .seen) (getD (c .before .before .before .before .before .before .before .before .before .before .before .before .before .before .args .slots .now) (l .i) 0) (passed (c .before .is-free .ensures) (c .if3 .left))
+    (passed (q .before .ascends .ensures) (q .if2 .left)) (failed (c .before .claim .ensures .0) (c .if3 .taken))) ∙ l .inv .1
 
 add-i : tie.Need-add-i Inv-loop μ-loop
 add-i c = search needs
@@ -102,11 +96,12 @@ loop-again c =
     let q = r .before .before .before in
     let p = q .before .before in
     let l = p .before .before .before .before .before .before .loop in
-    let a = p .before .before .before .before .before .before .before .before .before .args in (
+    let a = p .before .before .before .before .before .before .before .before .before .args in
+    let f = passed (r .claim .ensures .0) (c .if3 .left) in (
       omega arith,
-      ap (restFine (a .times .now) (a .tags .now) (a .lengths .now) (a .slots .now) (a .occupied) (a .fixed) (a .n) (l .i + 1)) (c .mark .ensures)
+      ap (restFine (a .times .now) (a .tags .now) (a .lengths .now) (a .slots .now) (a .occupied) (a .fixed) (a .n) (l .i + 1)) (r .claim .ensures .1 ∙ claimed-free (l .seen) _ f)
           ∙ sym (fine-more _ _ _ _ _ _ _ (l .i) (l .seen) (omega arith) (passed (p .before .parts-fine .ensures) (p .if1 .left))
-          (passed (q .before .ascends .ensures) (q .if2 .left)) (passed (r .before .is-free .ensures) (r .if3 .left))) ∙ l .inv .1,
+          (passed (q .before .ascends .ensures) (q .if2 .left)) f) ∙ l .inv .1,
     )
 
 same-words-requires : tie.Need-same-words-requires Inv-loop μ-loop
@@ -138,9 +133,8 @@ entries-fine-spec =
     mul-slot
     shared-slice-read-slot
     cast-slot
-    is-free-requires
+    claim-requires
     returns-3
-    mark-requires
     add-i
     loop-less
     loop-again
