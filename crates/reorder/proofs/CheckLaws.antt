@@ -18,7 +18,8 @@ use Rattle.reorder.specs.declared.buffer.Fixed.{Fixed}
 use Rattle.reorder.specs.Bits.{heldIn, markOf, marked, isFree, claimed, sameWords}
 use Rattle.reorder.specs.Layout.{entryAt, entriesFrom, assembled}
 use Rattle.reorder.specs.WellFormed.{allowed, ascends, entryFine, fineFrom, wellFormed}
-use Rattle.reorder.specs.Checks.{sinceLastOf, partsFine, ascendsAt, lastFineOf, restZero, entriesFine}
+use Rattle.reorder.specs.Checks.{sortFine, lastFineOf, restZero, entriesFine}
+use Rattle.reorder.proofs.TurnLaws.{up, turn}
 use Rattle.rtp.proofs.TestLaws.{not-both}
 
 -- two tests in turn
@@ -63,20 +64,23 @@ module _ (ts gs ls ss ws : List ℕ) (f : Fixed) where
   abbrev pub restFine : ℕ → ℕ → List ℕ → Bool
   restFine n i seen = fineFrom whole (getD ts 0 0) (beforeAt whole i) seen (entriesFrom whole (n - i) i)
 
-  ascends-at : (i : ℕ) → ascends (beforeAt whole i) (entryAt whole i) ≡ ascendsAt ts gs i
+  abbrev pub turnAt : ℕ → Bool
+  turnAt i = turn (eqb (f .drawn) 0) (f .«last_time») (f .«last_channel») ts gs i
+
+  ascends-at : (i : ℕ) → ascends (beforeAt whole i) (entryAt whole i) ≡ up (eqb (f .drawn) 0) (f .«last_time») (f .«last_channel») ts gs i
   ascends-at zero = refl
   ascends-at (suc i) = refl
 
-  abbrev parts : ℕ → Bool
-  parts i = partsFine f (getD ts 0 0) (getD ts i 0) (getD gs i 0) (getD ls i 0)
+  abbrev sort : ℕ → Bool
+  sort i = sortFine f (getD gs i 0) (getD ls i 0)
 
-  entry-fine : (i : ℕ) (r : Bool) → cond (entryFine whole (getD ts 0 0) (beforeAt whole i) (entryAt whole i)) r false ≡ cond (parts i) (cond (ascendsAt ts gs i) r false) false
+  entry-fine : (i : ℕ) (r : Bool) → cond (entryFine whole (getD ts 0 0) (beforeAt whole i) (entryAt whole i)) r false ≡ cond (sort i) (cond (turnAt i) r false) false
   entry-fine i r =
       go (allowed (f .settings .format) (getD gs i 0 / 256) (getD ls i 0)) (ltb (getD gs i 0 % 256) (f .settings .channels))
-      (sinceLastOf f (getD ts i 0) (getD gs i 0 % 256)) (ltb (ahead (getD ts i 0) (getD ts 0 0)) half) (ascends-at i)
+      (cond (eqb (f .drawn) 0) true (isAfter (order (getD ts i 0) (getD gs i 0 % 256) (f .«last_time») (f .«last_channel»)))) (ltb (ahead (getD ts i 0) (getD ts 0 0)) half) (ascends-at i)
     where
       go : {u v : Bool} (a b c d : Bool) → u ≡ v
-          → cond (cond a (cond b (cond c (cond d u false) false) false) false) r false ≡ cond (cond a (cond b (cond c d false) false) false) (cond v r false) false
+          → cond (cond a (cond b (cond c (cond d u false) false) false) false) r false ≡ cond (cond a b false) (cond (cond c (cond d v false) false) r false) false
       go true true true true e = ap (λ (u : Bool). cond u r false) e
       go true true true false e = refl
       go true true false d e = refl
@@ -90,20 +94,20 @@ module _ (ts gs ls ss ws : List ℕ) (f : Fixed) where
 
     module _ (l : i < n) where
       fine-step : restFine n i seen
-          ≡ cond (parts i) (cond (ascendsAt ts gs i) (cond (isFree seen (getD ss i 0)) (restFine n (i + 1) (marked seen (getD ss i 0))) false) false) false
+          ≡ cond (sort i) (cond (turnAt i) (cond (isFree seen (getD ss i 0)) (restFine n (i + 1) (marked seen (getD ss i 0))) false) false) false
       unfolding fineFrom entriesFrom
       fine-step =
           let e : n - i ≡ suc (n - suc i) = omega arith in
           rw (e, add-one i) (entry-fine i (cond (isFree seen (getD ss i 0)) (restFine n (suc i) (marked seen (getD ss i 0))) false))
 
-      pub fine-parts : parts i ≡ false → restFine n i seen ≡ false
-      fine-parts p = fine-step ∙ otherwise _ _ p
+      pub fine-sort : sort i ≡ false → restFine n i seen ≡ false
+      fine-sort p = fine-step ∙ otherwise _ _ p
 
-      module _ (p : parts i ≡ true) where
-        pub fine-up : ascendsAt ts gs i ≡ false → restFine n i seen ≡ false
-        fine-up q = fine-step ∙ when _ _ p ∙ otherwise _ _ q
+      module _ (p : sort i ≡ true) where
+        pub fine-turn : turnAt i ≡ false → restFine n i seen ≡ false
+        fine-turn q = fine-step ∙ when _ _ p ∙ otherwise _ _ q
 
-        module _ (q : ascendsAt ts gs i ≡ true) where
+        module _ (q : turnAt i ≡ true) where
           pub fine-taken : isFree seen (getD ss i 0) ≡ false → restFine n i seen ≡ false
           fine-taken r = fine-step ∙ when _ _ p ∙ when _ _ q ∙ otherwise _ _ r
 
@@ -136,9 +140,3 @@ pub after-is : (s : Side) (o : Ordering) → s ≡ sideOf o → isAfterSide s �
 after-is s Ordering·lt e = ap isAfterSide e
 after-is s Ordering·eq e = ap isAfterSide e
 after-is s Ordering·gt e = ap isAfterSide e
-
--- `ascendsAt` of a place with one before it
-pub ascends-later : (ts gs : List ℕ) (i : ℕ) → (i ≡ 0 → ⊥)
-    → isAfter (order (getD ts i 0) (getD gs i 0 % 256) (getD ts (i - 1) 0) (getD gs (i - 1) 0 % 256)) ≡ ascendsAt ts gs i
-ascends-later ts gs zero h = absurd (h refl)
-ascends-later ts gs (suc i) h = rw (let e : suc i - 1 ≡ i = omega arith in e)

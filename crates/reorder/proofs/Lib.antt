@@ -1,5 +1,6 @@
 pub mod BitLaws
 pub mod ColumnLaws
+pub mod TurnLaws
 pub mod CheckLaws
 pub mod WordLaws
 pub mod LayoutLaws

@@ -7,12 +7,16 @@ use payload::codes::NO_CODE;
 use playout::order;
 use playout::order::Side;
 ghost use mathlib.Core.Path.{_≡_};
-ghost use Prim.Native.Nat.{_≤_, _<_};
+ghost use mathlib.Core.Bool.{true};
+ghost use Prim.Native.Nat.{_^_, _≤_, _<_};
 ghost use Rattle.playout.specs.Sizes.{slots as slotCount};
 ghost use Rattle.playout.specs.Pairs.{isAfter, order};
 ghost use Rattle.reorder.specs.Layout.{assembled};
 ghost use Rattle.reorder.specs.WellFormed.{allowed, wellFormed};
-ghost use Rattle.reorder.specs.Checks.{lastFineOf, sinceLastOf, partsFine, ascendsAt, restZero, entriesFine};
+ghost use Rattle.reorder.specs.Checks.{lastFineOf, sortFine, baseOf, startOf, positionOf, restZero, entriesFine};
+
+// The positions of a stretch under half the range of time.
+const STRETCH: u64 = 549755813888;
 
 // Whether the pair (t, c) is after the pair (h, d).
 pub(crate) fn pair_after(t: u32, c: u32, h: u32, d: u32) -> bool
@@ -37,7 +41,7 @@ fn is_allowed(format: u8, class: u32, length: u32) -> bool
 
 // Whether the last pair is kept as zeros, or is in range.
 fn last_fine(fixed: Fixed) -> bool
-    ensures { λ r. ⌜ r ≡ lastFineOf fixed ⌝ }
+    ensures { λ r. ⌜ (r ≡ lastFineOf fixed) × (r ≡ true → fixed .«last_channel» < 256) ⌝ }
 {
     if fixed.drawn == 0 {
         if fixed.last_time == 0 {
@@ -51,41 +55,42 @@ fn last_fine(fixed: Fixed) -> bool
     false
 }
 
-// Whether a pair is after the last one drawn, if any.
-pub(crate) fn since_last(fixed: Fixed, time: u32, channel: u32) -> bool
-    ensures { λ r. ⌜ r ≡ sinceLastOf fixed time channel ⌝ }
-{
-    if fixed.drawn == 0 {
-        return true;
-    }
-    pair_after(time, channel, fixed.last_time, fixed.last_channel)
-}
-
-// Whether an entry is one that these settings allow, after the last pair drawn, and in the stretch from the first time.
-fn parts_fine(fixed: Fixed, first: u32, time: u32, tag: u32, length: u32) -> bool
-    ensures { λ r. ⌜ r ≡ partsFine fixed first time tag length ⌝ }
+// Whether an entry's class, length and channel are such as these settings allow.
+fn sort_fine(fixed: Fixed, tag: u32, length: u32) -> bool
+    ensures { λ r. ⌜ r ≡ sortFine fixed tag length ⌝ }
 {
     if !is_allowed(fixed.settings.format, tag / 256, length) {
         return false;
     }
-    if (fixed.settings.channels as u32) <= tag % 256 {
-        return false;
-    }
-    if !since_last(fixed, time, tag % 256) {
-        return false;
-    }
-    order::ticks_ahead(time, first) < order::HALF
+    tag % 256 < (fixed.settings.channels as u32)
 }
 
-// Whether an entry is after the one before it, if any.
-fn ascends(times: &[u32; 192], tags: &[u32; 192], i: usize) -> bool
-    requires { ⌜ i < slotCount ⌝ }
-    ensures { λ r. ⌜ r ≡ ascendsAt (now (times .entry)) (now (tags .entry)) i ⌝ }
+// The time from which positions are counted: of the last pair drawn, or of the first entry.
+fn base_of(fixed: Fixed, first: u32) -> u32
+    ensures { λ r. ⌜ r ≡ baseOf fixed first ⌝ }
 {
-    if i == 0 {
-        return true;
+    if fixed.drawn == 0 {
+        return first;
     }
-    pair_after(times[i], tags[i] % 256, times[i - 1], tags[i - 1] % 256)
+    fixed.last_time
+}
+
+// The least position of the first entry: past that of the last pair drawn, if any.
+fn start_of(fixed: Fixed) -> u64
+    ensures { λ r. ⌜ r ≡ startOf fixed ⌝ }
+{
+    if fixed.drawn == 0 {
+        return 0;
+    }
+    (fixed.last_channel as u64) + 1
+}
+
+// A pair as a number: how far its time is ahead of a time, then its channel.
+fn position(base: u32, time: u32, channel: u32) -> u64
+    requires { ⌜ channel < 256 ⌝ }
+    ensures { λ r. ⌜ (r ≡ positionOf base time channel) × (base < 2 ^ 32) × (time < 2 ^ 32) ⌝ }
+{
+    256 * (order::ticks_ahead(time, base) as u64) + (channel as u64)
 }
 
 // Whether the first n entries are fine, and their slots exactly those marked.
@@ -98,20 +103,26 @@ fn entries_fine(
     fixed: Fixed,
     n: usize,
 ) -> bool
-    requires { ⌜ n ≤ slotCount ⌝ }
+    requires { ⌜ (n ≤ slotCount) × (fixed .«last_channel» < 256) ⌝ }
     ensures { λ r. ⌜ r ≡ entriesFine (now (times .entry)) (now (tags .entry)) (now (lengths .entry)) (now (slots .entry)) occupied fixed n ⌝ }
 {
     let held: &[u32] = slots;
-    let first = times[0];
+    let base = base_of(fixed, times[0]);
+    let mut least = start_of(fixed);
     let mut seen = [0u64; 3];
     let mut i = 0;
     while i < n {
-        if !parts_fine(fixed, first, times[i], tags[i], lengths[i]) {
+        if !sort_fine(fixed, tags[i], lengths[i]) {
             return false;
         }
-        if !ascends(times, tags, i) {
+        let at = position(base, times[i], tags[i] % 256);
+        if at < least {
             return false;
         }
+        if STRETCH <= at {
+            return false;
+        }
+        least = at + 1;
         let slot = held[i] as usize;
         if !bits::claim(&mut seen, slot) {
             return false;

@@ -1,68 +1,106 @@
-use Prim.Native.Nat.{_+_, _-_, _≤_}
+use Prim.Native.Nat.{ℕ, _+_, _-_, _%_, _^_, _≤_, _<_}
+use lib.Dec.{eqb}
 use lib.ListN.{getD}
-use mathlib.Core.Path.{_≡_, _∙_, sym, ap}
+use mathlib.Core.Path.{_≡_, _∙_, sym, ap, subst}
 use native.Mathlib.Nat.{sub-zero}
+use native.Mathlib.Numerals.{add-one}
 use native.Mathlib.Omega.{arith}
-use Rattle.reorder.specs.Checks.{entriesFine}
-use Rattle.reorder.proofs.CheckLaws.{passed, failed, claimed-free, restFine, fine-end, fine-parts, fine-up, fine-taken, fine-more}
 use borrow.Author.Needs.{needs}
+use Rattle.reorder.specs.Checks.{baseOf, positionOf, entriesFine}
+use Rattle.reorder.proofs.TurnLaws.{Told, turn-early, turn-far, turn-fine, told-next}
+use Rattle.reorder.proofs.CheckLaws.{passed, failed, claimed-free, restFine, fine-end, fine-sort, fine-turn, fine-taken, fine-more}
 use Rattle.reorder.proofs.well_formed.entries_fine.Statement.{statement}
 use Rattle.reorder.proofs.well_formed.entries_fine.Tie as tie
 use Rattle.reorder.proofs.well_formed.entries_fine.Reads as reads
 use Rattle.reorder.proofs.well_formed.entries_fine.Lts as lts
 use Rattle.reorder.proofs.bits.claim.Reads as claim-reads
 use Rattle.reorder.proofs.bits.same_words.Reads as same-words-reads
-use Rattle.reorder.proofs.well_formed.ascends.Reads as ascends-reads
-use Rattle.reorder.proofs.well_formed.parts_fine.Reads as parts-fine-reads
+use Rattle.reorder.proofs.well_formed.base_of.Reads as base-of-reads
+use Rattle.reorder.proofs.well_formed.position.Reads as position-reads
+use Rattle.reorder.proofs.well_formed.sort_fine.Reads as sort-fine-reads
+use Rattle.reorder.proofs.well_formed.start_of.Reads as start-of-reads
 
 abbrev Inv-loop : tie.InvT-loop
-Inv-loop times tags lengths slots occupied fixed n held first seen₀ i₀ seen i =
+Inv-loop times tags lengths slots occupied fixed n held base least₀ seen₀ i₀ least seen i =
     (i ≤ n) × (restFine times tags lengths slots occupied fixed n i seen ≡ entriesFine times tags lengths slots occupied fixed n)
+    × Told (eqb (fixed .drawn) 0) (fixed .«last_time») (fixed .«last_channel») times tags i least
 
 abbrev μ-loop : tie.MeasureT-loop
-μ-loop times tags lengths slots occupied fixed n held first seen₀ i₀ seen i = n - i
+μ-loop times tags lengths slots occupied fixed n held base least₀ seen₀ i₀ least seen i = n - i
 
-element-copy-out-first : tie.Need-element-copy-out-first Inv-loop μ-loop
-element-copy-out-first c = search needs
+element-copy-out-base-of : tie.Need-element-copy-out-base-of Inv-loop μ-loop
+element-copy-out-base-of c = search needs
+
+base-of-requires : tie.Need-base-of-requires Inv-loop μ-loop
+base-of-requires c κs = search needs
+
+start-of-requires : tie.Need-start-of-requires Inv-loop μ-loop
+start-of-requires c κs = search needs
 
 loop-holds : tie.Need-loop-holds Inv-loop μ-loop
-loop-holds c = (search needs, rw sub-zero)
+loop-holds c = (search needs, rw sub-zero, c .start-of .ensures)
 
-mul-parts-fine : tie.Need-mul-parts-fine Inv-loop μ-loop
-mul-parts-fine c = search needs
+mul-sort-fine : tie.Need-mul-sort-fine Inv-loop μ-loop
+mul-sort-fine c = search needs
 
-element-copy-out-parts-fine : tie.Need-element-copy-out-parts-fine Inv-loop μ-loop
-element-copy-out-parts-fine c = search needs
+element-copy-out-sort-fine : tie.Need-element-copy-out-sort-fine Inv-loop μ-loop
+element-copy-out-sort-fine c = search needs
 
-mul-parts-fine-2 : tie.Need-mul-parts-fine-2 Inv-loop μ-loop
-mul-parts-fine-2 c = search needs
+mul-sort-fine-2 : tie.Need-mul-sort-fine-2 Inv-loop μ-loop
+mul-sort-fine-2 c = search needs
 
-element-copy-out-parts-fine-2 : tie.Need-element-copy-out-parts-fine-2 Inv-loop μ-loop
-element-copy-out-parts-fine-2 c = search needs
+element-copy-out-sort-fine-2 : tie.Need-element-copy-out-sort-fine-2 Inv-loop μ-loop
+element-copy-out-sort-fine-2 c = search needs
 
-mul-parts-fine-3 : tie.Need-mul-parts-fine-3 Inv-loop μ-loop
-mul-parts-fine-3 c = search needs
-
-element-copy-out-parts-fine-3 : tie.Need-element-copy-out-parts-fine-3 Inv-loop μ-loop
-element-copy-out-parts-fine-3 c = search needs
-
-parts-fine-requires : tie.Need-parts-fine-requires Inv-loop μ-loop
-parts-fine-requires c κs = search needs
+sort-fine-requires : tie.Need-sort-fine-requires Inv-loop μ-loop
+sort-fine-requires c κs = search needs
 
 returns : tie.Need-returns Inv-loop μ-loop
 returns c =
-    let l = c .before .before .before .before .before .before .loop in
-    sym (fine-parts _ _ _ _ _ _ _ (l .i) (l .seen) (omega arith) (failed (c .before .parts-fine .ensures) (c .if1 .taken))) ∙ l .inv .1
+    let l = c .before .before .before .before .before .loop in
+    sym (fine-sort _ _ _ _ _ _ _ (l .i) (l .seen) (omega arith) (failed (c .before .sort-fine .ensures) (c .if1 .taken))) ∙ l .inv .1
 
-ascends-requires : tie.Need-ascends-requires Inv-loop μ-loop
-ascends-requires c κs = search needs
+mul-position : tie.Need-mul-position Inv-loop μ-loop
+mul-position c = search needs
+
+element-copy-out-position : tie.Need-element-copy-out-position Inv-loop μ-loop
+element-copy-out-position c = search needs
+
+mul-position-2 : tie.Need-mul-position-2 Inv-loop μ-loop
+mul-position-2 c = search needs
+
+element-copy-out-position-2 : tie.Need-element-copy-out-position-2 Inv-loop μ-loop
+element-copy-out-position-2 c = search needs
+
+position-requires : tie.Need-position-requires Inv-loop μ-loop
+position-requires c κs = search needs
 
 returns-2 : tie.Need-returns-2 Inv-loop μ-loop
 returns-2 c =
-    let p = c .before .before in
-    let l = p .before .before .before .before .before .before .loop in
-    sym (fine-up _ _ _ _ _ _ _ (l .i) (l .seen) (omega arith) (passed (p .before .parts-fine .ensures) (p .if1 .left))
-    (failed (c .before .ascends .ensures) (c .if2 .taken))) ∙ l .inv .1
+    let l = c .before .before .before .before .before .before .before .before .before .loop in
+    let s = c .before .before .before .before .before .before .before .before .before .before .before .before .before .before in
+    let a = s .args in
+    let f = a .fixed in
+    let bo = c .before .before .before .before .before .before .before .before .before .before .before .base-of .ensures in
+    let lb : baseOf f (getD (a .times .now) 0 0) < 2 ^ 32 = subst (λ (b : ℕ). b < 2 ^ 32) bo (c .before .position .ensures .1) in
+    let p : c .before .position .result ≡ positionOf (baseOf f (getD (a .times .now) 0 0)) (getD (a .times .now) (l .i) 0) (getD (a .tags .now) (l .i) 0 % 256) = c .before .position .ensures .0 ∙ ap (λ (b : ℕ). positionOf b (getD (a .times .now) (l .i) 0) (getD (a .tags .now) (l .i) 0 % 256)) bo in
+    sym (fine-turn _ _ _ _ _ _ _ (l .i) (l .seen) (omega arith) (passed (c .before .before .before .before .before .sort-fine .ensures) (c .before .before .before .before .if1 .left))
+    (turn-early (eqb (f .drawn) 0) (f .«last_time») (f .«last_channel») (a .times .now) (a .tags .now) (s .pre .1) lb (l .i) (l .least) (c .before .position .result) (l .inv .2) (c .before .position .ensures .2) p (c .if2 .taken))) ∙ l .inv .1
+
+returns-3 : tie.Need-returns-3 Inv-loop μ-loop
+returns-3 c =
+    let l = c .before .before .before .before .before .before .before .before .before .before .loop in
+    let s = c .before .before .before .before .before .before .before .before .before .before .before .before .before .before .before in
+    let a = s .args in
+    let f = a .fixed in
+    let bo = c .before .before .before .before .before .before .before .before .before .before .before .before .base-of .ensures in
+    let lb : baseOf f (getD (a .times .now) 0 0) < 2 ^ 32 = subst (λ (b : ℕ). b < 2 ^ 32) bo (c .before .before .position .ensures .1) in
+    let p : c .before .before .position .result ≡ positionOf (baseOf f (getD (a .times .now) 0 0)) (getD (a .times .now) (l .i) 0) (getD (a .tags .now) (l .i) 0 % 256) = c .before .before .position .ensures .0 ∙ ap (λ (b : ℕ). positionOf b (getD (a .times .now) (l .i) 0) (getD (a .tags .now) (l .i) 0 % 256)) bo in
+    sym (fine-turn _ _ _ _ _ _ _ (l .i) (l .seen) (omega arith) (passed (c .before .before .before .before .before .before .sort-fine .ensures) (c .before .before .before .before .before .if1 .left))
+    (turn-far (eqb (f .drawn) 0) (f .«last_time») (f .«last_channel») (a .times .now) (a .tags .now) (s .pre .1) lb (l .i) (l .least) (c .before .before .position .result) (l .inv .2) (c .before .before .position .ensures .2) p (omega (arith, c .if3 .taken)))) ∙ l .inv .1
+
+add-least : tie.Need-add-least Inv-loop μ-loop
+add-least c = omega (arith, c .if3 .left)
 
 mul-slot : tie.Need-mul-slot Inv-loop μ-loop
 mul-slot c = search needs
@@ -71,18 +109,23 @@ shared-slice-read-slot : tie.Need-shared-slice-read-slot Inv-loop μ-loop
 shared-slice-read-slot c = search needs
 
 cast-slot : tie.Need-cast-slot Inv-loop μ-loop
-cast-slot c = omega (arith, c .shared-slice-known .given (c .before .before .before .before .before .before .before .before .before .loop .i))
+cast-slot c = omega (arith, c .shared-slice-known .given (c .before .before .before .before .before .before .before .before .before .before .before .loop .i))
 
 claim-requires : tie.Need-claim-requires Inv-loop μ-loop
 claim-requires c κs = search needs
 
-returns-3 : tie.Need-returns-3 Inv-loop μ-loop
-returns-3 c =
-    let q = c .before .before .before .before in
-    let p = q .before .before in
-    let l = p .before .before .before .before .before .before .loop in
-    sym (fine-taken _ _ _ _ _ _ _ (l .i) (l .seen) (omega arith) (passed (p .before .parts-fine .ensures) (p .if1 .left))
-    (passed (q .before .ascends .ensures) (q .if2 .left)) (failed (c .before .claim .ensures .0) (c .if3 .taken))) ∙ l .inv .1
+returns-4 : tie.Need-returns-4 Inv-loop μ-loop
+returns-4 c =
+    let l = c .before .before .before .before .before .before .before .before .before .before .before .before .before .before .loop in
+    let s = c .before .before .before .before .before .before .before .before .before .before .before .before .before .before .before .before .before .before .before in
+    let a = s .args in
+    let f = a .fixed in
+    let bo = c .before .before .before .before .before .before .before .before .before .before .before .before .before .before .before .before .base-of .ensures in
+    let lb : baseOf f (getD (a .times .now) 0 0) < 2 ^ 32 = subst (λ (b : ℕ). b < 2 ^ 32) bo (c .before .before .before .before .before .before .position .ensures .1) in
+    let p : c .before .before .before .before .before .before .position .result ≡ positionOf (baseOf f (getD (a .times .now) 0 0)) (getD (a .times .now) (l .i) 0) (getD (a .tags .now) (l .i) 0 % 256) = c .before .before .before .before .before .before .position .ensures .0 ∙ ap (λ (b : ℕ). positionOf b (getD (a .times .now) (l .i) 0) (getD (a .tags .now) (l .i) 0 % 256)) bo in
+    let h = c .before .before .before .before in
+    sym (fine-taken _ _ _ _ _ _ _ (l .i) (l .seen) (omega arith) (passed (c .before .before .before .before .before .before .before .before .before .before .sort-fine .ensures) (c .before .before .before .before .before .before .before .before .before .if1 .left))
+    (turn-fine (eqb (f .drawn) 0) (f .«last_time») (f .«last_channel») (a .times .now) (a .tags .now) (s .pre .1) lb (l .i) (l .least) (c .before .before .before .before .before .before .position .result) (l .inv .2) (c .before .before .before .before .before .before .position .ensures .2) p (h .before .if2 .left) (omega (arith, h .if3 .left))) (failed (c .before .claim .ensures .0) (c .if4 .taken))) ∙ l .inv .1
 
 add-i : tie.Need-add-i Inv-loop μ-loop
 add-i c = search needs
@@ -92,23 +135,27 @@ loop-less c = search needs
 
 loop-again : tie.Need-loop-again Inv-loop μ-loop
 loop-again c =
-    let r = c .before in
-    let q = r .before .before .before in
-    let p = q .before .before in
-    let l = p .before .before .before .before .before .before .loop in
-    let a = p .before .before .before .before .before .before .before .before .before .args in
-    let f = passed (r .claim .ensures .0) (c .if3 .left) in (
+    let l = c .before .before .before .before .before .before .before .before .before .before .before .before .before .before .loop in
+    let s = c .before .before .before .before .before .before .before .before .before .before .before .before .before .before .before .before .before .before .before in
+    let a = s .args in
+    let f = a .fixed in
+    let bo = c .before .before .before .before .before .before .before .before .before .before .before .before .before .before .before .before .base-of .ensures in
+    let lb : baseOf f (getD (a .times .now) 0 0) < 2 ^ 32 = subst (λ (b : ℕ). b < 2 ^ 32) bo (c .before .before .before .before .before .before .position .ensures .1) in
+    let p : c .before .before .before .before .before .before .position .result ≡ positionOf (baseOf f (getD (a .times .now) 0 0)) (getD (a .times .now) (l .i) 0) (getD (a .tags .now) (l .i) 0 % 256) = c .before .before .before .before .before .before .position .ensures .0 ∙ ap (λ (b : ℕ). positionOf b (getD (a .times .now) (l .i) 0) (getD (a .tags .now) (l .i) 0 % 256)) bo in
+    let h = c .before .before .before .before in
+    let g = passed (c .before .claim .ensures .0) (c .if4 .left) in (
       omega arith,
-      ap (restFine (a .times .now) (a .tags .now) (a .lengths .now) (a .slots .now) (a .occupied) (a .fixed) (a .n) (l .i + 1)) (r .claim .ensures .1 ∙ claimed-free (l .seen) _ f)
-          ∙ sym (fine-more _ _ _ _ _ _ _ (l .i) (l .seen) (omega arith) (passed (p .before .parts-fine .ensures) (p .if1 .left))
-          (passed (q .before .ascends .ensures) (q .if2 .left)) f) ∙ l .inv .1,
+      ap (restFine (a .times .now) (a .tags .now) (a .lengths .now) (a .slots .now) (a .occupied) (a .fixed) (a .n) (l .i + 1)) (c .before .claim .ensures .1 ∙ claimed-free (l .seen) _ g)
+          ∙ sym (fine-more _ _ _ _ _ _ _ (l .i) (l .seen) (omega arith) (passed (c .before .before .before .before .before .before .before .before .before .before .sort-fine .ensures) (c .before .before .before .before .before .before .before .before .before .if1 .left))
+          (turn-fine (eqb (f .drawn) 0) (f .«last_time») (f .«last_channel») (a .times .now) (a .tags .now) (s .pre .1) lb (l .i) (l .least) (c .before .before .before .before .before .before .position .result) (l .inv .2) (c .before .before .before .before .before .before .position .ensures .2) p (h .before .if2 .left) (omega (arith, h .if3 .left))) g) ∙ l .inv .1,
+      rw (add-one (l .i)) (told-next (eqb (f .drawn) 0) (f .«last_time») (f .«last_channel») (a .times .now) (a .tags .now) (s .pre .1) lb (l .i) (l .least) (c .before .before .before .before .before .before .position .result) (l .inv .2) (c .before .before .before .before .before .before .position .ensures .2) p (h .before .if2 .left) (omega (arith, h .if3 .left))),
     )
 
 same-words-requires : tie.Need-same-words-requires Inv-loop μ-loop
 same-words-requires c κs = search needs
 
-returns-4 : tie.Need-returns-4 Inv-loop μ-loop
-returns-4 c =
+returns-5 : tie.Need-returns-5 Inv-loop μ-loop
+returns-5 c =
     let l = c .before .before .loop in
     c .same-words .ensures ∙ sym (fine-end _ _ _ _ _ _ _ (l .i) (l .seen) (c .before .loop-test .left)) ∙ l .inv .1
 
@@ -118,25 +165,31 @@ entries-fine-spec =
     (tie.spec
     Inv-loop
     μ-loop
-    element-copy-out-first
+    element-copy-out-base-of
+    base-of-requires
+    start-of-requires
     loop-holds
-    mul-parts-fine
-    element-copy-out-parts-fine
-    mul-parts-fine-2
-    element-copy-out-parts-fine-2
-    mul-parts-fine-3
-    element-copy-out-parts-fine-3
-    parts-fine-requires
+    mul-sort-fine
+    element-copy-out-sort-fine
+    mul-sort-fine-2
+    element-copy-out-sort-fine-2
+    sort-fine-requires
     returns
-    ascends-requires
+    mul-position
+    element-copy-out-position
+    mul-position-2
+    element-copy-out-position-2
+    position-requires
     returns-2
+    returns-3
+    add-least
     mul-slot
     shared-slice-read-slot
     cast-slot
     claim-requires
-    returns-3
+    returns-4
     add-i
     loop-less
     loop-again
     same-words-requires
-    returns-4)
+    returns-5)

@@ -1,3 +1,4 @@
+use borrow.Author.Tests.{not-false}
 use mathlib.Core.Path.{_∙_, sym}
 use Rattle.reorder.proofs.CheckLaws.{passed, failed, last-not, rest-not, formed-entries}
 use borrow.Author.Needs.{needs}
@@ -14,7 +15,7 @@ last-fine-requires : tie.Need-last-fine-requires
 last-fine-requires c κs = search needs
 
 returns : tie.Need-returns
-returns c = sym (last-not _ _ _ _ _ _ (failed (c .before .last-fine .ensures) (c .if1 .taken)))
+returns c = sym (last-not _ _ _ _ _ _ (failed (c .before .last-fine .ensures .0) (c .if1 .taken)))
 
 held-in-requires : tie.Need-held-in-requires
 held-in-requires c κs = search needs
@@ -25,17 +26,19 @@ rest-zero-requires c κs = search needs
 returns-2 : tie.Need-returns-2
 returns-2 c =
     let p = c .before .before .before in
-    sym (rest-not _ _ _ _ _ _ _ (c .before .before .held-in .ensures .0) (passed (p .before .last-fine .ensures) (p .if1 .left)) (failed (c .before .rest-zero .ensures) (c .if2 .taken)))
+    sym (rest-not _ _ _ _ _ _ _ (c .before .before .held-in .ensures .0) (passed (p .before .last-fine .ensures .0) (p .if1 .left)) (failed (c .before .rest-zero .ensures) (c .if2 .taken)))
 
 entries-fine-requires : tie.Need-entries-fine-requires
-entries-fine-requires c κs = search needs
+entries-fine-requires c κs =
+    let q = c .before .before .before in
+    (search needs, q .before .last-fine .ensures .1 (not-false _ (q .if1 .left)))
 
 returns-3 : tie.Need-returns-3
 returns-3 c =
     let q = c .before in
     let p = q .before .before .before in
     c .entries-fine .ensures
-    ∙ sym (formed-entries _ _ _ _ _ _ _ (q .before .before .held-in .ensures .0) (passed (p .before .last-fine .ensures) (p .if1 .left)) (passed (q .before .rest-zero .ensures) (q .if2 .left)))
+    ∙ sym (formed-entries _ _ _ _ _ _ _ (q .before .before .held-in .ensures .0) (passed (p .before .last-fine .ensures .0) (p .if1 .left)) (passed (q .before .rest-zero .ensures) (q .if2 .left)))
 
 pub well-formed-spec : {M : Type 1} → statement M
 well-formed-spec =
