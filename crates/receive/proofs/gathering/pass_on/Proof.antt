@@ -1,0 +1,38 @@
+use native.Mathlib.Omega.{arith}
+use lib.ListN.{length-take}
+use borrow.Author.Needs.{needs}
+use Rattle.receive.proofs.gathering.pass_on.Statement.{statement}
+use Rattle.receive.proofs.gathering.pass_on.Tie as tie
+
+slice-aggregate-offer : tie.Need-slice-aggregate-offer
+slice-aggregate-offer c = simp length-take (omega arith)
+
+offer-requires : tie.Need-offer-requires
+offer-requires c κs = search needs
+
+draw-down-requires : tie.Need-draw-down-requires
+draw-down-requires c κs = search needs
+
+same-length : tie.Need-same-length
+same-length c = search needs
+
+returns : tie.Need-returns
+returns c = search needs
+
+end-requires : tie.Need-end-requires
+end-requires c κs = search needs
+
+returns-2 : tie.Need-returns-2
+returns-2 c = search needs
+
+pub pass-on-spec : {M : Type 1} → statement M
+pass-on-spec =
+    tie.close
+    (tie.spec
+    slice-aggregate-offer
+    offer-requires
+    draw-down-requires
+    same-length
+    returns
+    end-requires
+    returns-2)
