@@ -1,21 +1,11 @@
 #!/usr/bin/env bash
 # Prints the table of benchmarks. Takes libre's jbuf and speexdsp's jitter buffer along where Debian's libre-dev and libspeexdsp-dev are
 # installed (apt-get install libre-dev libspeexdsp-dev).
-#   bench.sh [read] [write] [buffer]    the functions that the archive has; none named: all
+#   bench.sh [read] [write] [buffer]    only these functions; none named: all
 #   HEOLSTORPIT_LIB_DIR                 a folder with libheolstorpit.a, used as it is
 set -euo pipefail
 cd "$(dirname "$0")"
-[ $# -gt 0 ] || set -- read write buffer
-features=$(printf '%s,' "$@")
-if [ -z "${HEOLSTORPIT_LIB_DIR:-}" ]; then
-    mkdir -p ../target
-    (cd .. && rt staticlib heolstorpit) > ../target/staticlib.log 2>&1 || {
-        tail -n 30 ../target/staticlib.log
-        exit 1
-    }
-    HEOLSTORPIT_LIB_DIR=$(cd ../target/staticlib && pwd)
-    export HEOLSTORPIT_LIB_DIR
-fi
+. ./archive.sh
 has() { # do the calls of this peer compile?
     ${CC:-cc} -fsyntax-only -I/usr/include/re "-DHAVE_$1" bench/peers.c 2> /dev/null
 }

@@ -5,10 +5,11 @@ use crate::words;
 use libc::STDOUT_FILENO;
 use packet::reading;
 use packet::reading::Reading;
+use payload::reading::ROW_AREA;
 use rtp::settings::Settings;
 
-fn zero_rows() -> [u32; 512] {
-    [0; 512]
+fn zero_rows() -> [u32; ROW_AREA] {
+    [0; ROW_AREA]
 }
 
 // The packet's header, and its frames or its refusal.

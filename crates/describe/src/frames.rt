@@ -1,6 +1,9 @@
 // Frames in words, from their rows.
 use crate::words;
 use libc::STDOUT_FILENO;
+use payload::contents::MAX_ROWS;
+use payload::reading::ROW_AREA;
+use payload::rows::ROW_WIDTH;
 
 // A frame, by the four words of its row.
 fn print_words(time: u32, class_and_channel: u32, start: u32, length: u32) {
@@ -16,14 +19,14 @@ fn print_words(time: u32, class_and_channel: u32, start: u32, length: u32) {
     words::print(b"\n");
 }
 
-fn print_frame(rows: &[u32; 512], i: u32) {
-    if i < 128 {
-        let at = 4 * (i as usize);
+fn print_frame(rows: &[u32; ROW_AREA], i: u32) {
+    if (i as usize) < MAX_ROWS {
+        let at = ROW_WIDTH * (i as usize);
         print_words(rows[at], rows[at + 1], rows[at + 2], rows[at + 3]);
     }
 }
 
-fn print_frames(rows: &[u32; 512], count: u32) {
+fn print_frames(rows: &[u32; ROW_AREA], count: u32) {
     let mut i = 0;
     while i < count {
         print_frame(rows, i);
@@ -32,7 +35,7 @@ fn print_frames(rows: &[u32; 512], count: u32) {
 }
 
 // How many frames there are, and each of them.
-pub(crate) fn print(rows: &[u32; 512], count: u32) {
+pub(crate) fn print(rows: &[u32; ROW_AREA], count: u32) {
     if count == 0 {
         words::print(b"  no frames\n");
     } else {

@@ -7,8 +7,8 @@ use reorder::calls::OfferAnswer;
 use rtp::refusal;
 use rtp::settings::Settings;
 ghost use mathlib.Core.Path.{_≡_};
-ghost use Rattle.reorder.specs.Calls.{newCall, offerCall, drawCall};
-ghost use Rattle.heolstorpit.specs.Answers.{freshAnswer, offeredAnswer, drawnAnswer};
+ghost use Rattle.reorder.specs.Calls.{newCall, offerNumbers, offerCall, drawNumbers, drawCall};
+ghost use Rattle.heolstorpit.specs.Answers.{freshAnswer, offerFields, offeredAnswer, drawFields, drawnAnswer};
 
 // hsp_fresh: the refusal number or 0.
 #[repr(C)]
@@ -58,6 +58,42 @@ pub extern "C" fn hsp_new(settings: Settings) -> HspFresh
     }
 }
 
+// hsp_offered but for the buffer.
+pub struct OfferFields {
+    pub refusal: u32,
+    pub late: u32,
+    pub far: u32,
+    pub repeated: u32,
+    pub better: u32,
+    pub no_room: u32,
+    pub inserted: u32,
+}
+
+fn offer_fields(answer: OfferAnswer) -> OfferFields
+    ensures { λ r. ⌜ offerFields r ≡ offerNumbers answer ⌝ }
+{
+    match answer {
+        OfferAnswer::Judged(tally) => OfferFields {
+            refusal: 0,
+            late: tally.late,
+            far: tally.far,
+            repeated: tally.repeated,
+            better: tally.better,
+            no_room: tally.no_room,
+            inserted: tally.inserted,
+        },
+        OfferAnswer::Refused(reason) => OfferFields {
+            refusal: refusal::refusal_number(reason),
+            late: 0,
+            far: 0,
+            repeated: 0,
+            better: 0,
+            no_room: 0,
+            inserted: 0,
+        },
+    }
+}
+
 #[no_mangle]
 pub extern "C" fn hsp_offer(
     buffer: Buffer,
@@ -70,26 +106,56 @@ pub extern "C" fn hsp_offer(
     let offered = calls::offer(buffer, packet, rows, store);
     let left = offered.buffer;
     let answer = offered.answer;
+    let fields = offer_fields(answer);
+    HspOffered {
+        refusal: fields.refusal,
+        late: fields.late,
+        far: fields.far,
+        repeated: fields.repeated,
+        better: fields.better,
+        no_room: fields.no_room,
+        inserted: fields.inserted,
+        buffer: left,
+    }
+}
+
+// hsp_drawn but for the buffer.
+pub struct DrawFields {
+    pub refusal: u32,
+    pub empty: u32,
+    pub time: u32,
+    pub channel: u32,
+    pub frame_class: u32,
+    pub length: u32,
+}
+
+fn draw_fields(answer: DrawAnswer) -> DrawFields
+    ensures { λ r. ⌜ drawFields r ≡ drawNumbers answer ⌝ }
+{
     match answer {
-        OfferAnswer::Judged(tally) => HspOffered {
+        DrawAnswer::Frame(frame) => DrawFields {
             refusal: 0,
-            late: tally.late,
-            far: tally.far,
-            repeated: tally.repeated,
-            better: tally.better,
-            no_room: tally.no_room,
-            inserted: tally.inserted,
-            buffer: left,
+            empty: 0,
+            time: frame.time,
+            channel: frame.channel,
+            frame_class: frame.class,
+            length: frame.length,
         },
-        OfferAnswer::Refused(reason) => HspOffered {
+        DrawAnswer::Empty => DrawFields {
+            refusal: 0,
+            empty: 1,
+            time: 0,
+            channel: 0,
+            frame_class: 0,
+            length: 0,
+        },
+        DrawAnswer::Refused(reason) => DrawFields {
             refusal: refusal::refusal_number(reason),
-            late: 0,
-            far: 0,
-            repeated: 0,
-            better: 0,
-            no_room: 0,
-            inserted: 0,
-            buffer: left,
+            empty: 0,
+            time: 0,
+            channel: 0,
+            frame_class: 0,
+            length: 0,
         },
     }
 }
@@ -101,33 +167,14 @@ pub extern "C" fn hsp_draw(buffer: Buffer, store: &[u8], area: &mut [u8]) -> Hsp
     let drawn = calls::draw(buffer, store, area);
     let left = drawn.buffer;
     let answer = drawn.answer;
-    match answer {
-        DrawAnswer::Frame(frame) => HspDrawn {
-            refusal: 0,
-            empty: 0,
-            time: frame.time,
-            channel: frame.channel,
-            frame_class: frame.class,
-            length: frame.length,
-            buffer: left,
-        },
-        DrawAnswer::Empty => HspDrawn {
-            refusal: 0,
-            empty: 1,
-            time: 0,
-            channel: 0,
-            frame_class: 0,
-            length: 0,
-            buffer: left,
-        },
-        DrawAnswer::Refused(reason) => HspDrawn {
-            refusal: refusal::refusal_number(reason),
-            empty: 0,
-            time: 0,
-            channel: 0,
-            frame_class: 0,
-            length: 0,
-            buffer: left,
-        },
+    let fields = draw_fields(answer);
+    HspDrawn {
+        refusal: fields.refusal,
+        empty: fields.empty,
+        time: fields.time,
+        channel: fields.channel,
+        frame_class: fields.frame_class,
+        length: fields.length,
+        buffer: left,
     }
 }

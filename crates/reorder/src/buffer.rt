@@ -8,16 +8,16 @@ pub const SLOTS: usize = 192;
 // The bytes of a slot: of the longest frame.
 pub const SLOT_SIZE: usize = 320;
 // The bytes of the store.
-pub const STORE_SIZE: usize = 61440;
+pub const STORE_SIZE: usize = SLOTS * SLOT_SIZE;
 
 // Entries in time order, one column for each part of an entry, unused ones zero; a tag is 256 * class + channel, as in a row.
 // Then which slots are occupied, the last pair drawn, 1 if there is one, and the settings. Laid out as C's hsp_buffer.
 #[repr(C)]
 pub struct Buffer {
-    pub times: [u32; 192],
-    pub tags: [u32; 192],
-    pub lengths: [u32; 192],
-    pub slots: [u32; 192],
+    pub times: [u32; SLOTS],
+    pub tags: [u32; SLOTS],
+    pub lengths: [u32; SLOTS],
+    pub slots: [u32; SLOTS],
     pub occupied: [u64; 3],
     pub last_time: u32,
     pub last_channel: u32,
@@ -36,10 +36,10 @@ pub struct Fixed {
 pub(crate) fn fresh_buffer(settings: Settings) -> Buffer
     ensures { λ r. ⌜ r ≡ fresh settings ⌝ }
 {
-    let times = [0u32; 192];
-    let tags = [0u32; 192];
-    let lengths = [0u32; 192];
-    let slots = [0u32; 192];
+    let times = [0u32; SLOTS];
+    let tags = [0u32; SLOTS];
+    let lengths = [0u32; SLOTS];
+    let slots = [0u32; SLOTS];
     let occupied = [0u64; 3];
     Buffer {
         times,

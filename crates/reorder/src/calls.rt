@@ -186,28 +186,27 @@ fn refuse_draw(refusal: Refusal, buffer: Buffer) -> Drawn
 }
 
 // The first of n entries handed out: its frame to the front of the area, its slot free, its pair the last drawn.
-fn draw_first(buffer: Buffer, n: usize, store: &[u8], area: &mut [u8]) -> Drawn
+fn draw_first(mut buffer: Buffer, n: usize, store: &[u8], area: &mut [u8]) -> Drawn
     requires { ⌜ Drawable buffer n (now (store)) (now area) ⌝ }
     ensures { λ r. ⌜ record { answer = drawNumbers (r .answer); buffer = r .buffer; area = now (area .exit) } ≡ drawFirst buffer (now (store .entry)) (now (area .entry)) (decode buffer .entries) ⌝ }
 {
-    let mut times = buffer.times;
-    let mut tags = buffer.tags;
-    let mut lengths = buffer.lengths;
-    let mut slots = buffer.slots;
+    let time = buffer.times[0];
+    let tag = buffer.tags[0];
+    let length = buffer.lengths[0];
+    let slot = buffer.slots[0] as usize;
     let occupied = buffer.occupied;
-    let settings = buffer.settings;
-    let time = times[0];
-    let tag = tags[0];
-    let length = lengths[0];
-    let slot = slots[0] as usize;
     let start = SLOT_SIZE * slot;
     let end = start + (length as usize);
     judging::copy_into(area, 0, &store[start..end]);
-    columns::remove_first(&mut times, n);
-    columns::remove_first(&mut tags, n);
-    columns::remove_first(&mut lengths, n);
-    columns::remove_first(&mut slots, n);
+    columns::remove_first(&mut buffer.times, n);
+    columns::remove_first(&mut buffer.tags, n);
+    columns::remove_first(&mut buffer.lengths, n);
+    columns::remove_first(&mut buffer.slots, n);
     let next = bits::unmark(occupied, slot);
+    buffer.occupied = next;
+    buffer.last_time = time;
+    buffer.last_channel = tag % 256;
+    buffer.drawn = 1;
     Drawn {
         answer: DrawAnswer::Frame(DrawnFrame {
             time,
@@ -215,17 +214,7 @@ fn draw_first(buffer: Buffer, n: usize, store: &[u8], area: &mut [u8]) -> Drawn
             class: tag / 256,
             length,
         }),
-        buffer: Buffer {
-            times,
-            tags,
-            lengths,
-            slots,
-            occupied: next,
-            last_time: time,
-            last_channel: tag % 256,
-            drawn: 1,
-            settings,
-        },
+        buffer,
     }
 }
 

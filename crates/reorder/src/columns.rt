@@ -16,7 +16,7 @@ pub enum Place {
 }
 
 // A value at a place of a column with n in use; those from there on move up by one.
-pub(crate) fn insert_at(column: &mut [u32; 192], n: usize, at: usize, value: u32)
+pub(crate) fn insert_at(column: &mut [u32; SLOTS], n: usize, at: usize, value: u32)
     requires { ⌜ (at ≤ n) × (n < slots) ⌝ }
     ensures { λ _. ⌜ now (column .exit) ≡ insertAt (now (column .entry)) n at value ⌝ }
 {
@@ -32,7 +32,7 @@ pub(crate) fn insert_at(column: &mut [u32; 192], n: usize, at: usize, value: u32
 }
 
 // The column without its first of n values; a zero comes in after the others.
-pub(crate) fn remove_first(column: &mut [u32; 192], n: usize)
+pub(crate) fn remove_first(column: &mut [u32; SLOTS], n: usize)
     requires { ⌜ (1 ≤ n) × (n ≤ slots) ⌝ }
     ensures { λ _. ⌜ now (column .exit) ≡ removeFirst (now (column .entry)) n ⌝ }
 {
@@ -48,8 +48,8 @@ pub(crate) fn remove_first(column: &mut [u32; 192], n: usize)
 
 // The place of a pair among the first n entries.
 pub(crate) fn find_place(
-    times: &[u32; 192],
-    tags: &[u32; 192],
+    times: &[u32; SLOTS],
+    tags: &[u32; SLOTS],
     n: usize,
     time: u32,
     channel: u32,
@@ -78,7 +78,7 @@ pub(crate) fn find_place(
 }
 
 // Whether the first n times are all less than half the range ahead of a time.
-fn all_within(times: &[u32; 192], n: usize, time: u32) -> bool
+fn all_within(times: &[u32; SLOTS], n: usize, time: u32) -> bool
     requires { ⌜ n ≤ slots ⌝ }
     ensures { λ r. ⌜ r ≡ withinFrom (now (times .entry)) time n 0 ⌝ }
 {
@@ -94,7 +94,7 @@ fn all_within(times: &[u32; 192], n: usize, time: u32) -> bool
 }
 
 // Whether the first n times and another fit in a stretch of less than half the range.
-pub(crate) fn in_stretch(times: &[u32; 192], n: usize, time: u32) -> bool
+pub(crate) fn in_stretch(times: &[u32; SLOTS], n: usize, time: u32) -> bool
     requires { ⌜ n ≤ slots ⌝ }
     ensures { λ r. ⌜ r ≡ fitsFrom (now (times .entry)) time n ⌝ }
 {
@@ -108,7 +108,7 @@ pub(crate) fn in_stretch(times: &[u32; 192], n: usize, time: u32) -> bool
 }
 
 // Whether a column is zero from the n-th value on.
-pub(crate) fn zero_from(column: &[u32; 192], n: usize) -> bool
+pub(crate) fn zero_from(column: &[u32; SLOTS], n: usize) -> bool
     requires { ⌜ n ≤ slots ⌝ }
     ensures { λ r. ⌜ r ≡ zeros (drop n (now (column .entry))) ⌝ }
 {

@@ -59,9 +59,9 @@ fn is_late(fixed: Fixed, head: FrameHead) -> bool
 
 // A frame whose pair is held, as the entry at a place: a better copy replaces it in its slot.
 fn replace_copy(
-    tags: &mut [u32; 192],
-    lengths: &mut [u32; 192],
-    slots: &[u32; 192],
+    tags: &mut [u32; SLOTS],
+    lengths: &mut [u32; SLOTS],
+    slots: &[u32; SLOTS],
     at: usize,
     head: FrameHead,
     frame: &[u8],
@@ -83,10 +83,10 @@ fn replace_copy(
 
 // A frame whose pair is not held, laid into the lowest free slot, its entry at a place.
 fn insert_copy(
-    times: &mut [u32; 192],
-    tags: &mut [u32; 192],
-    lengths: &mut [u32; 192],
-    slots: &mut [u32; 192],
+    times: &mut [u32; SLOTS],
+    tags: &mut [u32; SLOTS],
+    lengths: &mut [u32; SLOTS],
+    slots: &mut [u32; SLOTS],
     occupied: [u64; 3],
     n: usize,
     at: usize,
@@ -109,10 +109,10 @@ fn insert_copy(
 
 // The verdict on a frame: the first that applies.
 fn judge_copy(
-    times: &mut [u32; 192],
-    tags: &mut [u32; 192],
-    lengths: &mut [u32; 192],
-    slots: &mut [u32; 192],
+    times: &mut [u32; SLOTS],
+    tags: &mut [u32; SLOTS],
+    lengths: &mut [u32; SLOTS],
+    slots: &mut [u32; SLOTS],
     occupied: [u64; 3],
     fixed: Fixed,
     head: FrameHead,
@@ -222,10 +222,10 @@ fn count_verdict(tally: Tally, verdict: Verdict) -> Tally
 
 // The rows judged in order, each against the buffer as the row before left it; no-data rows are passed over.
 pub(crate) fn judge_rows(
-    times: &mut [u32; 192],
-    tags: &mut [u32; 192],
-    lengths: &mut [u32; 192],
-    slots: &mut [u32; 192],
+    times: &mut [u32; SLOTS],
+    tags: &mut [u32; SLOTS],
+    lengths: &mut [u32; SLOTS],
+    slots: &mut [u32; SLOTS],
     occupied: [u64; 3],
     fixed: Fixed,
     packet: &[u8],

@@ -1,6 +1,7 @@
 // Whether a buffer is well-formed.
 use crate::bits;
 use crate::buffer::Fixed;
+use crate::buffer::SLOTS;
 use crate::columns;
 use payload::codes;
 use payload::codes::NO_CODE;
@@ -95,10 +96,10 @@ fn position(base: u32, time: u32, channel: u32) -> u64
 
 // Whether the first n entries are fine, and their slots exactly those marked.
 fn entries_fine(
-    times: &[u32; 192],
-    tags: &[u32; 192],
-    lengths: &[u32; 192],
-    slots: &[u32; 192],
+    times: &[u32; SLOTS],
+    tags: &[u32; SLOTS],
+    lengths: &[u32; SLOTS],
+    slots: &[u32; SLOTS],
     occupied: [u64; 3],
     fixed: Fixed,
     n: usize,
@@ -134,10 +135,10 @@ fn entries_fine(
 
 // Whether the entries from the n-th on are zero.
 fn rest_zero(
-    times: &[u32; 192],
-    tags: &[u32; 192],
-    lengths: &[u32; 192],
-    slots: &[u32; 192],
+    times: &[u32; SLOTS],
+    tags: &[u32; SLOTS],
+    lengths: &[u32; SLOTS],
+    slots: &[u32; SLOTS],
     n: usize,
 ) -> bool
     requires { ⌜ n ≤ slotCount ⌝ }
@@ -157,10 +158,10 @@ fn rest_zero(
 
 // Whether the buffer of these parts is well-formed.
 pub(crate) fn well_formed(
-    times: &[u32; 192],
-    tags: &[u32; 192],
-    lengths: &[u32; 192],
-    slots: &[u32; 192],
+    times: &[u32; SLOTS],
+    tags: &[u32; SLOTS],
+    lengths: &[u32; SLOTS],
+    slots: &[u32; SLOTS],
     occupied: [u64; 3],
     fixed: Fixed,
 ) -> bool

@@ -1,6 +1,7 @@
 // What the network did with the packets.
 use crate::packets;
 use libc::STDOUT_FILENO;
+use rtp::header::MAX_PACKET;
 
 // The version bits of this packet are cleared: refusal 2.
 const DAMAGED: u8 = 45;
@@ -9,8 +10,8 @@ const CUT: u8 = 52;
 
 const CUT_BYTES: usize = 10;
 
-fn area() -> [u8; 2048] {
-    [0; 2048]
+fn area() -> [u8; MAX_PACKET] {
+    [0; MAX_PACKET]
 }
 
 // Writes the first n bytes, behind their number.
@@ -22,7 +23,7 @@ fn put(bytes: &[u8], n: usize) {
 }
 
 // The bytes of packet k as they come.
-fn bytes_brought(k: u8, sent: [u8; 2048]) -> [u8; 2048] {
+fn bytes_brought(k: u8, sent: [u8; MAX_PACKET]) -> [u8; MAX_PACKET] {
     let mut bytes = sent;
     if k == DAMAGED {
         bytes[0] = bytes[0] % 64;

@@ -16,14 +16,14 @@ use Rattle.reorder.proofs.bits.unmark.Reads as unmark-reads
 use Rattle.reorder.proofs.columns.remove_first.Reads as remove-first-reads
 use Rattle.reorder.proofs.judging.copy_into.Reads as copy-into-reads
 
-slot-at : (s : tie.Start) → getD (s .args .buffer .slots) 0 0 < slots
-slot-at s = first-slot (s .args .buffer) (s .args .n) (now (s .args .store)) (now (s .args .area)) (s .pre)
+slot-at : (s : tie.Start) → getD (s .args .t1 .slots) 0 0 < slots
+slot-at s = first-slot (s .args .t1) (s .args .n) (now (s .args .store)) (now (s .args .area)) (s .pre)
 
-short-at : (s : tie.Start) → getD (s .args .buffer .lengths) 0 0 ≤ slotSize
-short-at s = first-short (s .args .buffer) (s .args .n) (now (s .args .store)) (now (s .args .area)) (s .pre)
+short-at : (s : tie.Start) → getD (s .args .t1 .lengths) 0 0 ≤ slotSize
+short-at s = first-short (s .args .t1) (s .args .n) (now (s .args .store)) (now (s .args .area)) (s .pre)
 
 few-at : (s : tie.Start) → s .args .n ≤ slots
-few-at s = few (s .args .buffer) (s .args .n) (now (s .args .store)) (now (s .args .area)) (s .pre)
+few-at s = few (s .args .t1) (s .args .n) (now (s .args .store)) (now (s .args .area)) (s .pre)
 
 -- the part of the store that is copied
 cut-at : (n k : ℕ) (store : List ℕ) → take (n + k - n) (drop n store) ≡ take k (drop n store)
@@ -32,29 +32,29 @@ cut-at n k store = let e : n + k - n ≡ k = omega arith in ap (λ (m : ℕ). ta
 cut-length : (n k : ℕ) (store : List ℕ) → n + k ≤ length store → length (take (n + k - n) (drop n store)) ≡ k
 cut-length n k store l = ap length (cut-at n k store) ∙ length-take-le k (drop n store) (simp length-drop (omega arith))
 
-array-read-time : tie.Need-array-read-time
-array-read-time c = search needs
+element-copy-out-time : tie.Need-element-copy-out-time
+element-copy-out-time c = search needs
 
-array-read-tag : tie.Need-array-read-tag
-array-read-tag c = search needs
+element-copy-out-tag : tie.Need-element-copy-out-tag
+element-copy-out-tag c = search needs
 
-array-read-length : tie.Need-array-read-length
-array-read-length c = search needs
+element-copy-out-length : tie.Need-element-copy-out-length
+element-copy-out-length c = search needs
 
-array-read-slot : tie.Need-array-read-slot
-array-read-slot c = search needs
+element-copy-out-slot : tie.Need-element-copy-out-slot
+element-copy-out-slot c = search needs
 
 cast-slot : tie.Need-cast-slot
 cast-slot c = search needs
 
 mul-start : tie.Need-mul-start
-mul-start c = omega (arith, slot-at (c .before .before .before .before .before .before .before .before))
+mul-start c = omega (arith, slot-at (c .before .before .before .before .before .before .before))
 
 cast-end : tie.Need-cast-end
 cast-end c = search needs
 
 add-end : tie.Need-add-end
-add-end c = omega (arith, slot-at (c .before .before .before .before .before .before .before .before), short-at (c .before .before .before .before .before .before .before .before))
+add-end c = omega (arith, slot-at (c .before .before .before .before .before .before .before), short-at (c .before .before .before .before .before .before .before))
 
 sub-copy-into : tie.Need-sub-copy-into
 sub-copy-into c = search needs
@@ -63,36 +63,36 @@ part-copy-into-start : tie.Need-part-copy-into-start
 part-copy-into-start c = search needs
 
 part-copy-into-end : tie.Need-part-copy-into-end
-part-copy-into-end c = omega (arith, slot-at (c .before .before .before .before .before .before .before .before .before), short-at (c .before .before .before .before .before .before .before .before .before), c .before .before .before .before .before .before .before .before .before .pre .room)
+part-copy-into-end c = omega (arith, slot-at (c .before .before .before .before .before .before .before .before), short-at (c .before .before .before .before .before .before .before .before), c .before .before .before .before .before .before .before .before .pre .room)
 
 copy-into-requires : tie.Need-copy-into-requires
 copy-into-requires c κs =
-    let s = c .before .before .before .before .before .before .before .before .before .before in
-    let b = s .args .buffer in
+    let s = c .before .before .before .before .before .before .before .before .before in
+    let b = s .args .t1 in
     omega (arith, s .pre .space, short-at s, cut-length (slotSize * getD (b .slots) 0 0) (getD (b .lengths) 0 0) (now (s .args .store)) (omega (arith, slot-at s, short-at s, s .pre .room)))
 
 remove-first-requires : tie.Need-remove-first-requires
-remove-first-requires c κs = (c .before .before .before .before .before .before .before .before .before .before .before .before .before .before .pre .some, few-at (c .before .before .before .before .before .before .before .before .before .before .before .before .before .before))
+remove-first-requires c κs = (c .before .before .before .before .before .before .before .before .before .before .before .before .before .pre .some, few-at (c .before .before .before .before .before .before .before .before .before .before .before .before .before))
 
 remove-first-requires-2 : tie.Need-remove-first-requires-2
-remove-first-requires-2 c κs = (c .before .before .before .before .before .before .before .before .before .before .before .before .before .before .before .before .pre .some, few-at (c .before .before .before .before .before .before .before .before .before .before .before .before .before .before .before .before))
+remove-first-requires-2 c κs = (c .before .before .before .before .before .before .before .before .before .before .before .before .before .before .before .pre .some, few-at (c .before .before .before .before .before .before .before .before .before .before .before .before .before .before .before))
 
 remove-first-requires-3 : tie.Need-remove-first-requires-3
-remove-first-requires-3 c κs = (c .before .before .before .before .before .before .before .before .before .before .before .before .before .before .before .before .before .before .pre .some, few-at (c .before .before .before .before .before .before .before .before .before .before .before .before .before .before .before .before .before .before))
+remove-first-requires-3 c κs = (c .before .before .before .before .before .before .before .before .before .before .before .before .before .before .before .before .before .pre .some, few-at (c .before .before .before .before .before .before .before .before .before .before .before .before .before .before .before .before .before))
 
 remove-first-requires-4 : tie.Need-remove-first-requires-4
-remove-first-requires-4 c κs = (c .before .before .before .before .before .before .before .before .before .before .before .before .before .before .before .before .before .before .before .before .pre .some, few-at (c .before .before .before .before .before .before .before .before .before .before .before .before .before .before .before .before .before .before .before .before))
+remove-first-requires-4 c κs = (c .before .before .before .before .before .before .before .before .before .before .before .before .before .before .before .before .before .before .before .pre .some, few-at (c .before .before .before .before .before .before .before .before .before .before .before .before .before .before .before .before .before .before .before))
 
 unmark-requires : tie.Need-unmark-requires
-unmark-requires c κs = let s = c .before .before .before .before .before .before .before .before .before .before .before .before .before .before .before .before .before .before .before .before .before in (slot-at s, first-marked (s .args .buffer) (s .args .n) (now (s .args .store)) (now (s .args .area)) (s .pre))
+unmark-requires c κs = let s = c .before .before .before .before .before .before .before .before .before .before .before .before .before .before .before .before .before .before .before .before in (slot-at s, first-marked (s .args .t1) (s .args .n) (now (s .args .store)) (now (s .args .area)) (s .pre))
 
 same-length : tie.Need-same-length
 same-length c = search needs
 
 returns : tie.Need-returns
 returns c =
-    let s = c .before .before .before .before .before .before .before .before .before .before .before .before .before .before .before .before .before .before .before .before .before .before in
-    let b = s .args .buffer in
+    let s = c .before .before .before .before .before .before .before .before .before .before .before .before .before .before .before .before .before .before .before .before .before in
+    let b = s .args .t1 in
     left b (s .args .n) (now (s .args .store)) (now (s .args .area)) (s .pre) _ _ _ _ _ _ (c .before .before .before .before .before .before .before .remove-first .ensures) (c .before .before .before .before .before .remove-first2 .ensures) (c .before .before .before .remove-first3 .ensures) (c .before .remove-first4 .ensures) (c .unmark .ensures)
     (take (slotSize * getD (b .slots) 0 0 + getD (b .lengths) 0 0 - slotSize * getD (b .slots) 0 0) (drop (slotSize * getD (b .slots) 0 0) (now (s .args .store))))
     (cut-at (slotSize * getD (b .slots) 0 0) (getD (b .lengths) 0 0) (now (s .args .store)))
@@ -102,10 +102,10 @@ pub draw-first-spec : {M : Type 1} → statement M
 draw-first-spec =
     tie.close
     (tie.spec
-    array-read-time
-    array-read-tag
-    array-read-length
-    array-read-slot
+    element-copy-out-time
+    element-copy-out-tag
+    element-copy-out-length
+    element-copy-out-slot
     cast-slot
     mul-start
     cast-end
