@@ -15,6 +15,7 @@ pub mod BridgeLaws
 pub mod CopyLaws
 pub mod RunLaws
 pub mod StepLaws
+pub mod PartedLaws
 pub mod RowStepLaws
 pub mod MachineLaws
 pub mod DrawLaws

@@ -35,7 +35,7 @@ use Rattle.reorder.proofs.FormLaws.{facts, decode-length, words-held, e
 use Rattle.reorder.proofs.AllowedLaws.{allowed-frame}
 
 -- the entry at a place of the list is that at the place of the columns
-entries-at : (b : Buffer) (k i j : ℕ) → j < k → getD (entriesFrom b k i) j noEntry ≡ entryAt b (i + j)
+pub entries-at : (b : Buffer) (k i j : ℕ) → j < k → getD (entriesFrom b k i) j noEntry ≡ entryAt b (i + j)
 unfolding entriesFrom
 entries-at b zero i j l = absurd (not-suc-le-zero l)
 entries-at b (suc k) i zero l = ap (entryAt b) (sym (add-zero i))

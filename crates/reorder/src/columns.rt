@@ -6,7 +6,7 @@ ghost use mathlib.Core.Path.{_≡_};
 ghost use Prim.Native.Nat.{_≤_, _<_};
 ghost use lib.ListN.{drop};
 ghost use Rattle.playout.specs.Sizes.{slots};
-ghost use Rattle.reorder.specs.Columns.{insertAt, removeFirst, placeFrom, fitsFrom, withinFrom};
+ghost use Rattle.reorder.specs.Columns.{insertAt, removeFirst, placeFrom, Parted, fitsFrom, withinFrom};
 ghost use Rattle.reorder.specs.WellFormed.{zeros};
 
 // Where a pair is held, or belongs.
@@ -46,7 +46,7 @@ pub(crate) fn remove_first(column: &mut [u32; SLOTS], n: usize)
     values[n - 1] = 0;
 }
 
-// The place of a pair among the first n entries.
+// The place of a pair among the first n entries, searched from the last: frames mostly come in order.
 pub(crate) fn find_place(
     times: &[u32; SLOTS],
     tags: &[u32; SLOTS],
@@ -54,23 +54,24 @@ pub(crate) fn find_place(
     time: u32,
     channel: u32,
 ) -> Place
-    requires { ⌜ n ≤ slots ⌝ }
+    requires { ⌜ (n ≤ slots) × Parted (now times) (now tags) time channel n ⌝ }
     ensures { λ r. ⌜ r ≡ placeFrom (now (times .entry)) (now (tags .entry)) time channel n 0 ⌝ }
 {
-    let mut i = 0;
+    let mut i = n;
     let place = loop {
-        if n <= i {
+        if i == 0 {
             break Place::InsertAt(i);
         }
-        match order::side_of(time, channel, times[i], tags[i] % 256) {
+        let last = i - 1;
+        match order::side_of(time, channel, times[last], tags[last] % 256) {
             Side::Before => {
-                break Place::InsertAt(i);
+                i = last;
             }
             Side::Same => {
-                break Place::FoundAt(i);
+                break Place::FoundAt(last);
             }
             Side::After => {
-                i += 1;
+                break Place::InsertAt(i);
             }
         }
     };

@@ -1,10 +1,9 @@
-use Prim.Native.Nat.{_-_, _≤_}
-use mathlib.Core.Path.{_≡_, _∙_, sym}
-use native.Mathlib.Nat.{sub-zero}
-use Rattle.reorder.specs.Columns.{placeFrom}
-use Rattle.reorder.proofs.ColumnLaws.{place-end, place-step}
-use borrow.Author.Needs.{needs}
+use Prim.Native.Nat.{_≤_, _<_, Ordering·lt}
+use mathlib.Core.Path.{_≡_, sym, _∙_}
+use native.Mathlib.Nat.{lt-irrefl}
 use native.Mathlib.Omega.{arith}
+use Rattle.reorder.proofs.ColumnLaws.{from, side-order, search-none, search-same, search-after}
+use borrow.Author.Needs.{needs}
 use Rattle.reorder.proofs.columns.find_place.Statement.{statement}
 use Rattle.reorder.proofs.columns.find_place.Tie as tie
 use Rattle.reorder.proofs.columns.find_place.Reads as reads
@@ -12,13 +11,16 @@ use Rattle.reorder.proofs.columns.find_place.Lts as lts
 use Rattle.playout.proofs.order.side_of.Reads as side-of-reads
 
 abbrev Inv-loop : tie.InvT-loop
-Inv-loop times tags n time channel i₀ i = (i ≤ n) × (placeFrom times tags time channel (n - i) i ≡ placeFrom times tags time channel n 0)
+Inv-loop times tags n time channel i₀ i = (i ≤ n) × (i < n → from times tags time channel i ≡ Ordering·lt)
 
 abbrev μ-loop : tie.MeasureT-loop
-μ-loop times tags n time channel i₀ i = n - i
+μ-loop times tags n time channel i₀ i = i
 
 loop-holds : tie.Need-loop-holds Inv-loop μ-loop
-loop-holds c = (search needs, rw sub-zero)
+loop-holds c = (search needs, λ l. absurd (lt-irrefl _ l))
+
+sub-last : tie.Need-sub-last Inv-loop μ-loop
+sub-last c = search needs
 
 mul-side-of : tie.Need-mul-side-of Inv-loop μ-loop
 mul-side-of c = search needs
@@ -38,35 +40,30 @@ side-of-requires c κs = search needs
 enum-told : tie.Need-enum-told Inv-loop μ-loop
 enum-told c = search needs
 
+loop-less : tie.Need-loop-less Inv-loop μ-loop
+loop-less c = search needs
+
+loop-again : tie.Need-loop-again Inv-loop μ-loop
+loop-again c = (omega arith, λ l. side-order _ _ (sym (c .enum-told .given .1) ∙ c .before .before .side-of .ensures))
+
 enum-told-2 : tie.Need-enum-told-2 Inv-loop μ-loop
 enum-told-2 c = search needs
 
 enum-told-3 : tie.Need-enum-told-3 Inv-loop μ-loop
 enum-told-3 c = search needs
 
-add-i : tie.Need-add-i Inv-loop μ-loop
-add-i c = search needs
-
-loop-less : tie.Need-loop-less Inv-loop μ-loop
-loop-less c = search needs
-
-loop-again : tie.Need-loop-again Inv-loop μ-loop
-loop-again c =
-    let l = c .before .before .before .before .before .before .loop in
-    (omega arith, sym (place-step _ _ _ _ _ (l .i) _ (omega arith) (sym (c .enum-told3 .given .1) ∙ c .before .before .side-of .ensures)) ∙ l .inv .1)
-
 returns : tie.Need-returns Inv-loop μ-loop
-returns c = sym (place-end _ _ _ _ _ _ (c .if1 .taken)) ∙ c .before .loop .inv .1
+returns c = search-none _ _ _ _ _ _ (c .if1 .taken) (c .before .loop .inv .1)
 
 returns-2 : tie.Need-returns-2 Inv-loop μ-loop
 returns-2 c =
-    let l = c .before .before .before .before .before .before .loop in
-    sym (place-step _ _ _ _ _ (l .i) _ (omega arith) (sym (c .enum-told .given .1) ∙ c .before .before .side-of .ensures)) ∙ l .inv .1
+    let l = c .before .before .before .before .before .before in
+    search-same _ _ _ _ _ (l .before .pre .1) (l .loop .i) (omega arith) (l .loop .inv .0) (side-order _ _ (sym (c .enum-told2 .given .1) ∙ c .before .before .side-of .ensures))
 
 returns-3 : tie.Need-returns-3 Inv-loop μ-loop
 returns-3 c =
-    let l = c .before .before .before .before .before .before .loop in
-    sym (place-step _ _ _ _ _ (l .i) _ (omega arith) (sym (c .enum-told2 .given .1) ∙ c .before .before .side-of .ensures)) ∙ l .inv .1
+    let l = c .before .before .before .before .before .before in
+    search-after _ _ _ _ _ (l .before .pre .1) (l .loop .i) (omega arith) (l .loop .inv .0) (side-order _ _ (sym (c .enum-told3 .given .1) ∙ c .before .before .side-of .ensures)) (l .loop .inv .1)
 
 pub find-place-spec : {M : Type 1} → statement M
 find-place-spec =
@@ -75,17 +72,17 @@ find-place-spec =
     Inv-loop
     μ-loop
     loop-holds
+    sub-last
     mul-side-of
     element-copy-out-side-of
     mul-side-of-2
     element-copy-out-side-of-2
     side-of-requires
     enum-told
-    enum-told-2
-    enum-told-3
-    add-i
     loop-less
     loop-again
+    enum-told-2
+    enum-told-3
     returns
     returns-2
     returns-3)

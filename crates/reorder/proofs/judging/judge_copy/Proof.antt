@@ -1,6 +1,9 @@
 use mathlib.Core.Path.{_≡_, sym, _∙_}
 use mathlib.Core.Logic.{⊎-elim}
+use Prim.Native.Nat.{_<_, _^_}
 use mathlib.Core.Bool.{false}
+use mir.Val.{Fits}
+use mir.Syntax.{w32}
 use native.Mathlib.Omega.{arith}
 use denote.Ref.{now}
 use Rattle.playout.specs.Copies.{Copy}
@@ -13,6 +16,7 @@ use Rattle.reorder.specs.Judging.{copyIn, FrameFits}
 use Rattle.reorder.proofs.BridgeLaws.{few-channels}
 use Rattle.reorder.proofs.AllowedLaws.{allowed-frame}
 use Rattle.reorder.proofs.StepLaws.{step-late, step-far, near-none, near-some, held-at, step-found, place-in, step-full, step-new}
+use Rattle.reorder.proofs.PartedLaws.{parts}
 use borrow.Author.Needs.{needs}
 use Rattle.reorder.proofs.judging.judge_copy.Statement.{statement}
 use Rattle.reorder.proofs.judging.judge_copy.Tie as tie
@@ -35,6 +39,9 @@ fits-at : (s : tie.Start) → FrameFits (s .args .head) (now (s .args .frame))
 fits-at s =
     let f = allowed-frame _ _ _ (s .pre .class) in
     record { class = f .0 .1; channel = omega (arith, s .pre .channel, few-channels (s .args .fixed .settings) (s .pre .settings)); short = f .1 }
+
+word-at : (s : tie.Start) → s .args .head .time < 2 ^ 32
+word-at s = let f : Fits w32 (s .args .head .time) = search needs in f .fits
 
 late-at : (c : tie.After-held-in) → isLate (decode (buffer-at (c .before .before .before .before .before))) (copy-at (c .before .before .before .before .before)) ≡ false
 late-at c = sym (c .before .before .is-late .ensures) ∙ c .before .if1 .left
@@ -73,7 +80,10 @@ returns-2 : tie.Need-returns-2
 returns-2 c = let s = c .before .before .before .before .before .before .before .before .before .before in step-far (buffer-at s) (s .pre .machine) (s .pre .fine) (s .args .head) (now (s .args .frame)) (now (s .args .store)) (late-at (c .before .before .before .before .before)) (c .before .before .before .before .before .held-in .result) (c .before .before .before .before .before .held-in .ensures .0) (c .before .before .before .if2 .taken) (sym (c .before .in-stretch .ensures) ∙ c .if3 .left)
 
 find-place-requires : tie.Need-find-place-requires
-find-place-requires c κs = search needs
+find-place-requires c κs =
+    let s = c .before .before .before .before .before .before .before .before .before in
+    let h = c .before .before .before .before in
+    (search needs, parts (buffer-at s) (s .args .head) (now (s .args .frame)) (now (s .args .store)) (s .pre) (word-at s) (late-at h) (near-at (c .before .before)) (h .held-in .result) (h .held-in .ensures .0))
 
 enum-known-at : tie.Need-enum-known-at
 enum-known-at c = search needs
