@@ -29,7 +29,7 @@
  *   12  an area is too short: see the function
  *   13  the rows cannot be written: see the function
  *   14  a row to be written has start + length over the length of the byte area
- *   15  the buffer handed in is not one that these functions have left
+ *   15  the buffer handed in is not well-formed; one that these functions have left always is
  *
  * The order in which they are asked: reading 11, 12, 1, 2, 3, 4, 5, then 6 to 9 table entry by table entry, then 10.
  * (Redundancy: all block headers 6, then their lengths 10, then block by block as a payload.) Writing 11, 14, 13, 12.

@@ -105,12 +105,12 @@ pub(crate) fn put_contents(
     requires { ⌜ TableRoom channels start (length (now rows)) (sizesAnswer format channels (contents format channels done (now s))) ⌝ }
     ensures { λ _. ⌜ now (rows .exit) ≡ over (contentsWords format channels time start (contents format channels done (now (s .entry)))) (now (rows .entry)) ⌝ }
 {
-    match contents::read_entry(format, s) {
+    match contents::read_entry(format, &s[0..]) {
         EntryRead::Refused(_) => {}
         EntryRead::Entry(entry) => {
             let next = put_group(
                 rows,
-                s,
+                &s[0..],
                 format,
                 channels,
                 0,
