@@ -111,8 +111,8 @@ pub fn read_entry(format: u8, s: &[u8]) -> EntryRead
     }
 }
 
-// The table at the front of s, where `rows` rows came before it. `&s[0..]` and not `s` is passed on, here and in `put_contents`: the same slice, but
-// its address and length go by themselves, and not as one copy that would have to wait for both (docs/PERFORMANCE.md).
+// The table at the front of s, where `rows` rows came before it. `&s[0..]` and not `s` is passed on, here and where a payload is read: the same slice,
+// but its address and length go by themselves, and not as one copy that would have to wait for both (docs/PERFORMANCE.md).
 pub fn read_contents(format: u8, channels: u8, rows: u32, s: &[u8]) -> ContentsRead
     ensures { λ r. ⌜ r ≡ sizesAnswer format channels (contents format channels rows (now (s .entry))) ⌝ }
 {

@@ -30,7 +30,7 @@ pub fn check_payload(asked: Settings, done: u32, s: &[u8]) -> PayloadRead
         if MAX_PACKET < s.len() {
             return PayloadRead::Refused(Refusal::PacketLength);
         }
-        match contents::read_contents(asked.format, asked.channels, done, s) {
+        match contents::read_contents(asked.format, asked.channels, done, &s[0..]) {
             ContentsRead::Refused(refusal) => PayloadRead::Refused(refusal),
             ContentsRead::Contents(sizes) => {
                 if sizes.size + sizes.frames == s.len() {
@@ -65,13 +65,13 @@ pub fn read_payload(
         if MAX_PACKET < (at as usize) + s.len() {
             return PayloadRead::Refused(Refusal::PacketLength);
         }
-        match contents::read_contents(asked.format, asked.channels, done, s) {
+        match contents::read_contents(asked.format, asked.channels, done, &s[0..]) {
             ContentsRead::Refused(refusal) => PayloadRead::Refused(refusal),
             ContentsRead::Contents(sizes) => {
                 if sizes.size + sizes.frames == s.len() {
                     rows::put_contents(
                         area,
-                        s,
+                        &s[0..],
                         asked.format,
                         asked.channels as usize,
                         done as usize,

@@ -1,3 +1,4 @@
+use Rattle.rtp.proofs.AreaLaws.{part-to-end}
 use lib.ListN.{length}
 use denote.Ref.{now}
 use mathlib.Core.Bool.{true}
@@ -23,17 +24,26 @@ use Rattle.rtp.proofs.settings.in_range.Reads as in-range-reads
 asked-at : (c : tie.Else2) → let a = c .before .before .before .before .args in askedRows (a .asked) (a .done) rowArea 0 0 (now (a .s)) ≡ payloadRows (a .asked .format) (a .asked .channels) (a .done) 0 0 (now (a .s))
 asked-at c = let a = c .before .before .before .before .args in asked-in (a .asked) (a .done) rowArea 0 0 (now (a .s)) (sym (c .before .before .in-range .ensures) ∙ c .before .if1 .taken) (omega arith) (omega (arith, c .if2 .left))
 
-table-at : (c : tie.After-sizes) → let a = c .before .before .before .before .before .before .before .args in sizesAnswer (a .asked .format) (a .asked .channels) (contents (a .asked .format) (a .asked .channels) (a .done) (now (a .s))) ≡ ContentsRead.Contents (c .sizes .given .0 .0)
-table-at c = sym (c .before .before .read-contents .ensures) ∙ c .sizes .given .1
+table-at : (c : tie.After-sizes) → let a = c .before .before .before .before .before .before .before .before .args in sizesAnswer (a .asked .format) (a .asked .channels) (contents (a .asked .format) (a .asked .channels) (a .done) (now (a .s))) ≡ ContentsRead.Contents (c .sizes .given .0 .0)
+table-at c = sym (rw (part-to-end 0 (now (c .before .before .before .before .before .before .before .before .args .s))) at (c .before .before .read-contents .ensures)) ∙ c .sizes .given .1
 
-small-at : (c : tie.After-sizes) → let a = c .before .before .before .before .before .before .before .args in Small (a .done) (length (now (a .s))) (c .sizes .given .0 .0)
-small-at c = let a = c .before .before .before .before .before .before .before .args in pay-small (a .asked .format) (a .asked .channels) (a .done) 0 0 (now (a .s)) (c .sizes .given .0 .0) (table-at c)
+small-at : (c : tie.After-sizes) → let a = c .before .before .before .before .before .before .before .before .args in Small (a .done) (length (now (a .s))) (c .sizes .given .0 .0)
+small-at c = let a = c .before .before .before .before .before .before .before .before .args in pay-small (a .asked .format) (a .asked .channels) (a .done) 0 0 (now (a .s)) (c .sizes .given .0 .0) (table-at c)
 
 in-range-requires : tie.Need-in-range-requires
 in-range-requires c κs = search needs
 
 returns : tie.Need-returns
 returns c = let a = c .before .before .before .before .args in answer-none _ _ (asked-long (a .asked) (a .done) rowArea 0 0 (now (a .s)) (sym (c .before .before .in-range .ensures) ∙ c .before .if1 .taken) (omega arith) (omega (arith, c .if2 .taken)))
+
+sub-read-contents : tie.Need-sub-read-contents
+sub-read-contents c = search needs
+
+part-read-contents-start : tie.Need-part-read-contents-start
+part-read-contents-start c = search needs
+
+part-read-contents-end : tie.Need-part-read-contents-end
+part-read-contents-end c = search needs
 
 read-contents-requires : tie.Need-read-contents-requires
 read-contents-requires c κs = search needs
@@ -45,19 +55,19 @@ enum-known-sizes : tie.Need-enum-known-sizes
 enum-known-sizes c = search needs
 
 add-if3 : tie.Need-add-if3
-add-if3 c = omega (arith, small-at (c .before .before), c .before .before .before .before .before .before .before .before .before .good)
+add-if3 c = omega (arith, small-at (c .before .before), c .before .before .before .before .before .before .before .before .before .before .good)
 
-cast-t17 : tie.Need-cast-t17
-cast-t17 c = omega (arith, small-at (c .before .before .before .before) .few)
+cast-t20 : tie.Need-cast-t20
+cast-t20 c = omega (arith, small-at (c .before .before .before .before) .few)
 
 returns-2 : tie.Need-returns-2
-returns-2 c = let a = c .before .before .before .before .before .before .before .before .args in answer-none _ _ (asked-at (c .before .before .before .before) ∙ pay-refused (a .asked .format) (a .asked .channels) (a .done) 0 0 (now (a .s)) _ (sym (c .before .before .before .read-contents .ensures) ∙ c .before .refusal .given .1))
+returns-2 c = let a = c .before .before .before .before .before .before .before .before .before .args in answer-none _ _ (asked-at (c .before .before .before .before .before) ∙ pay-refused (a .asked .format) (a .asked .channels) (a .done) 0 0 (now (a .s)) _ (sym (rw (part-to-end 0 (now (a .s))) at (c .before .before .before .read-contents .ensures)) ∙ c .before .refusal .given .1))
 
 returns-3 : tie.Need-returns-3
-returns-3 c = let a = c .before .before .before .before .before .before .before .before .before .before .before .args in sym (ap rowsAnswer (asked-at (c .before .before .before .before .before .before .before)) ∙ pay-rows (a .asked .format) (a .asked .channels) (a .done) 0 0 (now (a .s)) _ (table-at (c .before .before .before .before)) (c .before .if3 .taken))
+returns-3 c = let a = c .before .before .before .before .before .before .before .before .before .before .before .before .args in sym (ap rowsAnswer (asked-at (c .before .before .before .before .before .before .before .before)) ∙ pay-rows (a .asked .format) (a .asked .channels) (a .done) 0 0 (now (a .s)) _ (table-at (c .before .before .before .before)) (c .before .if3 .taken))
 
 returns-4 : tie.Need-returns-4
-returns-4 c = let a = c .before .before .before .before .before .before .before .before .before .before .args in answer-none _ _ (asked-at (c .before .before .before .before .before .before) ∙ pay-part (a .asked .format) (a .asked .channels) (a .done) 0 0 (now (a .s)) _ (table-at (c .before .before .before)) (c .if3 .left))
+returns-4 c = let a = c .before .before .before .before .before .before .before .before .before .before .before .args in answer-none _ _ (asked-at (c .before .before .before .before .before .before .before) ∙ pay-part (a .asked .format) (a .asked .channels) (a .done) 0 0 (now (a .s)) _ (table-at (c .before .before .before)) (c .if3 .left))
 
 returns-5 : tie.Need-returns-5
 returns-5 c = let a = c .before .before .before .args in answer-none _ _ (asked-out (a .asked) (a .done) rowArea 0 0 (now (a .s)) (sym (c .before .in-range .ensures) ∙ c .if1 .left))
@@ -68,11 +78,14 @@ check-payload-spec =
     (tie.spec
     in-range-requires
     returns
+    sub-read-contents
+    part-read-contents-start
+    part-read-contents-end
     read-contents-requires
     enum-known-refusal
     enum-known-sizes
     add-if3
-    cast-t17
+    cast-t20
     returns-2
     returns-3
     returns-4

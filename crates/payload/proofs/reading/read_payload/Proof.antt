@@ -1,3 +1,4 @@
+use Rattle.rtp.proofs.AreaLaws.{part-to-end}
 use lib.ListN.{length}
 use denote.Ref.{now}
 use mathlib.Core.Bool.{true}
@@ -32,11 +33,11 @@ both-none x r l h = (answer-none x r h, words-none x r l h)
 asked-at : (c : tie.Else3) → let a = c .before .before .before .before .before .before .args in askedRows (a .asked) (a .done) (length (now (a .area))) (a .time) (a .at) (now (a .s)) ≡ payloadRows (a .asked .format) (a .asked .channels) (a .done) (a .time) (a .at) (now (a .s))
 asked-at c = let a = c .before .before .before .before .before .before .args in asked-in (a .asked) (a .done) (length (now (a .area))) (a .time) (a .at) (now (a .s)) (sym (c .before .before .before .in-range .ensures) ∙ c .before .before .if1 .taken) (omega (arith, c .before .if2 .left)) (omega (arith, c .if3 .left))
 
-table-at : (c : tie.After-sizes) → let a = c .before .before .before .before .before .before .before .before .before .args in sizesAnswer (a .asked .format) (a .asked .channels) (contents (a .asked .format) (a .asked .channels) (a .done) (now (a .s))) ≡ ContentsRead.Contents (c .sizes .given .0 .0)
-table-at c = sym (c .before .before .read-contents .ensures) ∙ c .sizes .given .1
+table-at : (c : tie.After-sizes) → let a = c .before .before .before .before .before .before .before .before .before .before .args in sizesAnswer (a .asked .format) (a .asked .channels) (contents (a .asked .format) (a .asked .channels) (a .done) (now (a .s))) ≡ ContentsRead.Contents (c .sizes .given .0 .0)
+table-at c = sym (rw (part-to-end 0 (now (c .before .before .before .before .before .before .before .before .before .before .args .s))) at (c .before .before .read-contents .ensures)) ∙ c .sizes .given .1
 
-small-at : (c : tie.After-sizes) → let a = c .before .before .before .before .before .before .before .before .before .args in Small (a .done) (length (now (a .s))) (c .sizes .given .0 .0)
-small-at c = let a = c .before .before .before .before .before .before .before .before .before .args in pay-small (a .asked .format) (a .asked .channels) (a .done) (a .time) (a .at) (now (a .s)) (c .sizes .given .0 .0) (table-at c)
+small-at : (c : tie.After-sizes) → let a = c .before .before .before .before .before .before .before .before .before .before .args in Small (a .done) (length (now (a .s))) (c .sizes .given .0 .0)
+small-at c = let a = c .before .before .before .before .before .before .before .before .before .before .args in pay-small (a .asked .format) (a .asked .channels) (a .done) (a .time) (a .at) (now (a .s)) (c .sizes .given .0 .0) (table-at c)
 
 in-range-requires : tie.Need-in-range-requires
 in-range-requires c κs = search needs
@@ -56,6 +57,15 @@ add-if3 c = search needs
 returns-2 : tie.Need-returns-2
 returns-2 c = let a = c .before .before .before .before .before .before .args in both-none _ _ (now (a .area)) (asked-long (a .asked) (a .done) (length (now (a .area))) (a .time) (a .at) (now (a .s)) (sym (c .before .before .before .in-range .ensures) ∙ c .before .before .if1 .taken) (omega (arith, c .before .if2 .left)) (omega (arith, c .if3 .taken)))
 
+sub-read-contents : tie.Need-sub-read-contents
+sub-read-contents c = search needs
+
+part-read-contents-start : tie.Need-part-read-contents-start
+part-read-contents-start c = search needs
+
+part-read-contents-end : tie.Need-part-read-contents-end
+part-read-contents-end c = search needs
+
 read-contents-requires : tie.Need-read-contents-requires
 read-contents-requires c κs = search needs
 
@@ -66,7 +76,16 @@ enum-known-sizes : tie.Need-enum-known-sizes
 enum-known-sizes c = search needs
 
 add-if4 : tie.Need-add-if4
-add-if4 c = omega (arith, small-at (c .before .before), c .before .before .before .before .before .before .before .before .before .before .before .good)
+add-if4 c = omega (arith, small-at (c .before .before), c .before .before .before .before .before .before .before .before .before .before .before .before .good)
+
+sub-put-contents : tie.Need-sub-put-contents
+sub-put-contents c = search needs
+
+part-put-contents-start : tie.Need-part-put-contents-start
+part-put-contents-start c = search needs
+
+part-put-contents-end : tie.Need-part-put-contents-end
+part-put-contents-end c = search needs
 
 cast-put-contents : tie.Need-cast-put-contents
 cast-put-contents c = search needs
@@ -76,27 +95,27 @@ add-put-contents c = search needs
 
 put-contents-requires : tie.Need-put-contents-requires
 put-contents-requires c κs =
-    let a = c .before .before .before .before .before .before .before .before .before .before .before .before .before .before .before .args in
-    pay-room (a .asked .format) (a .asked .channels) (a .done) (a .time) (a .at) (now (a .s)) _ (table-at (c .before .before .before .before .before .before)) (length (now (a .area))) (omega arith) (omega (arith, c .before .before .before .before .before .before .before .before .before .before .if2 .left)) (omega (arith, c .before .before .before .before .before .before .before .before .before .if3 .left)) (c .before .before .before .if4 .taken)
+    let a = c .before .before .before .before .before .before .before .before .before .before .before .before .before .before .before .before .before .args in
+    rw (part-to-end 0 (now (a .s))) (pay-room (a .asked .format) (a .asked .channels) (a .done) (a .time) (a .at) (now (a .s)) _ (table-at (c .before .before .before .before .before .before .before)) (length (now (a .area))) (omega arith) (omega (arith, c .before .before .before .before .before .before .before .before .before .before .before .before .if2 .left)) (omega (arith, c .before .before .before .before .before .before .before .before .before .before .before .if3 .left)) (c .before .before .before .before .if4 .taken))
 
-cast-t31 : tie.Need-cast-t31
-cast-t31 c = omega (arith, small-at (c .before .before .before .before .before .before .before .before .before .before) .few)
+cast-t38 : tie.Need-cast-t38
+cast-t38 c = omega (arith, small-at (c .before .before .before .before .before .before .before .before .before .before .before) .few)
 
 returns-3 : tie.Need-returns-3
-returns-3 c = let a = c .before .before .before .before .before .before .before .before .before .before .args in both-none _ _ (now (a .area)) (asked-at (c .before .before .before .before) ∙ pay-refused (a .asked .format) (a .asked .channels) (a .done) (a .time) (a .at) (now (a .s)) _ (sym (c .before .before .before .read-contents .ensures) ∙ c .before .refusal .given .1))
+returns-3 c = let a = c .before .before .before .before .before .before .before .before .before .before .before .args in both-none _ _ (now (a .area)) (asked-at (c .before .before .before .before .before) ∙ pay-refused (a .asked .format) (a .asked .channels) (a .done) (a .time) (a .at) (now (a .s)) _ (sym (rw (part-to-end 0 (now (a .s))) at (c .before .before .before .read-contents .ensures)) ∙ c .before .refusal .given .1))
 
 same-length : tie.Need-same-length
 same-length c = search needs
 
 returns-4 : tie.Need-returns-4
 returns-4 c =
-    let a = c .before .before .before .before .before .before .before .before .before .before .before .before .before .before .before .before .before .before .before .args in (
-      sym (ap rowsAnswer (asked-at (c .before .before .before .before .before .before .before .before .before .before .before .before .before)) ∙ pay-rows (a .asked .format) (a .asked .channels) (a .done) (a .time) (a .at) (now (a .s)) _ (table-at (c .before .before .before .before .before .before .before .before .before .before)) (c .before .before .before .before .before .before .before .if4 .taken)),
-      c .before .before .before .put-contents .ensures ∙ ap (λ (w : List ℕ). over w (now (a .area))) (sym (ap rowsWords (asked-at (c .before .before .before .before .before .before .before .before .before .before .before .before .before)) ∙ pay-words (a .asked .format) (a .asked .channels) (a .done) (a .time) (a .at) (now (a .s)) _ (table-at (c .before .before .before .before .before .before .before .before .before .before)) (c .before .before .before .before .before .before .before .if4 .taken))),
+    let a = c .before .before .before .before .before .before .before .before .before .before .before .before .before .before .before .before .before .before .before .before .before .args in (
+      sym (ap rowsAnswer (asked-at (c .before .before .before .before .before .before .before .before .before .before .before .before .before .before .before)) ∙ pay-rows (a .asked .format) (a .asked .channels) (a .done) (a .time) (a .at) (now (a .s)) _ (table-at (c .before .before .before .before .before .before .before .before .before .before .before)) (c .before .before .before .before .before .before .before .before .if4 .taken)),
+      (rw (part-to-end 0 (now (a .s))) at (c .before .before .before .put-contents .ensures)) ∙ ap (λ (w : List ℕ). over w (now (a .area))) (sym (ap rowsWords (asked-at (c .before .before .before .before .before .before .before .before .before .before .before .before .before .before .before)) ∙ pay-words (a .asked .format) (a .asked .channels) (a .done) (a .time) (a .at) (now (a .s)) _ (table-at (c .before .before .before .before .before .before .before .before .before .before .before)) (c .before .before .before .before .before .before .before .before .if4 .taken))),
     )
 
 returns-5 : tie.Need-returns-5
-returns-5 c = let a = c .before .before .before .before .before .before .before .before .before .before .before .before .args in both-none _ _ (now (a .area)) (asked-at (c .before .before .before .before .before .before) ∙ pay-part (a .asked .format) (a .asked .channels) (a .done) (a .time) (a .at) (now (a .s)) _ (table-at (c .before .before .before)) (c .if4 .left))
+returns-5 c = let a = c .before .before .before .before .before .before .before .before .before .before .before .before .before .args in both-none _ _ (now (a .area)) (asked-at (c .before .before .before .before .before .before .before) ∙ pay-part (a .asked .format) (a .asked .channels) (a .done) (a .time) (a .at) (now (a .s)) _ (table-at (c .before .before .before)) (c .if4 .left))
 
 returns-6 : tie.Need-returns-6
 returns-6 c = let a = c .before .before .before .before .args in both-none _ _ (now (a .area)) (asked-out (a .asked) (a .done) (length (now (a .area))) (a .time) (a .at) (now (a .s)) (sym (c .before .in-range .ensures) ∙ c .if1 .left))
@@ -111,14 +130,20 @@ read-payload-spec =
     returns
     add-if3
     returns-2
+    sub-read-contents
+    part-read-contents-start
+    part-read-contents-end
     read-contents-requires
     enum-known-refusal
     enum-known-sizes
     add-if4
+    sub-put-contents
+    part-put-contents-start
+    part-put-contents-end
     cast-put-contents
     add-put-contents
     put-contents-requires
-    cast-t31
+    cast-t38
     returns-3
     same-length
     returns-4
