@@ -17,7 +17,7 @@ ghost use Rattle.reorder.specs.WellFormed.{allowed, wellFormed};
 ghost use Rattle.reorder.specs.Checks.{lastFineOf, sortFine, baseOf, startOf, positionOf, restZero, entriesFine};
 
 // The positions of a stretch under half the range of time.
-const STRETCH: u64 = 549755813888;
+const STRETCH: u64 = 256 * (order::HALF as u64);
 
 // Whether the pair (t, c) is after the pair (h, d).
 pub(crate) fn pair_after(t: u32, c: u32, h: u32, d: u32) -> bool
