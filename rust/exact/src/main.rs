@@ -3,8 +3,12 @@
 #![forbid(unsafe_code)]
 #![allow(unused_imports, dead_code)]
 
+#[path = "../../heolstorpit/tests/common/convert.rs"]
+mod convert;
+
 use cases::{Random, Shape};
-use heolstorpit::{raw, Settings};
+use convert::{settings, to_raw};
+use heolstorpit::raw;
 use reference::{DRAW_AREA, ROW_AREA, STORE_BYTES};
 
 fn main() {
@@ -19,10 +23,6 @@ fn main() {
     write(&mut r, cases);
     #[cfg(feature = "buffer")]
     buffer(&mut r, cases);
-}
-
-fn settings(s: reference::Settings) -> Settings {
-    Settings { format: s.format, channels: s.channels, payload_type: s.payload_type, redundancy_type: s.redundancy_type }
 }
 
 /// A heap block of exactly these elements.
@@ -99,7 +99,7 @@ fn buffer(r: &mut Random, cases: usize) {
             let way = r.below(cases::SPOILS);
             cases::spoil(r, &mut given, way);
         }
-        let state = raw_buffer(&given);
+        let state = to_raw(&given);
         if r.percent(65) {
             let shape = Shape { bytes: 2036, rows: r.pick(&[1, 8, 128]), alike: true };
             let time = (960 * r.below(300) as u32).wrapping_sub(960 * 150);
@@ -112,7 +112,7 @@ fn buffer(r: &mut Random, cases: usize) {
             let (mut one, mut two) = (exact(&vec![7; words]), exact(&vec![7; words]));
             let answer = raw::offer(state, &packet, &mut one, &mut one_store);
             let (after, expected) = reference::offer(&given, &packet, &mut two, &mut two_store);
-            assert!(answer.refusal == expected.err().unwrap_or(0) && answer.buffer == raw_buffer(&after));
+            assert!(answer.refusal == expected.err().unwrap_or(0) && answer.buffer == to_raw(&after));
             assert!(answer.inserted == expected.map_or(0, |v| v.inserted) && one == two && one_store == two_store);
             if given == buffer {
                 buffer = after;
@@ -122,26 +122,11 @@ fn buffer(r: &mut Random, cases: usize) {
             let (mut one, mut two) = (exact(&vec![7; bytes]), exact(&vec![7; bytes]));
             let answer = raw::draw(state, &one_store, &mut one);
             let (after, expected) = reference::draw(&given, &two_store, &mut two);
-            assert!(answer.refusal == expected.err().unwrap_or(0) && answer.buffer == raw_buffer(&after) && one == two);
+            assert!(answer.refusal == expected.err().unwrap_or(0) && answer.buffer == to_raw(&after) && one == two);
             if given == buffer {
                 buffer = after;
             }
         }
     }
     println!("exact lengths: {cases} calls of offer and draw");
-}
-
-#[cfg(feature = "buffer")]
-fn raw_buffer(b: &reference::Buffer) -> raw::Buffer {
-    raw::Buffer {
-        times: b.times,
-        tags: b.tags,
-        lengths: b.lengths,
-        slots: b.slots,
-        occupied: b.occupied,
-        last_time: b.last_time,
-        last_channel: b.last_channel,
-        drawn: b.drawn,
-        settings: settings(b.settings),
-    }
 }

@@ -4,23 +4,9 @@
 mod common;
 
 use cases::{Random, Shape};
-use common::{around, settings, Seen, Twice};
+use common::{around, settings, to_raw, Seen, Twice};
 use heolstorpit::{raw, Buffer};
 use reference::{Drawn, Settings, Verdicts, DRAW_AREA, ROW_AREA, SLOTS, STORE_BYTES};
-
-fn to_raw(b: &reference::Buffer) -> raw::Buffer {
-    raw::Buffer {
-        times: b.times,
-        tags: b.tags,
-        lengths: b.lengths,
-        slots: b.slots,
-        occupied: b.occupied,
-        last_time: b.last_time,
-        last_channel: b.last_channel,
-        drawn: b.drawn,
-        settings: settings(b.settings),
-    }
-}
 
 /// A buffer with its lent areas, held by the library and by the reference.
 struct Pair {

@@ -1,12 +1,11 @@
 //! What the differential tests share: an area between guard elements, and counts of what was seen.
-#![allow(dead_code)]
+#![allow(dead_code, unused_imports)]
+
+mod convert;
 
 use cases::Random;
+pub use convert::{settings, to_raw};
 use std::fmt::Debug;
-
-pub fn settings(s: reference::Settings) -> heolstorpit::Settings {
-    heolstorpit::Settings { format: s.format, channels: s.channels, payload_type: s.payload_type, redundancy_type: s.redundancy_type }
-}
 
 /// The same memory twice, for the library and for the reference, with a lent area inside: everything outside the area
 /// has to stay, and both have to end equal.

@@ -1,0 +1,22 @@
+//! The reference's settings and buffers as the library's. Also used by `exact`.
+#![allow(dead_code)]
+
+use heolstorpit::raw;
+
+pub fn settings(s: reference::Settings) -> heolstorpit::Settings {
+    heolstorpit::Settings { format: s.format, channels: s.channels, payload_type: s.payload_type, redundancy_type: s.redundancy_type }
+}
+
+pub fn to_raw(b: &reference::Buffer) -> raw::Buffer {
+    raw::Buffer {
+        times: b.times,
+        tags: b.tags,
+        lengths: b.lengths,
+        slots: b.slots,
+        occupied: b.occupied,
+        last_time: b.last_time,
+        last_channel: b.last_channel,
+        drawn: b.drawn,
+        settings: settings(b.settings),
+    }
+}
