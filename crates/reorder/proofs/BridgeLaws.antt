@@ -17,7 +17,7 @@ use Rattle.reorder.specs.declared.buffer.Buffer.{Buffer}
 use Rattle.reorder.specs.Bits.{heldIn, wordsOf}
 use Rattle.reorder.specs.Layout.{tagOf, padTo, column, encode, decode}
 use Rattle.reorder.specs.WellFormed.{wellFormed}
-use Rattle.reorder.specs.Claims.{Column, Machine}
+use Rattle.reorder.specs.Arrays.{Column, Machine}
 use Rattle.reorder.proofs.LayoutLaws.{column-length, decode-encode}
 use Rattle.reorder.proofs.FormLaws.{Facts, facts, times-word}
 use Rattle.reorder.proofs.FormBackLaws.{well-formed}

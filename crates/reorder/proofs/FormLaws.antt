@@ -20,7 +20,7 @@ use Rattle.reorder.specs.declared.buffer.Buffer.{Buffer}
 use Rattle.reorder.specs.Bits.{markOf, heldIn, wordAt, wordsOf, isFree, sameWords}
 use Rattle.reorder.specs.Layout.{tagOf, padTo, column, flagOf, encode, entryAt, entriesFrom, decode}
 use Rattle.reorder.specs.WellFormed.{allowed, lastFine, sinceLast, ascends, entryFine, fineFrom, zeros, unusedZero, wellFormed}
-use Rattle.reorder.specs.Claims.{Machine}
+use Rattle.reorder.specs.Arrays.{Machine}
 use Rattle.reorder.proofs.CheckLaws.{both, and-then, free-parts}
 use Rattle.reorder.proofs.WordLaws.{slotOf, slotsOf, SlotFacts, own-few, distinct-own, countIn, Distinct, count-none, count-here, distinct-none, distinct-cons, mark-count, words-cons}
 use Rattle.reorder.proofs.LayoutLaws.{Octets}

@@ -13,17 +13,9 @@ pub mod CallLaws
 pub mod StateLaws
 pub mod BridgeLaws
 pub mod CopyLaws
-pub mod RunLaws
 pub mod StepLaws
 pub mod PartedLaws
 pub mod RowStepLaws
 pub mod MachineLaws
 pub mod DrawLaws
 pub mod OfferLaws
-pub mod GatherLaws
-pub mod ListRunLaws
-pub mod ShortStoreLaws
-pub mod DemandTheorem
-pub mod WellFormedTheorem
-pub mod CountTheorem
-pub mod CheckedTableProof

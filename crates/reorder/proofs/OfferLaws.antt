@@ -27,7 +27,7 @@ use Rattle.reorder.specs.declared.calls.Tally.{Tally}
 use Rattle.reorder.specs.Layout.{encode, decode}
 use Rattle.reorder.specs.WellFormed.{wellFormed}
 use Rattle.reorder.specs.Rows.{copiesOf}
-use Rattle.reorder.specs.Claims.{Machine}
+use Rattle.reorder.specs.Arrays.{Machine}
 use Rattle.reorder.specs.Judging.{countsOf, RowsJudgeable, RowsJudged}
 use Rattle.reorder.specs.Calls.{countNumbers, offerRefused, offerRead, offerCall}
 use Rattle.reorder.proofs.CallLaws.{offer-reads}

@@ -24,7 +24,7 @@ use Rattle.reorder.specs.Bits.{heldIn, wordsOf, marked, lowestFree}
 use Rattle.reorder.specs.Columns.{insertAt, placeFrom, fitsFrom}
 use Rattle.reorder.specs.Layout.{tagOf, column, flagOf, encode, entryAt, entriesFrom, decode}
 use Rattle.reorder.specs.WellFormed.{wellFormed}
-use Rattle.reorder.specs.Claims.{Machine}
+use Rattle.reorder.specs.Arrays.{Machine}
 use Rattle.reorder.specs.Judging.{copyIn, tagIn, HeldAt, beats, Replaced, Laid, JudgedAs}
 use Rattle.reorder.proofs.ColumnLaws.{inserted}
 use Rattle.reorder.proofs.WordLaws.{slotOf, slotsOf, free-is}

@@ -1,10 +1,9 @@
 pub mod Bits
 pub mod Columns
+pub mod Arrays
 pub mod Layout
 pub mod WellFormed
 pub mod Rows
 pub mod Checks
 pub mod Judging
 pub mod Calls
-pub mod Claims
-pub mod CheckedTable

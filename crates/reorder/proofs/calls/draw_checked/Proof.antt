@@ -7,7 +7,7 @@ use denote.Ref.{now}
 use Rattle.reorder.specs.declared.calls.Drawn.{Drawn}
 use Rattle.reorder.specs.Bits.{heldIn}
 use Rattle.reorder.specs.WellFormed.{wellFormed}
-use Rattle.reorder.specs.Claims.{Machine}
+use Rattle.reorder.specs.Arrays.{Machine}
 use Rattle.reorder.proofs.MachineLaws.{owned-machine}
 use Rattle.reorder.specs.Layout.{entriesFrom}
 use Rattle.reorder.specs.Calls.{DrawOutcome, drawNumbers, drawFirst}
