@@ -16,7 +16,7 @@ use Rattle.playout.specs.Sizes.{storeSize}
 use Rattle.reorder.specs.Layout.{fresh}
 use Rattle.reorder.specs.Calls.{OfferOutcome, offerRefused, drawRefused}
 use Rattle.delivery.specs.Claims.{Offer, State, offered, afterOffer, afterOffers, offerAnswers, offerRefusal, drawn, draws, drawRefusal, served, servedCount}
-use Rattle.reorder.proofs.FormBackLaws.{fresh-formed}
+use Rattle.reorder.proofs.WellFormedLaws.{fresh-formed}
 use Rattle.reorder.proofs.CallLaws.{offer-rows, offer-store, draw-store}
 
 module _ (st : Settings) (range : inRange st ≡ true) (s : List ℕ) (short : length s < storeSize) where

@@ -22,7 +22,7 @@ use Rattle.reorder.specs.Calls.{NewOutcome, OfferOutcome, offerCall, offerRead,
 use Rattle.reorder.specs.Arrays.{Machine}
 use Rattle.delivery.specs.Claims.{KeepsWellFormed}
 use Rattle.reorder.proofs.CallLaws.{new-in, offer-out, offer-rows, offer-store, offer-reads, draw-out, draw-store, draw-area, draw-goes}
-use Rattle.reorder.proofs.FormBackLaws.{fresh-formed}
+use Rattle.reorder.proofs.WellFormedLaws.{fresh-formed}
 use Rattle.reorder.proofs.StateLaws.{judgeAll-good, draw-good}
 use Rattle.reorder.proofs.BridgeLaws.{buffer-good, good-fine}
 use Rattle.reorder.proofs.CopyLaws.{read-fit}

@@ -1,5 +1,6 @@
 pub mod Bits
 pub mod Columns
+pub mod Model
 pub mod Arrays
 pub mod Layout
 pub mod WellFormed
