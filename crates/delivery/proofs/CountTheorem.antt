@@ -18,7 +18,8 @@ use Rattle.playout.proofs.SoundLaws.{fresh, drawnFirst}
 use Rattle.reorder.specs.Bits.{heldIn}
 use lib.Count.{ones}
 use Rattle.reorder.specs.Layout.{encode, fresh as freshBuffer}
-use Rattle.reorder.specs.Calls.{OfferOutcome, DrawOutcome, drawFirst}
+use Rattle.reorder.specs.Calls.{OfferOutcome, DrawOutcome}
+use Rattle.reorder.proofs.CallLaws.{drawFirst}
 use Rattle.delivery.specs.Claims.{Offer, State, offered, begun, afterOffer, afterDraw, Call, offering, drawing, Tally, takes, tallied, Count}
 use Rattle.reorder.proofs.WordLaws.{held-slots}
 use Rattle.reorder.proofs.StateLaws.{Good, draw-good}

@@ -21,7 +21,8 @@ use Rattle.rtp.specs.Refusals.{number}
 use Rattle.rtp.specs.declared.refusal.Refusal.the-variants.{AreaTooShort}
 use Rattle.reorder.specs.declared.buffer.Buffer.{Buffer}
 use Rattle.reorder.specs.Layout.{encode}
-use Rattle.reorder.specs.Calls.{DrawOutcome, drawRefused, drawFirst}
+use Rattle.reorder.specs.Calls.{DrawOutcome, drawRefused}
+use Rattle.reorder.proofs.CallLaws.{drawFirst}
 use Rattle.delivery.specs.Claims.{Offer, State, offered, afterOffer, afterOffers, offerAnswers, offerRefusal, accepted, drawn, afterDraw, draws, drawRefusal, Served, served, handed, nothing, inTurn, servedCount}
 use Rattle.reorder.proofs.StateLaws.{Good, good-sound, draw-good}
 use Rattle.reorder.proofs.CopyLaws.{fits-frames}

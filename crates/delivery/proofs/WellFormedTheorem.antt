@@ -18,10 +18,10 @@ use Rattle.reorder.specs.declared.buffer.Buffer.{Buffer}
 use Rattle.reorder.specs.Layout.{decode}
 use Rattle.reorder.specs.WellFormed.{wellFormed}
 use Rattle.reorder.specs.Rows.{copiesOf}
-use Rattle.reorder.specs.Calls.{NewOutcome, OfferOutcome, offerCall, offerRead, DrawOutcome, drawCall, drawFirst}
+use Rattle.reorder.specs.Calls.{NewOutcome, OfferOutcome, offerCall, DrawOutcome, drawCall}
 use Rattle.reorder.specs.Arrays.{Machine}
 use Rattle.delivery.specs.Claims.{KeepsWellFormed}
-use Rattle.reorder.proofs.CallLaws.{new-in, offer-out, offer-rows, offer-store, offer-reads, draw-out, draw-store, draw-area, draw-goes}
+use Rattle.reorder.proofs.CallLaws.{offerRead, drawFirst, new-in, offer-out, offer-rows, offer-store, offer-reads, draw-out, draw-store, draw-area, draw-goes}
 use Rattle.reorder.proofs.WellFormedLaws.{fresh-formed}
 use Rattle.reorder.proofs.StateLaws.{judgeAll-good, draw-good}
 use Rattle.reorder.proofs.BridgeLaws.{buffer-good, good-fine}

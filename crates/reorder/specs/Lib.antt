@@ -5,6 +5,7 @@ pub mod Arrays
 pub mod Layout
 pub mod WellFormed
 pub mod Rows
+pub mod ModelCalls
 pub mod Checks
 pub mod Judging
 pub mod Calls
