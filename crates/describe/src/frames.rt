@@ -1,9 +1,9 @@
 // Frames in words, from their rows.
 use crate::words;
 use libc::STDOUT_FILENO;
-use payload::contents::MAX_ROWS;
-use payload::reading::ROW_AREA;
-use payload::rows::ROW_WIDTH;
+use rtp::sizes::MAX_ROWS;
+use rtp::sizes::ROW_AREA;
+use rtp::sizes::ROW_WIDTH;
 
 // A frame, by the four words of its row.
 fn print_words(time: u32, class_and_channel: u32, start: u32, length: u32) {
