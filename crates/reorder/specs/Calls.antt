@@ -15,7 +15,7 @@ use Rattle.payload.specs.Rows.{words}
 use Rattle.packet.specs.Readings.{Outcome, refused, readAs, reading}
 use Rattle.playout.specs.Sizes.{slotSize, storeSize}
 use Rattle.playout.specs.Entries.{Entry, Held, frameOf}
-use Rattle.playout.specs.Verdicts.{Counts, noCounts, Gathered, judgeAll}
+use Rattle.playout.specs.Verdicts.{Counts, noCounts, tally, Gathered, judgeAll}
 use Rattle.reorder.specs.declared.buffer.Buffer.{Buffer}
 use Rattle.reorder.specs.declared.calls.NewAnswer.{NewAnswer}
 use Rattle.reorder.specs.declared.calls.OfferAnswer.{OfferAnswer}
@@ -82,12 +82,12 @@ abbrev pub offerRefused : Refusal → Buffer → List ℕ → List ℕ → Offer
 offerRefused r b rows store = record { answer = countNumbers (number r) noCounts; buffer = b; rows = rows; store = store }
 
 abbrev pub offerJudged : Settings → Gathered → List ℕ → OfferOutcome
-offerJudged st g rows = record { answer = countNumbers 0 (g .counts); buffer = encode st (g .held); rows = rows; store = g .store }
+offerJudged st g rows = record { answer = countNumbers 0 (tally noCounts (g .judgements)); buffer = encode st (g .held); rows = rows; store = g .store }
 
 -- a packet that was read, or not: its rows are judged in order
 abbrev pub offerRead : Buffer → List ℕ → List ℕ → List ℕ → Outcome → OfferOutcome
 offerRead b packet rows store (refused r) = offerRefused r b rows store
-offerRead b packet rows store (readAs h rs) = offerJudged (b .settings) (judgeAll (decode b) store noCounts (copiesOf packet rs)) (over (words rs) rows)
+offerRead b packet rows store (readAs h rs) = offerJudged (b .settings) (judgeAll (decode b) store (copiesOf packet rs)) (over (words rs) rows)
 
 -- an offer of a packet: 11, 15, 12, then reading's own refusals
 unfoldable pub offerCall : Buffer → List ℕ → List ℕ → List ℕ → OfferOutcome
