@@ -15,7 +15,7 @@ use Rattle.playout.proofs.JudgeLaws.{judgeAll-count, tally-append}
 use Rattle.playout.proofs.SoundLaws.{fresh, drawnFirst}
 use Rattle.reorder.specs.Layout.{encode}
 use Rattle.reorder.specs.Rows.{copiesOf}
-use Rattle.reorder.proofs.BridgeLaws.{good-back}
+use Rattle.reorder.proofs.BufferLaws.{good-back}
 use Rattle.delivery.specs.Runs.{State, lent, Offer, Call, offer, draw, Yield, Step, Run, run, judged, served, frames}
 use Rattle.delivery.specs.Claims.{framesHeld, Count}
 use Rattle.delivery.proofs.StepLaws.{spare, Fine, at, fresh-fine, begun-at, offer-cases, judged-fine, draw-cases, drawn-fine}

@@ -16,7 +16,7 @@ use Rattle.encoder.specs.Plans.{maxPayload}
 use Rattle.encoder.specs.Writings.{Encoded, noBytes, bytesOf, writing, writtenNumbers, encodedNumbers}
 use Rattle.encoder.proofs.WritingTheorems.{round-trip}
 use Rattle.reorder.specs.declared.buffer.Buffer.{Buffer}
-use Rattle.reorder.specs.declared.calls.Tally.{Tally}
+use Rattle.reorder.specs.declared.tally.Tally.{Tally}
 use Rattle.reorder.specs.declared.calls.DrawnFrame.{DrawnFrame}
 use Rattle.reorder.specs.declared.calls.NewAnswer.{NewAnswer}
 use Rattle.reorder.specs.declared.calls.OfferAnswer.{OfferAnswer}

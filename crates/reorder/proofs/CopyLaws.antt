@@ -12,6 +12,7 @@ use Rattle.rtp.specs.Ranges.{inRange}
 use Rattle.rtp.specs.declared.settings.Settings.{Settings}
 use Rattle.rtp.specs.declared.header.Header.{Header}
 use Rattle.rtp.proofs.TestLaws.{by-test}
+use Rattle.rtp.proofs.RangeLaws.{few-channels}
 use Rattle.payload.specs.Frames.{noData}
 use Rattle.payload.specs.Codes.{noCode, codeFor}
 use Rattle.payload.specs.Rows.{Row}
@@ -24,7 +25,6 @@ use Rattle.reorder.specs.Model.{allowed}
 use Rattle.reorder.specs.Rows.{copyOf, copiesOf, readCopies}
 use Rattle.reorder.specs.Judging.{RowAllowed, RowsAllowed}
 use Rattle.reorder.proofs.StateLaws.{Fit, Fits, fit-frame}
-use Rattle.reorder.proofs.BridgeLaws.{few-channels}
 
 -- a frame's bytes are as many as its row says
 pub frame-size : (packet : List ℕ) (start n : ℕ) → start + n ≤ length packet → length (take n (drop start packet)) ≡ n

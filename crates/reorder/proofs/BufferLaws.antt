@@ -10,13 +10,13 @@ use borrow.Author.Tests.{ltb-true, ltb-false, eqb-true, eqb-false}
 use Rattle.rtp.specs.Ranges.{inRange}
 use Rattle.rtp.specs.declared.settings.Settings.{Settings}
 use Rattle.rtp.proofs.TestLaws.{by-test, not-both}
-pub use Rattle.rtp.proofs.RangeLaws.{few-channels}
+use Rattle.rtp.proofs.RangeLaws.{few-channels}
 use Rattle.playout.specs.Sizes.{slots, slotSize, storeSize}
 use Rattle.playout.specs.Entries.{Entry, Held}
 use Rattle.playout.proofs.SoundLaws.{Sound}
 use Rattle.reorder.specs.declared.buffer.Buffer.{Buffer}
 use Rattle.reorder.specs.Bits.{heldIn, wordsOf}
-use Rattle.reorder.specs.Layout.{tagOf, padTo, column, encode, decode}
+use Rattle.reorder.specs.Layout.{entryTag, padTo, column, encode, decode}
 use Rattle.reorder.specs.WellFormed.{wellFormed}
 use Rattle.reorder.specs.Arrays.{Column, Machine}
 use Rattle.reorder.proofs.LayoutLaws.{column-length, decode-encode}
@@ -60,7 +60,7 @@ module _ (st : Settings) (h : Held) (s : List ℕ) (g : Good st h s) where
       let S = good-sound st h s g in
       record {
         times = column-word (λ e. e .time) (h .entries) (g .words);
-        tags = column-word tagOf (h .entries) (λ e m. let i = S .each e m in omega (arith, i .octet, i .class .1));
+        tags = column-word entryTag (h .entries) (λ e m. let i = S .each e m in omega (arith, i .octet, i .class .1));
         lengths = column-word (λ e. e .length) (h .entries) (λ e m. let i = S .each e m in omega (arith, i .size));
         slots-column = column-word (λ e. e .slot) (h .entries) (λ e m. let i = S .each e m in omega (arith, i .slot));
         occupied = refl;
