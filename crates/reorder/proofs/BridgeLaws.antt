@@ -19,8 +19,7 @@ use Rattle.reorder.specs.Layout.{tagOf, padTo, column, encode, decode}
 use Rattle.reorder.specs.WellFormed.{wellFormed}
 use Rattle.reorder.specs.Arrays.{Column, Machine}
 use Rattle.reorder.proofs.LayoutLaws.{column-length, decode-encode}
-use Rattle.reorder.proofs.FormLaws.{Facts, facts, times-word}
-use Rattle.reorder.proofs.FormBackLaws.{well-formed}
+use Rattle.reorder.proofs.WellFormedLaws.{facts, times-word, well-formed}
 use Rattle.reorder.proofs.StateLaws.{Good, good-sound}
 
 -- channels in range

@@ -1,12 +1,13 @@
 pub mod BitLaws
 pub mod ColumnLaws
-pub mod TurnLaws
+pub mod PositionLaws
 pub mod CheckLaws
 pub mod WordLaws
 pub mod LayoutLaws
 pub mod PlaceLaws
-pub mod FormLaws
-pub mod FormBackLaws
+pub mod ModelLaws
+pub mod PassLaws
+pub mod WellFormedLaws
 pub mod AllowedLaws
 pub mod FreeLaws
 pub mod CallLaws

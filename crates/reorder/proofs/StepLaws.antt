@@ -31,7 +31,7 @@ use Rattle.reorder.proofs.WordLaws.{slotOf, slotsOf, free-is}
 use Rattle.reorder.proofs.FreeLaws.{free-when-room}
 use Rattle.reorder.proofs.LayoutLaws.{noEntry, at-member, column-insert, column-set, column-same, words-insert, words-set}
 use Rattle.reorder.proofs.PlaceLaws.{AtPlace, place-at, fits-is}
-use Rattle.reorder.proofs.FormLaws.{facts, decode-length, words-held, encode-decode}
+use Rattle.reorder.proofs.WellFormedLaws.{facts, decode-length, words-held, encode-decode}
 use Rattle.reorder.proofs.AllowedLaws.{allowed-frame}
 
 -- the entry at a place of the list is that at the place of the columns

@@ -25,7 +25,8 @@ use Rattle.reorder.specs.declared.judging.FrameHead.{FrameHead}
 use Rattle.reorder.specs.Bits.{heldIn, lowestFree, marked}
 use Rattle.reorder.specs.Columns.{insertAt}
 use Rattle.reorder.specs.Layout.{encode, decode}
-use Rattle.reorder.specs.WellFormed.{allowed, wellFormed}
+use Rattle.reorder.specs.Model.{allowed}
+use Rattle.reorder.specs.WellFormed.{wellFormed}
 use Rattle.reorder.specs.Arrays.{Machine}
 
 abbrev pub isLateOf : Fixed → FrameHead → Bool
