@@ -9,6 +9,7 @@ use lib.Dec.{eqb}
 use borrow.Author.Tests.{le-leb, eq-eqb, leb-true, eqb-true}
 use Rattle.rtp.specs.Ranges.{gsmHr}
 use Rattle.rtp.proofs.TestLaws.{by-test, not-both}
+pub use Rattle.rtp.proofs.TestLaws.{both, either}
 use Rattle.payload.specs.Contents.{Group, groups}
 use Rattle.payload.specs.Rows.{Row}
 use Rattle.payload.specs.Codes.{noCode, codeFor}
@@ -16,15 +17,6 @@ use Rattle.encoder.specs.Plans.{maxGap, headGap, single, joins, attach}
 use Rattle.encoder.proofs.EntryBackLaws.{Run}
 use Rattle.encoder.proofs.TableBackLaws.{Runs}
 use Rattle.encoder.proofs.TableBlockLaws.{Block, blocksIn}
-
--- a test that passes after others
-pub both : (t b : Bool) → cond t b false ≡ true → (t ≡ true) × (b ≡ true)
-both true b h = (refl, h)
-both false b h = not-both false h refl
-
-pub either : (t b : Bool) → cond t false b ≡ true → (t ≡ false) × (b ≡ true)
-either true b h = not-both false h refl
-either false b h = (refl, h)
 
 -- what joining a run means
 pub record Joined (format : ℕ) (r : Row) (g : Group) : Type 0 where

@@ -5,13 +5,11 @@ use rtp::bytes;
 use rtp::refusal::Refusal;
 use rtp::settings::G719_INTERLEAVED;
 use rtp::settings::GSM_HR;
+use rtp::sizes::MAX_ROWS;
 ghost use mathlib.Core.Path.{_≡_};
 ghost use Prim.Native.Nat.{_+_, _<_, _≤_};
 ghost use lib.ListN.{length};
 ghost use Rattle.payload.specs.Contents.{minEntry, codeIn, blocksIn, entrySize, entryOf, contents, sizesAnswer, gapAt, gapEnd};
-
-// The most rows of a packet.
-pub const MAX_ROWS: usize = 128;
 
 // One table entry: whether another follows, the frames' class and length, the number of frame-blocks, and the entry's own bytes.
 pub struct Entry {

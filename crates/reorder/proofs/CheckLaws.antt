@@ -20,15 +20,7 @@ use Rattle.reorder.specs.Layout.{entryAt, entriesFrom, assembled}
 use Rattle.reorder.specs.Model.{allowed}
 use Rattle.reorder.specs.Checks.{classFine, ascends, passes, allPass}
 use Rattle.reorder.proofs.PositionLaws.{up, turn}
-use Rattle.rtp.proofs.TestLaws.{not-both}
-
--- two tests in turn
-pub in-turn : (a b : Bool) → cond a b false ≡ true → (a ≡ true) × (b ≡ true)
-in-turn true b h = (refl, h)
-in-turn false b h = not-both false h refl
-
-pub and-then : (a b : Bool) → a ≡ true → b ≡ true → cond a b false ≡ true
-and-then a b p q = ap (λ (x : Bool). cond x b false) p ∙ q
+use Rattle.rtp.proofs.TestLaws.{both}
 
 -- a callee's answer, tested by `if !`
 pub passed : {r t : Bool} → r ≡ t → not r ≡ false → t ≡ true
@@ -39,7 +31,7 @@ failed {r = r} e h = sym e ∙ not-true r h
 
 -- a slot that is free
 pub free-parts : (ws : List ℕ) (s : ℕ) → isFree ws s ≡ true → (s < slots) × (markOf ws s ≡ 0)
-free-parts ws s h = let a = in-turn (ltb s slots) (eqb (markOf ws s) 0) h in (ltb-true s slots (a .0), eqb-true (markOf ws s) 0 (a .1))
+free-parts ws s h = let a = both (ltb s slots) (eqb (markOf ws s) 0) h in (ltb-true s slots (a .0), eqb-true (markOf ws s) 0 (a .1))
 
 pub claimed-free : (ws : List ℕ) (s : ℕ) → isFree ws s ≡ true → claimed ws s ≡ marked ws s
 claimed-free ws s h = ap (λ (b : Bool). cond b (marked ws s) ws) h

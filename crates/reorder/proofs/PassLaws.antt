@@ -22,7 +22,8 @@ use Rattle.reorder.specs.Layout.{isFlag, unusedZero, marksKept, laidOut,
 use Rattle.reorder.specs.Model.{allowed, ascending, inStretch, afterLast, fine}
 use Rattle.reorder.specs.WellFormed.{wellFormed}
 use Rattle.reorder.specs.Checks.{lastKept, sinceLast, ascends, passes, allPass, entriesPass}
-use Rattle.reorder.proofs.CheckLaws.{in-turn, and-then, free-parts}
+use Rattle.rtp.proofs.TestLaws.{both as in-turn, and-then}
+use Rattle.reorder.proofs.CheckLaws.{free-parts}
 use Rattle.reorder.proofs.WordLaws.{slotsOf, countIn, Distinct, count-none, count-here, distinct-none, distinct-cons, mark-count, words-cons}
 use Rattle.reorder.proofs.LayoutLaws.{by-flag}
 use Rattle.reorder.proofs.ModelLaws.{both, and, EntryTests, entry-tests, Clauses, clauses, from-clauses, apart-distinct, distinct-apart}

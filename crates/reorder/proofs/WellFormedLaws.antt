@@ -20,7 +20,7 @@ use Rattle.reorder.specs.Layout.{tagOf, padTo, column, flagOf, encode, e
 use Rattle.reorder.specs.Model.{ascending, slotsApart, entriesFine, fine}
 use Rattle.reorder.specs.WellFormed.{wellFormed}
 use Rattle.reorder.specs.Arrays.{Machine}
-use Rattle.reorder.proofs.CheckLaws.{in-turn, and-then}
+use Rattle.rtp.proofs.TestLaws.{both as in-turn, and-then}
 use Rattle.reorder.proofs.WordLaws.{slotOf, slotsOf, held-slots}
 use Rattle.reorder.proofs.LayoutLaws.{by-flag, Octets, decode-encode}
 use Rattle.reorder.proofs.ModelLaws.{both, and, Facts, fine-facts, facts-fine}

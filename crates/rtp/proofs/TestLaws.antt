@@ -1,6 +1,6 @@
 -- Laws of tests.
-use mathlib.Core.Path.{_≡_, refl}
-use mathlib.Core.Bool.{Bool, true, false}
+use mathlib.Core.Path.{_≡_, refl, ap, _∙_}
+use mathlib.Core.Bool.{Bool, true, false, cond}
 
 -- both ways of a test
 pub by-test {ℓ} : {P : Type ℓ} (b : Bool) → (b ≡ true → P) → (b ≡ false → P) → P
@@ -17,3 +17,16 @@ not-both b p q = let z : _≡_ {A = Bool} true false = cc in absurd (false-is-no
 
     false-is-not-true : _≡_ {A = Bool} true false → ⊥
     false-is-not-true z = mathlib.Core.Path.subst Is z tt
+
+-- a test and then another
+pub both : (a b : Bool) → cond a b false ≡ true → (a ≡ true) × (b ≡ true)
+both true b h = (refl, h)
+both false b h = not-both false h refl
+
+pub and-then : (a b : Bool) → a ≡ true → b ≡ true → cond a b false ≡ true
+and-then a b p q = ap (λ (x : Bool). cond x b false) p ∙ q
+
+-- a test that must fail, and then another
+pub either : (a b : Bool) → cond a false b ≡ true → (a ≡ false) × (b ≡ true)
+either true b h = not-both false h refl
+either false b h = (refl, h)

@@ -1,4 +1,3 @@
-pub mod RangeLaws
 pub mod HeaderBackLaws
 pub mod SameFrameLaws
 pub mod PayloadBackLaws

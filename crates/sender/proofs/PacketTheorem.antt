@@ -24,7 +24,7 @@ use Rattle.encoder.proofs.PlanRowLaws.{Times}
 use Rattle.sender.specs.Parts.{maxRedundant, total, primaryTime, Part, Parts, noParts, partsOf, parts}
 use Rattle.sender.specs.Packets.{Heading, headerBytes, bodyBytes, packetType, redundancyMissing, assembledFrom, assembled, countsFit, sending}
 use Rattle.sender.specs.Claims.{ReadsBack, PacketRoundTrip}
-use Rattle.sender.proofs.RangeLaws.{Ranged, ranged}
+use Rattle.rtp.proofs.RangeLaws.{Ranged, ranged}
 use Rattle.sender.proofs.HeaderBackLaws.{headOf, header-back, payload-after}
 use Rattle.sender.proofs.PayloadBackLaws.{Back, payload-back}
 use Rattle.sender.proofs.PartLaws.{Made, made, primary-small}
