@@ -207,7 +207,7 @@ module _ (st : Settings) (range : inRange st ≡ true) (h : Held) (g : Fine st h
       went : (r : DrawOutcome) → drawCall (encode st h) s area ≡ r → P (drawOf r) → P (drawOf (drawCall (encode st h) s area))
       went r e p = subst (λ (x : DrawOutcome). P (drawOf x)) (sym e) p
 
-      first : cond (ltb (length s) storeSize) (number AreaTooShort) (cond (ltb (length area) slotSize) (number AreaTooShort) 0) ≡ 0 → storeSize ≤ length s → (es : List Entry) → h .entries ≡ es → P (drawOf (drawFirst (encode st h) s area es))
+      first : drawRefusal s area ≡ 0 → storeSize ≤ length s → (es : List Entry) → h .entries ≡ es → P (drawOf (drawFirst (encode st h) s area es))
       first z room [] q = empty z q
       first z room (e ∷ es) q = frame z room e es q
 
