@@ -63,7 +63,7 @@ or-true : (p : Bool) → (p || true) ≡ true
 or-true true = refl
 or-true false = refl
 
-within-all : (b : ℕ) (es : List Entry) → ((e : Entry) → List·Memᴰ e es → ahead (e .time) b < half) → allWithin b es ≡ true
+pub within-all : (b : ℕ) (es : List Entry) → ((e : Entry) → List·Memᴰ e es → ahead (e .time) b < half) → allWithin b es ≡ true
 unfolding allWithin
 within-all b [] f = refl
 within-all b (h ∷ t) f = rw (lt-ltb (ahead (h .time) b) half (f h (here refl)), within-all b t (λ e m. f e (there m)))

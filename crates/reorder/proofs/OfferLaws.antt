@@ -27,10 +27,10 @@ use Rattle.reorder.specs.declared.calls.Tally.{Tally}
 use Rattle.reorder.specs.Layout.{encode, decode}
 use Rattle.reorder.specs.WellFormed.{wellFormed}
 use Rattle.reorder.specs.Rows.{copiesOf}
-use Rattle.reorder.specs.Claims.{Machine}
+use Rattle.reorder.specs.Arrays.{Machine}
 use Rattle.reorder.specs.Judging.{countsOf, RowsJudgeable, RowsJudged}
-use Rattle.reorder.specs.Calls.{countNumbers, offerRefused, offerRead, offerCall}
-use Rattle.reorder.proofs.CallLaws.{offer-reads}
+use Rattle.reorder.specs.Calls.{countNumbers, offerRefused, offerCall}
+use Rattle.reorder.proofs.CallLaws.{offerRead, offer-reads}
 use Rattle.reorder.proofs.BridgeLaws.{few-channels}
 use Rattle.reorder.proofs.CopyLaws.{rows-allowed}
 

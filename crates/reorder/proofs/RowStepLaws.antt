@@ -22,13 +22,14 @@ use Rattle.reorder.specs.declared.buffer.Buffer.{Buffer}
 use Rattle.reorder.specs.declared.calls.Tally.{Tally}
 use Rattle.reorder.specs.declared.judging.FrameHead.{FrameHead}
 use Rattle.reorder.specs.Layout.{encode, decode}
-use Rattle.reorder.specs.WellFormed.{allowed, wellFormed}
+use Rattle.reorder.specs.Model.{allowed}
+use Rattle.reorder.specs.WellFormed.{wellFormed}
 use Rattle.reorder.specs.Rows.{copyOf, copiesOf}
-use Rattle.reorder.specs.Claims.{Machine}
+use Rattle.reorder.specs.Arrays.{Machine}
 use Rattle.reorder.specs.Judging.{copyIn, Judgeable, JudgedAs, countsOf, RowsAllowed, RowsJudgeable, RowsJudged}
 use Rattle.reorder.proofs.StateLaws.{Good, judge-good}
 use Rattle.reorder.proofs.BridgeLaws.{few-channels, buffer-good, good-machine, good-fine, good-back}
-use Rattle.reorder.proofs.FormLaws.{encode-decode}
+use Rattle.reorder.proofs.WellFormedLaws.{encode-decode}
 use Rattle.reorder.proofs.CopyLaws.{frame-size}
 
 -- the row at the front of an area, and the area after it

@@ -17,9 +17,9 @@ use Rattle.playout.specs.Verdicts.{Judged, judge, Counts, counted, Gathered, ju
 use Rattle.playout.proofs.MergeLaws.{put-from}
 use Rattle.playout.proofs.JudgeLaws.{judge-cases, judge-last, judge-room}
 use Rattle.playout.proofs.SoundLaws.{IsFrame, Frames, IsEntry, Sound, fresh, judge-sound, judge-length, drawnFirst, draw-sound}
-use Rattle.reorder.specs.WellFormed.{allowed}
+use Rattle.reorder.specs.Model.{allowed}
 use Rattle.reorder.proofs.WordLaws.{SlotFacts}
-use Rattle.reorder.proofs.FormLaws.{EntryFacts, Facts}
+use Rattle.reorder.proofs.ModelLaws.{EntryFacts, Facts}
 use Rattle.reorder.proofs.AllowedLaws.{allowed-frame}
 
 -- the buffer's model, with its store, under settings in range

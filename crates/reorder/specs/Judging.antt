@@ -25,8 +25,9 @@ use Rattle.reorder.specs.declared.judging.FrameHead.{FrameHead}
 use Rattle.reorder.specs.Bits.{heldIn, lowestFree, marked}
 use Rattle.reorder.specs.Columns.{insertAt}
 use Rattle.reorder.specs.Layout.{encode, decode}
-use Rattle.reorder.specs.WellFormed.{allowed, wellFormed}
-use Rattle.reorder.specs.Claims.{Machine}
+use Rattle.reorder.specs.Model.{allowed}
+use Rattle.reorder.specs.WellFormed.{wellFormed}
+use Rattle.reorder.specs.Arrays.{Machine}
 
 abbrev pub isLateOf : Fixed → FrameHead → Bool
 isLateOf f h = cond (eqb (f .drawn) 1) (not (isAfter (order (h .time) (h .channel) (f .«last_time») (f .«last_channel»)))) false

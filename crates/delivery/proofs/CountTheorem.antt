@@ -15,16 +15,17 @@ use Rattle.playout.specs.Entries.{Entry, Held}
 use Rattle.playout.specs.Verdicts.{noCounts, judgeAll}
 use Rattle.playout.proofs.JudgeLaws.{judgeAll-count}
 use Rattle.playout.proofs.SoundLaws.{fresh, drawnFirst}
 use Rattle.reorder.specs.Bits.{heldIn}
 use lib.Count.{ones}
 use Rattle.reorder.specs.Layout.{encode, fresh as freshBuffer}
-use Rattle.reorder.specs.Calls.{OfferOutcome, DrawOutcome, drawFirst}
-use Rattle.reorder.specs.Claims.{Offer, State, offered, begun, afterOffer, afterDraw, Call, offering, drawing, Tally, takes, tallied, Count}
+use Rattle.reorder.specs.Calls.{OfferOutcome, DrawOutcome}
+use Rattle.reorder.proofs.CallLaws.{drawFirst}
+use Rattle.delivery.specs.Claims.{Offer, State, offered, begun, afterOffer, afterDraw, Call, offering, drawing, Tally, takes, tallied, Count}
 use Rattle.reorder.proofs.WordLaws.{held-slots}
 use Rattle.reorder.proofs.StateLaws.{Good, draw-good}
-use Rattle.reorder.proofs.RunLaws.{at, copiesIn, OfferStep, offer-step, offer-good, draw-short, draw-fits}
-use Rattle.reorder.proofs.ShortStoreLaws.{short-offer, short-draw}
-use Rattle.reorder.proofs.DemandTheorem.{fresh-good, begun-fresh, begun-is}
+use Rattle.delivery.proofs.RunLaws.{at, copiesIn, OfferStep, offer-step, offer-good, draw-short, draw-fits}
+use Rattle.delivery.proofs.ShortStoreLaws.{short-offer, short-draw}
+use Rattle.delivery.proofs.DemandTheorem.{fresh-good, begun-fresh, begun-is}
 
 abbrev tally : State → ℕ → ℕ → Tally
 tally s n k = record { state = s; inserted = n; taken = k }

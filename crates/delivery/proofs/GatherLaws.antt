@@ -19,10 +19,11 @@ use Rattle.playout.specs.Copies.{Copy}
 use Rattle.playout.specs.Entries.{Held}
 use Rattle.playout.specs.Verdicts.{Judged, judge, Counts, counted, Gathered, judgeAll}
 use Rattle.playout.proofs.SoundLaws.{Frames}
-use Rattle.reorder.specs.Claims.{Offer, offerRefusal, readRefusal, readCopies, accepted, Accepted}
+use Rattle.reorder.specs.Rows.{readCopies}
+use Rattle.delivery.specs.Claims.{Offer, offerRefusal, readRefusal, accepted, Accepted}
 use Rattle.reorder.proofs.StateLaws.{Fits}
 use Rattle.reorder.proofs.CopyLaws.{fits-append, fits-frames}
-use Rattle.reorder.proofs.RunLaws.{copiesIn, copies-in-fit}
+use Rattle.delivery.proofs.RunLaws.{copiesIn, copies-in-fit}
 
 pub gather-append : (h : Held) (s : List ℕ) (n : Counts) (xs ys : List Copy)
     → judgeAll h s n (xs ++ ys) ≡ judgeAll (judgeAll h s n xs .held) (judgeAll h s n xs .store) (judgeAll h s n xs .counts) ys

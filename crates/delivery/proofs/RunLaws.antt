@@ -22,14 +22,14 @@ use Rattle.playout.specs.Copies.{Copy}
 use Rattle.playout.specs.Entries.{Entry, Held, frameOf}
 use Rattle.playout.specs.Verdicts.{Counts, noCounts, Gathered, judgeAll}
 use Rattle.playout.proofs.SoundLaws.{drawnFirst}
 use Rattle.reorder.specs.Layout.{encode, decode}
-use Rattle.reorder.specs.Rows.{copiesOf}
-use Rattle.reorder.specs.Calls.{OfferOutcome, offerCall, offerRefused, offerRead, offerJudged, DrawOutcome, drawCall, drawRefused, drawFirst}
-use Rattle.reorder.specs.Claims.{Offer, State, offered, afterOffer, offerRefusal, readRefusal, readCopies, accepted, drawn, afterDraw, drawRefusal}
-use Rattle.reorder.proofs.CallLaws.{offer-rows, offer-reads, draw-area, draw-goes}
+use Rattle.reorder.specs.Rows.{readCopies}
+use Rattle.reorder.specs.Calls.{OfferOutcome, offerCall, offerRefused, DrawOutcome, drawCall, drawRefused}
+use Rattle.delivery.specs.Claims.{Offer, State, offered, afterOffer, offerRefusal, readRefusal, accepted, drawn, afterDraw, drawRefusal}
+use Rattle.reorder.proofs.CallLaws.{offerRead, drawFirst, offer-rows, offer-reads, draw-area, draw-goes}
 use Rattle.reorder.proofs.StateLaws.{Good, Fits, judgeAll-good}
 use Rattle.reorder.proofs.BridgeLaws.{good-fine, good-back}
 use Rattle.reorder.proofs.CopyLaws.{read-fit}
 
 -- the state of a model and a store
 abbrev pub at : Settings → Held → List ℕ → State

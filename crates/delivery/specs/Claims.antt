@@ -1,10 +1,10 @@
 -- The claims about lists of calls: well-formedness, the count, and demand 3. They speak of the definitions that the contracts of the three calls cite.
-use Prim.Native.Nat.{ℕ, zero, suc, _+_, _<_, _^_}
+use Prim.Native.Nat.{ℕ, zero, suc, _+_}
 use mathlib.Core.Path.{_≡_}
 use mathlib.Core.Logic.{_↔_}
 use mathlib.Core.List.{List, [], _∷_, _++_, map, List·Memᴰ}
 use mathlib.Core.Bool.{Bool, true, false, cond}
-use lib.ListN.{length, take, getD}
+use lib.ListN.{length, take}
 use lib.Dec.{ltb, eqb}
 use Rattle.rtp.specs.Sizes.{rowArea}
 use Rattle.rtp.specs.Ranges.{inRange}
@@ -15,11 +15,12 @@ use Rattle.packet.specs.Readings.{Outcome, refused, readAs, reading}
 use Rattle.playout.specs.Sizes.{slots, slotSize, storeSize}
 use Rattle.playout.specs.Copies.{Copy}
 use Rattle.playout.specs.Lists.{Playout, WithinStretch, AtMost}
 use Rattle.reorder.specs.declared.buffer.Buffer.{Buffer}
+use Rattle.reorder.specs.Arrays.{Machine}
 use Rattle.reorder.specs.Bits.{heldIn}
 use Rattle.reorder.specs.WellFormed.{wellFormed}
-use Rattle.reorder.specs.Rows.{copiesOf}
+use Rattle.reorder.specs.Rows.{readCopies}
 use Rattle.reorder.specs.Calls.{newCall, OfferNumbers, OfferOutcome, offerCall, DrawNumbers, noFrame, DrawOutcome, drawCall}
 
 -- Lists of calls: each call gets the buffer that the last one returned, and the store as the last one left it
 
@@ -74,11 +75,6 @@ offerRefusal st store o =
 -- the refusal that a draw gets
 unfoldable pub drawRefusal : List ℕ → List ℕ → ℕ
 drawRefusal store area = cond (ltb (length store) storeSize) (number AreaTooShort) (cond (ltb (length area) slotSize) (number AreaTooShort) 0)
-
--- the copies of a packet that is read
-abbrev pub readCopies : List ℕ → Outcome → List Copy
-readCopies packet (refused r) = []
-readCopies packet (readAs h rs) = copiesOf packet rs
 
 -- the copies accepted: of every offer that is not refused, the rows of a class other than no data
 unfoldable pub accepted : Settings → List ℕ → List Offer → List Copy
@@ -145,18 +141,6 @@ abbrev pub Demand : Type 0
 Demand = (st : Settings) (store : List ℕ) (os : List Offer) → inRange st ≡ true → Demand3 st store os
 
 -- Well-formedness
-
--- the columns of a buffer have 192 words of 32 bits, and there are three words of marks, as in the code's arrays
-abbrev pub Column : List ℕ → Type 0
-Column xs = (length xs ≡ slots) × ((i : ℕ) → getD xs i 0 < 2 ^ 32)
-
-pub record Machine (b : Buffer) : Type 0 where
-  pub times : Column (b .times)
-  pub tags : Column (b .tags)
-  pub lengths : Column (b .lengths)
-  pub slots-column : Column (b .slots)
-  pub occupied : length (b .occupied) ≡ 3
-  pub last-time : b .«last_time» < 2 ^ 32
 
 -- a fresh buffer is well-formed, and the calls keep a buffer so
 pub record KeepsWellFormed : Type 0 where

@@ -18,18 +18,18 @@ use Rattle.playout.specs.Verdicts.{noCounts, Gathered, judgeAll}
 use Rattle.playout.specs.Lists.{Playout, WithinStretch, AtMost, Distinct}
 use Rattle.playout.proofs.SoundLaws.{Frames, fresh}
 use Rattle.playout.proofs.PlayoutLaws.{gathered, playout-of, playout-unique}
 use Rattle.reorder.specs.declared.buffer.Buffer.{Buffer}
 use Rattle.reorder.specs.Layout.{fresh as freshBuffer}
 use Rattle.reorder.proofs.LayoutLaws.{fresh-encode}
 use Rattle.reorder.specs.Calls.{newCall, NewOutcome}
-use Rattle.reorder.specs.Claims.{Offer, State, begun, afterOffers, offerAnswers, offerRefusal, accepted, Accepted, draws, drawRefusal, served, inTurn, servedCount, Demand3, Demand}
+use Rattle.delivery.specs.Claims.{Offer, State, begun, afterOffers, offerAnswers, offerRefusal, accepted, Accepted, draws, drawRefusal, served, inTurn, servedCount, Demand3, Demand}
 use Rattle.reorder.proofs.CallLaws.{new-in}
 use Rattle.reorder.proofs.StateLaws.{Good}
 use Rattle.reorder.proofs.CopyLaws.{fits-frames}
-use Rattle.reorder.proofs.GatherLaws.{accepted-fit, same-copies}
-use Rattle.reorder.proofs.RunLaws.{at}
-use Rattle.reorder.proofs.ListRunLaws.{OffersRun, offers-run, offers-refused, draws-turn, draws-refused}
-use Rattle.reorder.proofs.ShortStoreLaws.{short-offers, short-answers, short-draws, short-served, short-count}
+use Rattle.delivery.proofs.GatherLaws.{accepted-fit, same-copies}
+use Rattle.delivery.proofs.RunLaws.{at}
+use Rattle.delivery.proofs.ListRunLaws.{OffersRun, offers-run, offers-refused, draws-turn, draws-refused}
+use Rattle.delivery.proofs.ShortStoreLaws.{short-offers, short-answers, short-draws, short-served, short-count}
 
 -- some store with room
 spare : (s : List ℕ) × (storeSize ≤ length s)

@@ -19,14 +19,15 @@ use Rattle.playout.specs.Verdicts.{Counts, noCounts, Gathered, judgeAll}
 use Rattle.playout.proofs.SoundLaws.{drawnFirst, frame-length, judgeAll-length}
 use Rattle.rtp.specs.Refusals.{number}
 use Rattle.rtp.specs.declared.refusal.Refusal.the-variants.{AreaTooShort}
 use Rattle.reorder.specs.declared.buffer.Buffer.{Buffer}
 use Rattle.reorder.specs.Layout.{encode}
-use Rattle.reorder.specs.Calls.{DrawOutcome, drawRefused, drawFirst}
-use Rattle.reorder.specs.Claims.{Offer, State, offered, afterOffer, afterOffers, offerAnswers, offerRefusal, accepted, drawn, afterDraw, draws, drawRefusal, Served, served, handed, nothing, inTurn, servedCount}
+use Rattle.reorder.specs.Calls.{DrawOutcome, drawRefused}
+use Rattle.reorder.proofs.CallLaws.{drawFirst}
+use Rattle.delivery.specs.Claims.{Offer, State, offered, afterOffer, afterOffers, offerAnswers, offerRefusal, accepted, drawn, afterDraw, draws, drawRefusal, Served, served, handed, nothing, inTurn, servedCount}
 use Rattle.reorder.proofs.StateLaws.{Good, good-sound, draw-good}
 use Rattle.reorder.proofs.CopyLaws.{fits-frames}
-use Rattle.reorder.proofs.RunLaws.{at, copiesIn, copies-in-fit, OfferStep, offer-step, offer-good, draw-short, draw-fits}
-use Rattle.reorder.proofs.GatherLaws.{gather-append, gather-held, gather-store, refusal-length, accepted-length}
+use Rattle.delivery.proofs.RunLaws.{at, copiesIn, copies-in-fit, OfferStep, offer-step, offer-good, draw-short, draw-fits}
+use Rattle.delivery.proofs.GatherLaws.{gather-append, gather-held, gather-store, refusal-length, accepted-length}
 
 module _ (st : Settings) (range : inRange st ≡ true) where
   -- the store keeps its length

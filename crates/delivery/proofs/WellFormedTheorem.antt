@@ -14,17 +14,18 @@ use Rattle.playout.specs.Sizes.{slotSize, storeSize}
 use Rattle.playout.specs.Entries.{Entry}
 use Rattle.playout.specs.Verdicts.{noCounts, judgeAll}
 use Rattle.playout.proofs.SoundLaws.{drawnFirst}
 use Rattle.reorder.specs.declared.buffer.Buffer.{Buffer}
 use Rattle.reorder.specs.Layout.{decode}
 use Rattle.reorder.specs.WellFormed.{wellFormed}
 use Rattle.reorder.specs.Rows.{copiesOf}
-use Rattle.reorder.specs.Calls.{NewOutcome, OfferOutcome, offerCall, offerRead, DrawOutcome, drawCall, drawFirst}
-use Rattle.reorder.specs.Claims.{Machine, KeepsWellFormed}
-use Rattle.reorder.proofs.CallLaws.{new-in, offer-out, offer-rows, offer-store, offer-reads, draw-out, draw-store, draw-area, draw-goes}
-use Rattle.reorder.proofs.FormBackLaws.{fresh-formed}
+use Rattle.reorder.specs.Calls.{NewOutcome, OfferOutcome, offerCall, DrawOutcome, drawCall}
+use Rattle.reorder.specs.Arrays.{Machine}
+use Rattle.delivery.specs.Claims.{KeepsWellFormed}
+use Rattle.reorder.proofs.CallLaws.{offerRead, drawFirst, new-in, offer-out, offer-rows, offer-store, offer-reads, draw-out, draw-store, draw-area, draw-goes}
+use Rattle.reorder.proofs.WellFormedLaws.{fresh-formed}
 use Rattle.reorder.proofs.StateLaws.{judgeAll-good, draw-good}
 use Rattle.reorder.proofs.BridgeLaws.{buffer-good, good-fine}
 use Rattle.reorder.proofs.CopyLaws.{read-fit}
 
 module _ (b : Buffer) (m : Machine b) (w : wellFormed b ≡ true) where
   module _ (packet rows store : List ℕ) where

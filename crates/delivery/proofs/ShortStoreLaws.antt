@@ -13,11 +13,11 @@ use Rattle.rtp.specs.declared.settings.Settings.{Settings}
 use Rattle.rtp.specs.declared.refusal.Refusal.the-variants.{AreaTooShort}
 use Rattle.rtp.proofs.TestLaws.{by-test}
 use Rattle.playout.specs.Sizes.{storeSize}
 use Rattle.reorder.specs.Layout.{fresh}
 use Rattle.reorder.specs.Calls.{OfferOutcome, offerRefused, drawRefused}
-use Rattle.reorder.specs.Claims.{Offer, State, offered, afterOffer, afterOffers, offerAnswers, offerRefusal, drawn, draws, drawRefusal, served, servedCount}
-use Rattle.reorder.proofs.FormBackLaws.{fresh-formed}
+use Rattle.delivery.specs.Claims.{Offer, State, offered, afterOffer, afterOffers, offerAnswers, offerRefusal, drawn, draws, drawRefusal, served, servedCount}
+use Rattle.reorder.proofs.WellFormedLaws.{fresh-formed}
 use Rattle.reorder.proofs.CallLaws.{offer-rows, offer-store, draw-store}
 
 module _ (st : Settings) (range : inRange st ≡ true) (s : List ℕ) (short : length s < storeSize) where
   abbrev idle : State
