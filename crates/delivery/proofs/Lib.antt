@@ -1,7 +1,7 @@
+pub mod StepLaws
 pub mod RunLaws
-pub mod GatherLaws
-pub mod ListRunLaws
-pub mod ShortStoreLaws
+pub mod AcceptedLaws
+pub mod DrawLaws
 pub mod DemandTheorem
 pub mod CountTheorem
 pub mod WellFormedTheorem

@@ -1,90 +1,78 @@
--- Laws of one call in a list of calls: the state between calls is the buffer of a model, and a store with room.
-use mathlib.Core.Path.{_≡_, refl, ap, sym, _∙_, subst}
-use mathlib.Core.List.{List, [], _∷_, _++_}
+-- Laws of runs from the buffer of a model: what is refused, and the buffer that is left.
+use mathlib.Core.Path.{_≡_, refl, ap, ap₂, sym, _∙_}
+use mathlib.Core.List.{List, [], _∷_, map}
 use mathlib.Core.Bool.{Bool, true, false, cond}
-use Prim.Native.Nat.{ℕ, zero, suc, _+_, _≤_, _<_}
-use native.Mathlib.Omega.{arith}
+use Prim.Native.Nat.{ℕ}
 use lib.ListN.{length}
-use lib.Dec.{ltb, eqb}
-use borrow.Author.Tests.{lt-ltb, le-ltb, ltb-true, ltb-false, ne-eqb, eqb-true, eqb-false}
-use Rattle.rtp.specs.Sizes.{rowArea}
 use Rattle.rtp.specs.Ranges.{inRange}
 use Rattle.rtp.specs.Refusals.{number}
-use Rattle.rtp.specs.Areas.{over}
 use Rattle.rtp.specs.declared.settings.Settings.{Settings}
-use Rattle.rtp.specs.declared.refusal.Refusal.{Refusal}
 use Rattle.rtp.specs.declared.refusal.Refusal.the-variants.{AreaTooShort}
-use Rattle.rtp.proofs.TestLaws.{by-test}
-use Rattle.rtp.proofs.RefusalLaws.{number-positive}
-use Rattle.packet.specs.Readings.{Outcome, refused, readAs, reading}
-use Rattle.playout.specs.Sizes.{slotSize, storeSize}
-use Rattle.playout.specs.Copies.{Copy}
-use Rattle.playout.specs.Entries.{Entry, Held, frameOf}
-use Rattle.playout.specs.Verdicts.{Counts, noCounts, Gathered, judgeAll}
+use Rattle.playout.specs.Entries.{Entry, Held}
+use Rattle.playout.specs.Verdicts.{judgeAll}
 use Rattle.playout.proofs.SoundLaws.{drawnFirst}
-use Rattle.reorder.specs.Layout.{encode, decode}
-use Rattle.reorder.specs.Rows.{readCopies}
-use Rattle.reorder.specs.Calls.{OfferOutcome, offerCall, offerRefused, DrawOutcome, drawCall, drawRefused}
-use Rattle.delivery.specs.Claims.{Offer, State, offered, afterOffer, offerRefusal, readRefusal, accepted, drawn, afterDraw, drawRefusal}
-use Rattle.reorder.proofs.CallLaws.{offerRead, drawFirst, offer-rows, offer-reads, draw-area, draw-goes}
-use Rattle.reorder.proofs.StateLaws.{Good, Fits, judgeAll-good}
-use Rattle.reorder.proofs.BridgeLaws.{good-fine, good-back}
-use Rattle.reorder.proofs.CopyLaws.{read-fit}
+use Rattle.delivery.specs.Runs.{State, RowsLent, again, anew, lent, Offer, Call, offer, draw, Step, run, refusalOf}
+use Rattle.delivery.specs.Claims.{offerRefusal, drawRefusal, refusals}
+use Rattle.delivery.proofs.StepLaws.{Fine, at, offer-cases, judged-fine, store-length, rows-length, draw-cases, drawn-fine}
 
--- the state of a model and a store
-abbrev pub at : Settings → Held → List ℕ → State
-at st h s = record { buffer = encode st h; store = s }
+-- what is refused goes by the lengths of the areas alone
 
--- the copies that an offer brings: none if it is refused
-abbrev pub copiesIn : Settings → List ℕ → Offer → List Copy
-copiesIn st s o = cond (eqb (offerRefusal st s o) 0) (readCopies (o .packet) (reading st (length (o .rows)) (o .packet))) []
+pub lent-length : (rows others : List ℕ) (a : RowsLent) → length rows ≡ length others → length (lent rows a) ≡ length (lent others a)
+lent-length rows others again e = e
+lent-length rows others (anew l) e = refl
 
-none-refused : (n : ℕ) (cs : List Copy) → 0 < n → cond (eqb n 0) cs [] ≡ []
-none-refused n cs h = rw (ne-eqb n 0 (omega arith))
+pub refusal-length : (st : Settings) (s t rows others packet : List ℕ) → length s ≡ length t → length rows ≡ length others
+    → offerRefusal st s rows packet ≡ offerRefusal st t others packet
+unfolding offerRefusal
+refusal-length st s t rows others packet e f = rw (e, f)
+
+refusals-length : (st : Settings) (s t : List ℕ) → length s ≡ length t → (cs : List Call) (rows others : List ℕ) → length rows ≡ length others
+    → refusals st s rows cs ≡ refusals st t others cs
+unfolding refusals drawRefusal
+refusals-length st s t e [] rows others f = refl
+refusals-length st s t e (offer o ∷ cs) rows others f =
+    let k = lent-length rows others (o .area) f in
+    ap₂ _∷_ (refusal-length st s t (lent rows (o .area)) (lent others (o .area)) (o .packet) e k)
+    (refusals-length st s t e cs (lent rows (o .area)) (lent others (o .area)) k)
+refusals-length st s t e (draw area ∷ cs) rows others f = rw (e, refusals-length st s t e cs rows others f)
 
 module _ (st : Settings) (range : inRange st ≡ true) where
-  -- the copies that an offer brings are allowed
-  pub copies-in-fit : (s : List ℕ) (o : Offer) → Fits st (copiesIn st s o)
-  unfolding Fits
-  copies-in-fit s o =
-      by-test (eqb (offerRefusal st s o) 0)
-      (λ a. rw a (read-fit st range (length (o .rows)) (o .packet) (reading st (length (o .rows)) (o .packet)) refl))
-      (λ a. rw a tt)
+  pub run-refusals : (cs : List Call) (h : Held) → Fine st h → (s rows : List ℕ) → map refusalOf (run (at st h s rows) cs .yields) ≡ refusals st s rows cs
+  unfolding run refusals
+  run-refusals [] h g s rows = refl
+  run-refusals (offer o ∷ cs) h g s rows =
+      let l = lent rows (o .area) in
+      offer-cases st range h g s rows o
+      (λ (d : Step). refusalOf (d .yield) ∷ map refusalOf (run (d .state) cs .yields) ≡ offerRefusal st s l (o .packet) ∷ refusals st s l cs)
+      (λ q e. ap₂ _∷_ (sym e) (run-refusals cs h g s l))
+      (λ rs r e.
+      ap₂ _∷_ (sym e)
+      (run-refusals cs _ (judged-fine st h s l range g (o .packet) rs r) _ _
+      ∙ refusals-length st _ s (store-length st h s l range g (o .packet) rs r) cs _ l (rows-length st h s l range g (o .packet) rs r)))
+  run-refusals (draw area ∷ cs) h g s rows =
+      draw-cases st range h g s rows area
+      (λ (d : Step). refusalOf (d .yield) ∷ map refusalOf (run (d .state) cs .yields) ≡ drawRefusal s area ∷ refusals st s rows cs)
+      (λ e. ap₂ _∷_ (sym e) (run-refusals cs h g s rows))
+      (λ e q. ap₂ _∷_ (sym e) (run-refusals cs h g s rows))
+      (λ e room x es q. ap₂ _∷_ (sym e) (run-refusals cs (drawnFirst x es) (drawn-fine st range h g s rows x es q) s rows))
 
-  module _ (h : Held) (s : List ℕ) (g : Good st h s) (o : Offer) where
-    -- what an offer comes to
-    pub record OfferStep (cs : List Copy) (refusal : ℕ) (r : OfferOutcome) : Type 0 where
-      pub state : afterOffer r ≡ at st (judgeAll h s noCounts cs .held) (judgeAll h s noCounts cs .store)
-      pub refused : r .answer .refusal ≡ refusal
-      pub inserted : r .answer .inserted ≡ judgeAll h s noCounts cs .counts .inserted
+  -- the state that a run leaves is that of a model
+  pub record Left (s : State) : Type 0 where
+    pub held : Held
+    pub fine : Fine st held
+    pub store : List ℕ
+    pub rows : List ℕ
+    pub same : s ≡ at st held store rows
 
-    refused-step : (q : Refusal) → OfferStep [] (number q) (offerRefused q (encode st h) (o .rows) s)
-    unfolding judgeAll
-    refused-step q = record { state = refl; refused = refl; inserted = refl }
-
-    read-step : (x : Outcome) → OfferStep (cond (eqb (readRefusal x) 0) (readCopies (o .packet) x) []) (readRefusal x) (offerRead (encode st h) (o .packet) (o .rows) s x)
-    read-step (refused q) = rw (none-refused (number q) [] (number-positive q)) (refused-step q)
-    read-step (readAs x rs) = rw (good-back st h s g) (record { state = refl; refused = refl; inserted = refl })
-
-    pub offer-step : OfferStep (copiesIn st s o) (offerRefusal st s o) (offered (at st h s) o)
-    unfolding offerRefusal
-    offer-step =
-        by-test (ltb (length (o .rows)) rowArea)
-        (λ a.
-        rw (a, offer-rows (encode st h) (o .packet) (o .rows) s range (good-fine st h s g) (ltb-true _ _ a)) (refused-step AreaTooShort))
-        (λ a.
-        rw (a, le-ltb (length s) storeSize (g .room), offer-reads (encode st h) (o .packet) (o .rows) s range (good-fine st h s g) (ltb-false _ _ a) (g .room))
-        (read-step (reading st (length (o .rows)) (o .packet))))
-
-    pub offer-good : Good st (judgeAll h s noCounts (copiesIn st s o) .held) (judgeAll h s noCounts (copiesIn st s o) .store)
-    offer-good = judgeAll-good st (copiesIn st s o) h s noCounts g (copies-in-fit s o)
-
-  -- a draw, refused or not
-  module _ (h : Held) (s : List ℕ) (g : Good st h s) (area : List ℕ) where
-    pub draw-short : length area < slotSize → drawn (at st h s) area ≡ drawRefused AreaTooShort (encode st h) area
-    draw-short l = draw-area (encode st h) s area range (good-fine st h s g) (g .room) l
-
-    pub draw-fits : slotSize ≤ length area → drawn (at st h s) area ≡ drawFirst (encode st h) s area (h .entries)
-    draw-fits l =
-        draw-goes (encode st h) s area range (good-fine st h s g) (g .room) l
-        ∙ ap (λ (k : Held). drawFirst (encode st h) s area (k .entries)) (good-back st h s g)
+  pub run-leaves : (cs : List Call) (h : Held) → Fine st h → (s rows : List ℕ) → Left (run (at st h s rows) cs .state)
+  unfolding run
+  run-leaves [] h g s rows = record { held = h; fine = g; store = s; rows = rows; same = refl }
+  run-leaves (offer o ∷ cs) h g s rows =
+      let l = lent rows (o .area) in
+      offer-cases st range h g s rows o (λ (d : Step). Left (run (d .state) cs .state))
+      (λ q e. run-leaves cs h g s l)
+      (λ rs r e. run-leaves cs _ (judged-fine st h s l range g (o .packet) rs r) _ _)
+  run-leaves (draw area ∷ cs) h g s rows =
+      draw-cases st range h g s rows area (λ (d : Step). Left (run (d .state) cs .state))
+      (λ e. run-leaves cs h g s rows) (λ e q. run-leaves cs h g s rows)
+      (λ e room x es q. run-leaves cs (drawnFirst x es) (drawn-fine st range h g s rows x es q) s rows)

@@ -20,8 +20,7 @@ use Rattle.reorder.specs.Layout.{entryAt, entriesFrom, assembled}
 use Rattle.reorder.specs.Model.{allowed}
 use Rattle.reorder.specs.Checks.{classFine, ascends, passes, allPass}
 use Rattle.reorder.proofs.PositionLaws.{up, turn}
-use Rattle.rtp.proofs.TestLaws.{not-both}
-pub use Rattle.rtp.proofs.TestLaws.{both, and-then}
+use Rattle.rtp.proofs.TestLaws.{both}
 
 -- a callee's answer, tested by `if !`
 pub passed : {r t : Bool} → r ≡ t → not r ≡ false → t ≡ true

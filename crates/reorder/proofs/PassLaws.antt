@@ -22,7 +22,8 @@ use Rattle.reorder.specs.Layout.{isFlag, unusedZero, marksKept, laidOut,
 use Rattle.reorder.specs.Model.{allowed, ascending, inStretch, afterLast, fine}
 use Rattle.reorder.specs.WellFormed.{wellFormed}
 use Rattle.reorder.specs.Checks.{lastKept, sinceLast, ascends, passes, allPass, entriesPass}
-use Rattle.reorder.proofs.CheckLaws.{both, and-then, free-parts}
+use Rattle.rtp.proofs.TestLaws.{both as in-turn, and-then}
+use Rattle.reorder.proofs.CheckLaws.{free-parts}
 use Rattle.reorder.proofs.WordLaws.{slotsOf, countIn, Distinct, count-none, count-here, distinct-none, distinct-cons, mark-count, words-cons}
 use Rattle.reorder.proofs.LayoutLaws.{by-flag}
 use Rattle.reorder.proofs.ModelLaws.{both, and, EntryTests, entry-tests, Clauses, clauses, from-clauses, apart-distinct, distinct-apart}
@@ -86,10 +87,10 @@ record Run (b : Buffer) (first : ℕ) (p : Option Entry) (ss : List ℕ) (es : L
 
 parts : (b : Buffer) (first : ℕ) (p : Option Entry) (e : Entry) → passes b first p e ≡ true → Parts b first e × (ascends p e ≡ true)
 parts b first p e h =
-    let a = both (allowed (b .settings .format) (e .class) (e .length)) _ h in
-    let c = both (ltb (e .channel) (b .settings .channels)) _ (a .1) in
-    let d = both (sinceLast b e) _ (c .1) in
-    let f = both (ltb (ahead (e .time) first) half) _ (d .1) in
+    let a = in-turn (allowed (b .settings .format) (e .class) (e .length)) _ h in
+    let c = in-turn (ltb (e .channel) (b .settings .channels)) _ (a .1) in
+    let d = in-turn (sinceLast b e) _ (c .1) in
+    let f = in-turn (ltb (ahead (e .time) first) half) _ (d .1) in
     (record { frame = a .0; channel = c .0; since = d .0; near = ltb-true _ _ (f .0) }, f .1)
 
 parts-back : (b : Buffer) (first : ℕ) (p : Option Entry) (e : Entry) → Parts b first e → ascends p e ≡ true → passes b first p e ≡ true
@@ -103,8 +104,8 @@ module _ (b : Buffer) (first : ℕ) where
   unfolding allPass onto
   run p ss [] d h = record { each = λ e m. absurd (nowhere m); from = tt; distinct = d; words = h }
   run p ss (e ∷ es) d h =
-      let a = both (passes b first p e) _ h in
-      let c = both (isFree (wordsOf ss) (e .slot)) _ (a .1) in
+      let a = in-turn (passes b first p e) _ h in
+      let c = in-turn (isFree (wordsOf ss) (e .slot)) _ (a .1) in
       let f = free-parts (wordsOf ss) (e .slot) (c .0) in
       let q = parts b first p e (a .0) in
       let r = run (some e) (e .slot ∷ ss) es (distinct-cons (e .slot) ss d (f .0) (sym (mark-count ss d (e .slot)) ∙ f .1))

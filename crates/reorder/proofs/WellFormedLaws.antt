@@ -20,7 +20,7 @@ use Rattle.reorder.specs.Layout.{tagOf, padTo, column, flagOf, encode, e
 use Rattle.reorder.specs.Model.{ascending, slotsApart, entriesFine, fine}
 use Rattle.reorder.specs.WellFormed.{wellFormed}
 use Rattle.reorder.specs.Arrays.{Machine}
-use Rattle.reorder.proofs.CheckLaws.{both, and-then}
+use Rattle.rtp.proofs.TestLaws.{both as in-turn, and-then}
 use Rattle.reorder.proofs.WordLaws.{slotOf, slotsOf, held-slots}
 use Rattle.reorder.proofs.LayoutLaws.{by-flag, Octets, decode-encode}
 use Rattle.reorder.proofs.ModelLaws.{both, and, Facts, fine-facts, facts-fine}
@@ -30,7 +30,7 @@ use Rattle.reorder.proofs.ModelLaws.{both, and, Facts, fine-facts, fact
 zero-rest : (xs : List ℕ) → zeros xs ≡ true → padTo (length xs) [] ≡ xs
 unfolding zeros padTo
 zero-rest [] h = refl
-zero-rest (x ∷ xs) h = let a = both (eqb x 0) (zeros xs) h in λ j. sym (eqb-true x 0 (a .0)) j ∷ zero-rest xs (a .1) j
+zero-rest (x ∷ xs) h = let a = in-turn (eqb x 0) (zeros xs) h in λ j. sym (eqb-true x 0 (a .0)) j ∷ zero-rest xs (a .1) j
 
 pad-take : (n : ℕ) (xs : List ℕ) → zeros (drop n xs) ≡ true → padTo (length xs) (take n xs) ≡ xs
 unfolding padTo
@@ -72,8 +72,8 @@ three-words (a ∷ b ∷ c ∷ d ∷ w) e = absurd (omega arith)
 
 same-words : (ss w : List ℕ) → length w ≡ 3 → sameWords (wordsOf ss) w ≡ true → wordsOf ss ≡ w
 same-words ss w e h =
-    let a = both (eqb (wordAt 0 ss) (getD w 0 0)) _ h in
-    let c = both (eqb (wordAt 1 ss) (getD w 1 0)) _ (a .1) in
+    let a = in-turn (eqb (wordAt 0 ss) (getD w 0 0)) _ h in
+    let c = in-turn (eqb (wordAt 1 ss) (getD w 1 0)) _ (a .1) in
     let p = eqb-true (wordAt 0 ss) (getD w 0 0) (a .0) in
     let q = eqb-true (wordAt 1 ss) (getD w 1 0) (c .0) in
     let r = eqb-true (wordAt 2 ss) (getD w 2 0) (c .1) in

@@ -11,7 +11,7 @@ use Rattle.rtp.specs.declared.settings.Settings.{Settings}
 use Rattle.rtp.specs.declared.refusal.Refusal.{Refusal}
 use Rattle.rtp.specs.declared.refusal.Refusal.the-variants.{SettingsOutOfRange, MalformedBuffer}
 use Rattle.payload.specs.Rows.{words}
-use Rattle.playout.specs.Verdicts.{Counts, noCounts}
+use Rattle.playout.specs.Verdicts.{Counts, noCounts, tally}
 use Rattle.reorder.specs.declared.buffer.Buffer.{Buffer}
 use Rattle.reorder.specs.declared.calls.NewAnswer.{NewAnswer}
 use Rattle.reorder.specs.declared.calls.OfferAnswer.{OfferAnswer}
@@ -81,7 +81,7 @@ offerRefused r b rows store = record { answer = countNumbers (number r) noCounts
 abbrev pub offerDone : Buffer → List ℕ → List ℕ → Result Offered → OfferOutcome
 offerDone b rows store (refused r) = offerRefused r b rows store
 offerDone b rows store (done o) = record {
-  answer = countNumbers 0 (o .gathered .counts);
+  answer = countNumbers 0 (tally noCounts (o .gathered .judgements));
   buffer = encode (b .settings) (o .gathered .held);
   rows = over (words (o .rows)) rows;
   store = o .gathered .store;

@@ -17,7 +17,7 @@ use Rattle.reorder.specs.declared.buffer.Buffer.{Buffer}
 use Rattle.reorder.specs.declared.buffer.Fixed.{Fixed}
 use Rattle.payload.specs.Frames.{noData}
 use Rattle.payload.specs.Rows.{Row}
-use Rattle.playout.specs.Verdicts.{Gathered, judgeAll}
+use Rattle.playout.specs.Verdicts.{tally, judgeAll}
 use Rattle.rtp.specs.declared.settings.Settings.{Settings}
 use Rattle.reorder.specs.declared.calls.Tally.{Tally}
 use Rattle.reorder.specs.Rows.{copiesOf}
@@ -124,9 +124,9 @@ pub record RowsJudgeable (b : Buffer) (packet : List ℕ) (rs : List Row) (t : T
   pub room : storeSize ≤ length store
 
 pub record RowsJudged (b b' : Buffer) (packet : List ℕ) (rs : List Row) (t t' : Tally) (store store' : List ℕ) : Type 0 where
-  pub counts : countsOf t' ≡ judgeAll (decode b) store (countsOf t) (copiesOf packet rs) .counts
-  pub buffer : b' ≡ encode (b .settings) (judgeAll (decode b) store (countsOf t) (copiesOf packet rs) .held)
-  pub store-left : store' ≡ judgeAll (decode b) store (countsOf t) (copiesOf packet rs) .store
+  pub counts : countsOf t' ≡ tally (countsOf t) (judgeAll (decode b) store (copiesOf packet rs) .judgements)
+  pub buffer : b' ≡ encode (b .settings) (judgeAll (decode b) store (copiesOf packet rs) .held)
+  pub store-left : store' ≡ judgeAll (decode b) store (copiesOf packet rs) .store
 
 -- Drawing
 

@@ -12,7 +12,7 @@ use Rattle.payload.specs.Rows.{Row}
 use Rattle.packet.specs.Readings.{Outcome, refused as unread, readAs, reading}
 use Rattle.playout.specs.Sizes.{slotSize, storeSize}
 use Rattle.playout.specs.Entries.{Entry, Held, frameOf}
-use Rattle.playout.specs.Verdicts.{noCounts, Gathered, judgeAll}
+use Rattle.playout.specs.Verdicts.{Gathered, judgeAll}
 use Rattle.reorder.specs.Model.{Model}
 use Rattle.reorder.specs.Rows.{copiesOf}
 
@@ -31,7 +31,7 @@ pub record Offered : Type 0 where
 -- a packet that was read, or not
 abbrev pub judgeRead : Held → List ℕ → List ℕ → Outcome → Result Offered
 judgeRead h packet store (unread r) = refused r
-judgeRead h packet store (readAs x rs) = done (record { rows = rs; gathered = judgeAll h store noCounts (copiesOf packet rs) })
+judgeRead h packet store (readAs x rs) = done (record { rows = rs; gathered = judgeAll h store (copiesOf packet rs) })
 
 -- a packet offered with a row area of so many words: 12, then reading's own refusals
 unfoldable pub offerTo : Model → List ℕ → ℕ → List ℕ → Result Offered
