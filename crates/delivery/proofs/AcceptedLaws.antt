@@ -21,7 +21,7 @@ use Rattle.playout.specs.Copies.{Copy}
 use Rattle.playout.specs.Entries.{Held}
 use Rattle.playout.specs.Verdicts.{judgeAll}
 use Rattle.playout.proofs.JudgeLaws.{judgeAll-append}
-use Rattle.playout.proofs.SoundLaws.{Frames}
+use Rattle.playout.proofs.HeldLaws.{Frames}
 use Rattle.reorder.specs.Rows.{copiesOf, readCopies}
 use Rattle.reorder.proofs.StateLaws.{Fits}
 use Rattle.reorder.proofs.CopyLaws.{read-fit, fits-append, fits-frames}

@@ -19,7 +19,7 @@ use Rattle.payload.specs.Rows.{words}
 use Rattle.playout.specs.Entries.{Entry, Held}
 use Rattle.playout.specs.Verdicts.{Counts, noCounts, Judgement, tally, judgeAll}
 use Rattle.playout.proofs.JudgeLaws.{judgeAll-count, tally-append}
-use Rattle.playout.proofs.SoundLaws.{fresh, drawnFirst}
+use Rattle.playout.proofs.HeldLaws.{fresh, drawnFirst}
 use Rattle.reorder.specs.declared.buffer.Buffer.{Buffer}
 use Rattle.reorder.specs.Layout.{encode, model}
 use Rattle.reorder.specs.WellFormed.{wellFormed}

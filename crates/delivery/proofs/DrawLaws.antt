@@ -18,9 +18,9 @@ use Rattle.playout.specs.Sizes.{storeSize}
 use Rattle.playout.specs.Copies.{Copy}
 use Rattle.playout.specs.Entries.{Entry, Held, frameOf, view, views}
 use Rattle.playout.specs.Verdicts.{Gathered, judgeAll}
-use Rattle.playout.proofs.SoundLaws.{drawnFirst, frame-length}
+use Rattle.playout.proofs.HeldLaws.{drawnFirst, frame-length}
 use Rattle.reorder.specs.Rows.{copiesOf}
-use Rattle.reorder.proofs.StateLaws.{good-sound}
+use Rattle.reorder.proofs.StateLaws.{good-facts}
 use Rattle.delivery.specs.Runs.{State, lent, Offer, Call, offer, draw, Yield, Step, run, Served, served}
 use Rattle.delivery.specs.Claims.{offerRefusal, accepted, copiesIn, handed, nothing, inTurn}
 use Rattle.delivery.proofs.StepLaws.{spare, Fine, with-room, at, offer-cases, judged-fine, store-length, rows-length, draw-cases, drawn-fine}
@@ -42,7 +42,7 @@ module _ (st : Settings) (range : inRange st ≡ true) where
   unfolding view over
   entry-handed h g s area room e es q =
       let m : List·Memᴰ e (h .entries) = subst (λ (l : List Entry). List·Memᴰ e l) (sym q) (here refl) in
-      let n : length (frameOf s e) ≡ e .length = frame-length s room e (good-sound st h s (with-room st h (spare .0) s g room) .each e m) in
+      let n : length (frameOf s e) ≡ e .length = frame-length s room e (good-facts st h s (with-room st h (spare .0) s g room) .each e m) in
       let b : take (e .length) (frameOf s e ++ drop (length (frameOf s e)) area) ≡ frameOf s e = take-at (frameOf s e) (drop (length (frameOf s e)) area) (e .length) n in
       λ i. record {
         answer = record { refusal = 0; empty = 0; time = e .time; channel = e .channel; class = e .class; length = sym n i };

@@ -19,8 +19,8 @@ use Rattle.playout.specs.Sizes.{slots, storeSize}
 use Rattle.playout.specs.Entries.{Held}
 use Rattle.playout.specs.Verdicts.{noCounts, Judgement, tally, Gathered, judgeAll}
 use Rattle.playout.specs.Lists.{WithinStretch, AtMost}
-use Rattle.playout.proofs.SoundLaws.{fresh}
-use Rattle.playout.proofs.ExactLaws.{premises-exact}
+use Rattle.playout.proofs.HeldLaws.{fresh}
+use Rattle.playout.proofs.PremiseLaws.{premises-exact}
 use Rattle.reorder.specs.Rows.{copiesOf}
 use Rattle.delivery.specs.Runs.{State, lent, Offer, offer, Step, run, judged}
 use Rattle.delivery.specs.Claims.{accepted, copiesIn, PremisesExact}

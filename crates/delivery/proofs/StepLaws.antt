@@ -25,7 +25,7 @@ use Rattle.playout.specs.Sizes.{slotSize, storeSize}
 use Rattle.playout.specs.Copies.{Copy}
 use Rattle.playout.specs.Entries.{Entry, Held, frameOf}
 use Rattle.playout.specs.Verdicts.{noCounts, Judgement, tally, Gathered, judgeAll}
-use Rattle.playout.proofs.SoundLaws.{fresh, drawnFirst, judgeAll-length}
+use Rattle.playout.proofs.HeldLaws.{fresh, drawnFirst, judgeAll-length}
 use Rattle.reorder.specs.declared.buffer.Buffer.{Buffer}
 use Rattle.reorder.specs.Layout.{encode, model}
 use Rattle.reorder.specs.Rows.{copiesOf}
@@ -33,7 +33,7 @@ use Rattle.reorder.specs.ModelCalls.{Result, refused, done, Offered, judgeRead,
 use Rattle.reorder.specs.Calls.{NewOutcome, countNumbers, OfferOutcome, offerDone, offerCall, DrawNumbers, noFrame, DrawOutcome, drawRefused, drawCall}
 use Rattle.reorder.proofs.LayoutLaws.{fresh-encode}
 use Rattle.reorder.proofs.CallLaws.{new-in, drawFirst, draw-store, draw-area, draw-goes}
-use Rattle.reorder.proofs.StateLaws.{Good, good-sound, judgeAll-good, draw-good}
+use Rattle.reorder.proofs.StateLaws.{Good, good-facts, judgeAll-good, draw-good}
 use Rattle.reorder.proofs.BridgeLaws.{good-fine, good-back}
 use Rattle.reorder.proofs.CopyLaws.{read-fit, fits-frames}
 use Rattle.delivery.specs.Runs.{State, lent, Offer, offer, draw, offered, drew, Step, judgementsOf, judgedBy, step, begun}
@@ -118,7 +118,7 @@ module _ (st : Settings) (h : Held) (s l : List ℕ) where
 
       pub store-length : length (judgeAll h s (copiesOf packet rs) .store) ≡ length s
       store-length =
-          judgeAll-length h s (copiesOf packet rs) (good-sound st h s good)
+          judgeAll-length h s (copiesOf packet rs) (good-facts st h s good)
           (fits-frames st (copiesOf packet rs) (read-fit st range (length l) packet (readAs (r .head) rs) (r .same)))
 
       pub rows-length : length (over (words rs) l) ≡ length l

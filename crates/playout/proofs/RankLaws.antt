@@ -12,7 +12,7 @@ use lib.Dec.{eqb}
 use borrow.Author.Tests.{eqb-true, eqb-false, eq-eqb, ne-eqb}
 use Rattle.playout.specs.Copies.{Copy, greaterAt, greater, rank, betterFrame, better}
 use Rattle.playout.specs.Lists.{SamePair}
-use Rattle.playout.proofs.MergeLaws.{Cmp, cmp}
+use Rattle.playout.proofs.InsertionLaws.{Cmp, cmp}
 
 -- what a comparison at two heads says, and back
 module _ (x y : ℕ) (r : Bool) where

@@ -9,11 +9,11 @@ use lib.Seq.{take-at, drop-at}
 use lib.Dec.{ltb}
 use borrow.Author.Tests.{ltb-false}
 use Rattle.rtp.proofs.TestLaws.{neither}
+use Rattle.rtp.proofs.AreaLaws.{part-size}
 use Rattle.payload.specs.Rows.{Row}
 use Rattle.encoder.specs.Lists.{outside}
 use Rattle.encoder.specs.Bytes.{frameIn, frames}
 use Rattle.encoder.specs.Room.{lengthsIn}
-use Rattle.encoder.proofs.FrameBytesLaws.{frame-length}
 use Rattle.roundtrip.specs.Claims.{SameFrames}
 use Rattle.roundtrip.proofs.TableBlockLaws.{Laid}
 
@@ -75,7 +75,7 @@ laid-same front bytes (q ∷ qs) [] e l h = let z : _≡_ {A = ℕ} 0 1 = cc in 
 laid-same front bytes (q ∷ qs) (r ∷ rs) e l h =
     let p = neither (ltb (length bytes) (r .start + r .length)) (outside (length bytes) rs) h in
     let a = plain-first q r qs rs e in
-    let n = frame-length bytes (r .start) (r .length) (ltb-false _ _ (p .0)) in
+    let n = part-size bytes (r .start) (r .length) (ltb-false _ _ (p .0)) in
     let s : length (front ++ frameIn bytes r) ≡ length front + q .length = rw (length-append, n, a .length) in
     let rest = frameIn bytes r ++ frames bytes rs in
     let f : frameIn (front ++ rest) q ≡ frameIn bytes r =

@@ -9,9 +9,9 @@ use lib.Seq.{take-append-le, drop-append-le}
 use lib.Dec.{ltb}
 use borrow.Author.Tests.{ltb-false}
 use Rattle.rtp.proofs.TestLaws.{neither}
+use Rattle.rtp.proofs.AreaLaws.{part-size}
 use Rattle.payload.specs.Rows.{Row}
 use Rattle.encoder.specs.Lists.{outside}
-use Rattle.encoder.proofs.FrameBytesLaws.{frame-length}
 use Rattle.encoder.specs.Bytes.{frameIn}
 use Rattle.roundtrip.specs.Claims.{SameFrames}
 
@@ -42,7 +42,7 @@ same-longer p back bytes [] (r ∷ rs) o h = absurd h
 same-longer p back bytes (q ∷ qs) [] o h = absurd h
 same-longer p back bytes (q ∷ qs) (r ∷ rs) o h =
     let i = neither (ltb (length bytes) (r .start + r .length)) (outside (length bytes) rs) o in
-    let n : length (frameIn p q) ≡ q .length = ap length (h .0 .frame) ∙ frame-length bytes (r .start) (r .length) (ltb-false _ _ (i .0)) ∙ sym (h .0 .length) in (
+    let n : length (frameIn p q) ≡ q .length = ap length (h .0 .frame) ∙ part-size bytes (r .start) (r .length) (ltb-false _ _ (i .0)) ∙ sym (h .0 .length) in (
       record {
         time = h .0 .time;
         class = h .0 .class;

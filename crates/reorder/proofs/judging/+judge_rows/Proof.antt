@@ -5,7 +5,7 @@ use native.Mathlib.Omega.{arith}
 use lib.ListN.{length, getD, take, drop}
 use denote.Ref.{now}
 use Rattle.rtp.specs.Sizes.{rowWidth}
-use Rattle.rtp.proofs.AreaLaws.{part-length}
+use Rattle.rtp.proofs.AreaLaws.{part-length, part-cut}
 use Rattle.payload.specs.Rows.{Row, rowsIn}
 use Rattle.payload.proofs.RowLaws.{rows-none}
 use Rattle.reorder.specs.declared.buffer.Buffer.{Buffer}
@@ -54,9 +54,6 @@ asks-at : (t : ℕ) (s : At judge-rows-lts.Start t) → rowWidth ≤ length (row
     → RowsJudgeable (buffer-at t s) (now (s .args .packet)) (firstRow (rows-at t s) ∷ rowsIn (restWords (rows-at t s))) (s .args .tally) (now (s .args .store))
 asks-at t s l =
     subst (λ (rs : List Row). RowsJudgeable (buffer-at t s) (now (s .args .packet)) rs (s .args .tally) (now (s .args .store))) (rows-split (rows-at t s) l) (s .pre .1)
-
-cut-at : (n k : ℕ) (packet : List ℕ) → take (n + k - n) (drop n packet) ≡ take k (drop n packet)
-cut-at n k packet = let e : n + k - n ≡ k = omega arith in ap (λ (m : ℕ). take m (drop n packet)) e
 
 inside-at : (t : ℕ) (c : At judge-rows-lts.After-shared-slice-known4 t) → getD (rows-at t (c .before .before .before .before .before .before .before)) 2 0 + getD (rows-at t (c .before .before .before .before .before .before .before)) 3 0 ≤ length (now (c .before .before .before .before .before .before .before .args .packet))
 inside-at t c = asks-at t (c .before .before .before .before .before .before .before) (c .before .before .before .if1 .left) .rows .0 (c .before .if2 .left) .2
@@ -118,7 +115,7 @@ judge-rows-part-judge-copy-end t c = omega (arith, inside-at t (c .before .befor
 
 judge-rows-judge-copy-requires : (t : ℕ) → At judge-rows-lts.Need-judge-copy-requires t
 judge-rows-judge-copy-requires t c κs =
-    let s = c .before .before .before .before .before .before .before .before .before .before .before .before .before .before .before in copy-asks (buffer-at t s) (now (s .args .packet)) (s .args .tally) (now (s .args .store)) (firstRow (rows-at t s)) (rowsIn (restWords (rows-at t s))) (asks-at t s (c .before .before .before .before .before .before .before .before .before .before .before .if1 .left)) (c .before .before .before .before .before .before .before .before .before .if2 .left) (take (getD (rows-at t s) 2 0 + getD (rows-at t s) 3 0 - getD (rows-at t s) 2 0) (drop (getD (rows-at t s) 2 0) (now (s .args .packet)))) (cut-at (getD (rows-at t s) 2 0) (getD (rows-at t s) 3 0) (now (s .args .packet)))
+    let s = c .before .before .before .before .before .before .before .before .before .before .before .before .before .before .before in copy-asks (buffer-at t s) (now (s .args .packet)) (s .args .tally) (now (s .args .store)) (firstRow (rows-at t s)) (rowsIn (restWords (rows-at t s))) (asks-at t s (c .before .before .before .before .before .before .before .before .before .before .before .if1 .left)) (c .before .before .before .before .before .before .before .before .before .if2 .left) (take (getD (rows-at t s) 2 0 + getD (rows-at t s) 3 0 - getD (rows-at t s) 2 0) (drop (getD (rows-at t s) 2 0) (now (s .args .packet)))) (part-cut (getD (rows-at t s) 2 0) (getD (rows-at t s) 3 0) (now (s .args .packet)))
 
 judge-rows-sub-judge-rows-2 : (t : ℕ) → At judge-rows-lts.Need-sub-judge-rows-2 t
 judge-rows-sub-judge-rows-2 t c = search needs
@@ -137,7 +134,7 @@ judge-rows-judge-rows-requires-2 t c κs =
     let s = c .before .before .before .before .before .before .before .before .before .before .before .before .before .before .before .before .before .before .before .before .before .before .before .before .before .before in
     let l : rowWidth ≤ length (rows-at t s) = c .before .before .before .before .before .before .before .before .before .before .before .before .before .before .before .before .before .before .before .before .before .before .if1 .left in (
       omega (arith, s .pre .0, part-length (rows-at t s) (rows-at t s) rowWidth refl),
-      next-asks (buffer-at t s) (now (s .args .packet)) (s .args .tally) (now (s .args .store)) (firstRow (rows-at t s)) (rowsIn (restWords (rows-at t s))) (asks-at t s l) (c .before .before .before .before .before .before .before .before .before .before .before .before .before .before .before .before .before .before .before .before .if2 .left) (take (getD (rows-at t s) 2 0 + getD (rows-at t s) 3 0 - getD (rows-at t s) 2 0) (drop (getD (rows-at t s) 2 0) (now (s .args .packet)))) (cut-at (getD (rows-at t s) 2 0) (getD (rows-at t s) 3 0) (now (s .args .packet))) (c .before .before .before .before .before .before .before .before .before .before .before .before .before .before .before .before .before .before .before .before .before .before .before .before .shared-slice-known2 .given 0 .fits) _ _ _ (c .before .before .before .before .before .before .before .before .before .before .judge-copy .ensures) _ (c .before .count-verdict .ensures),
+      next-asks (buffer-at t s) (now (s .args .packet)) (s .args .tally) (now (s .args .store)) (firstRow (rows-at t s)) (rowsIn (restWords (rows-at t s))) (asks-at t s l) (c .before .before .before .before .before .before .before .before .before .before .before .before .before .before .before .before .before .before .before .before .if2 .left) (take (getD (rows-at t s) 2 0 + getD (rows-at t s) 3 0 - getD (rows-at t s) 2 0) (drop (getD (rows-at t s) 2 0) (now (s .args .packet)))) (part-cut (getD (rows-at t s) 2 0) (getD (rows-at t s) 3 0) (now (s .args .packet))) (c .before .before .before .before .before .before .before .before .before .before .before .before .before .before .before .before .before .before .before .before .before .before .before .before .shared-slice-known2 .given 0 .fits) _ _ _ (c .before .before .before .before .before .before .before .before .before .before .judge-copy .ensures) _ (c .before .count-verdict .ensures),
     )
 
 judge-rows-same-length-2 : (t : ℕ) → At judge-rows-lts.Need-same-length-2 t
@@ -148,7 +145,7 @@ judge-rows-returns-3 t c =
     let s = c .before .before .before .before .before .before .before .before .before .before .before .before .before .before .before .before .before .before .before .before .before .before .before .before .before .before .before .before .before in
     let l : rowWidth ≤ length (rows-at t s) = c .before .before .before .before .before .before .before .before .before .before .before .before .before .before .before .before .before .before .before .before .before .before .before .before .before .if1 .left in
     rows-joined (buffer-at t s) (now (s .args .packet)) (s .args .tally) (now (s .args .store)) (rows-at t s) l _ _ _
-    (next-gives (buffer-at t s) (now (s .args .packet)) (s .args .tally) (now (s .args .store)) (firstRow (rows-at t s)) (rowsIn (restWords (rows-at t s))) (asks-at t s l) (c .before .before .before .before .before .before .before .before .before .before .before .before .before .before .before .before .before .before .before .before .before .before .before .if2 .left) (take (getD (rows-at t s) 2 0 + getD (rows-at t s) 3 0 - getD (rows-at t s) 2 0) (drop (getD (rows-at t s) 2 0) (now (s .args .packet)))) (cut-at (getD (rows-at t s) 2 0) (getD (rows-at t s) 3 0) (now (s .args .packet))) (c .before .before .before .before .before .before .before .before .before .before .before .before .before .before .before .before .before .before .before .before .before .before .before .before .before .before .before .shared-slice-known2 .given 0 .fits) _ _ _ (c .before .before .before .before .before .before .before .before .before .before .before .before .before .judge-copy .ensures) _ (c .before .before .before .before .count-verdict .ensures) _ _ _ (c .before .before .judge-rows2 .ensures))
+    (next-gives (buffer-at t s) (now (s .args .packet)) (s .args .tally) (now (s .args .store)) (firstRow (rows-at t s)) (rowsIn (restWords (rows-at t s))) (asks-at t s l) (c .before .before .before .before .before .before .before .before .before .before .before .before .before .before .before .before .before .before .before .before .before .before .before .if2 .left) (take (getD (rows-at t s) 2 0 + getD (rows-at t s) 3 0 - getD (rows-at t s) 2 0) (drop (getD (rows-at t s) 2 0) (now (s .args .packet)))) (part-cut (getD (rows-at t s) 2 0) (getD (rows-at t s) 3 0) (now (s .args .packet))) (c .before .before .before .before .before .before .before .before .before .before .before .before .before .before .before .before .before .before .before .before .before .before .before .before .before .before .before .shared-slice-known2 .given 0 .fits) _ _ _ (c .before .before .before .before .before .before .before .before .before .before .before .before .before .judge-copy .ensures) _ (c .before .before .before .before .count-verdict .ensures) _ _ _ (c .before .before .judge-rows2 .ensures))
 
 pub +judge-rows-spec : {M : Type 1} → statement M
 +judge-rows-spec = close μ-judge-rows λ t. judge-rows-lts.spec (callees t)

@@ -1,4 +1,4 @@
--- What a well-formed buffer guarantees, and that judging copies and drawing the first entry keep it.
+-- What holds of the entries of a well-formed buffer, and that judging copies and drawing the first entry keep it.
 use mathlib.Core.Path.{_≡_, refl, sym, ap, subst, _∙_}
 use mathlib.Core.Logic.{_⊎_, inl, inr}
 use mathlib.Core.List.{List, [], _∷_, List·Memᴰ, List·Memᴰ·head as here, List·Memᴰ·tail as there, List·Memᴰ·not-nil as nowhere, List·Memᴰ·cases-cons as cases}
@@ -14,14 +14,14 @@ use Rattle.playout.specs.declared.verdict.Verdict.{Verdict}
 use Rattle.playout.specs.Sizes.{slots, slotSize, storeSize}
 use Rattle.playout.specs.Pairs.{half, ahead, order, isAfter}
 use Rattle.playout.specs.Copies.{Copy}
-use Rattle.playout.specs.Entries.{Entry, Held, frameOf, view, entryOf, sideOfEntry, held, freeSlot, always, placed}
+use Rattle.playout.specs.Entries.{Entry, Held, frameOf, view, entryOf, sideOfEntry, findBy, freeSlot, always, placed}
 use Rattle.playout.specs.Verdicts.{isLate, isFar, allWithin, fits, lays, judge, judgeAll}
-use Rattle.playout.proofs.MergeLaws.{byKey, Asc, Chain, Agree, asc-chain, chain-asc, put-from, held-mem, put-cong, put-asc}
-use Rattle.playout.proofs.CountLaws.{differ-one}
+use Rattle.playout.proofs.InsertionLaws.{byKey, Asc, Chain, Agree, asc-chain, chain-asc, put-from, find-mem, put-cong, put-asc}
+use Rattle.playout.proofs.DistinctLaws.{differ-one}
 use Rattle.playout.proofs.RankLaws.{FrameClass}
 use Rattle.playout.proofs.WrapLaws.{ahead-self, Near, place, after-near, place-near, order-place, order-after}
-use Rattle.playout.proofs.SlotLaws.{slotOf, OwnSlots, Clash, put-slots, untaken, free-slot, stored-length}
-use Rattle.playout.proofs.JudgeLaws.{heldOf, judge-cases}
+use Rattle.playout.proofs.SlotLaws.{slotOf, OwnSlots, Clash, put-slots, slot-unused, free-slot, stored-length}
+use Rattle.playout.proofs.JudgeLaws.{findPair, judge-cases}
 
 -- a copy that a row of a class other than no data gives
 pub record IsFrame (x : Copy) : Type 0 where
@@ -52,7 +52,7 @@ Stretch (e ∷ es) = (f : Entry) → List·Memᴰ f (e ∷ es) → ahead (f .tim
 abbrev pub AfterLast : Held → Entry → Type 0
 AfterLast h e = order (e .time) (e .channel) (h .lastTime) (h .lastChannel) ≡ Ordering·gt
 
-pub record Sound (h : Held) (s : List ℕ) : Type 0 where
+pub record HeldFacts (h : Held) (s : List ℕ) : Type 0 where
   pub rising : Rising (h .entries)
   pub stretch : Stretch (h .entries)
   pub each : (e : Entry) → List·Memᴰ e (h .entries) → IsEntry e
@@ -66,8 +66,8 @@ pub record Sound (h : Held) (s : List ℕ) : Type 0 where
 abbrev pub fresh : Held
 fresh = record { entries = []; drawn = false; lastTime = 0; lastChannel = 0 }
 
-pub fresh-sound : (s : List ℕ) → storeSize ≤ length s → Sound fresh s
-fresh-sound s l = record {
+pub fresh-facts : (s : List ℕ) → storeSize ≤ length s → HeldFacts fresh s
+fresh-facts s l = record {
   rising = tt;
   stretch = tt;
   each = λ e m. absurd (nowhere m);
@@ -119,13 +119,13 @@ sorted-stretch b (e ∷ es) S = λ f m. later f m (cases m)
     later f m (inl q) = rw q (ahead-self (e .time))
     later f m (inr n) = place-near b (S .base) (S .near f m) (S .near e (here refl)) (omega (arith, S .asc .0 f n))
 
--- a sound buffer is sorted from its first entry, and after a draw from the last pair
+-- a well-formed buffer is sorted from its first entry, and after a draw from the last pair
 pub sorted-first : (es : List Entry) → Rising es → Stretch es → ((e : Entry) → List·Memᴰ e es → IsEntry e) → (b : ℕ) × Sorted b es
 sorted-first [] r t each = (0, record { base = omega arith; near = λ e m. absurd (nowhere m); asc = tt })
 sorted-first (e ∷ es) r t each =
     (e .time, rising-sorted (e .time) (each e (here refl) .word) (e ∷ es) (λ f m. record { word = each f m .word; octet = each f m .octet; near = t f m }) r)
 
-pub sorted-last : (h : Held) (s : List ℕ) → Sound h s → h .drawn ≡ true → Sorted (h .lastTime) (h .entries)
+pub sorted-last : (h : Held) (s : List ℕ) → HeldFacts h s → h .drawn ≡ true → Sorted (h .lastTime) (h .entries)
 sorted-last h s S d =
     rising-sorted (h .lastTime) (S .last-word) (h .entries)
     (λ e m. after-near (e .time) (e .channel) (h .lastTime) (h .lastChannel) (S .each e m .word) (S .each e m .octet) (S .after-last d e m)) (S .rising)
@@ -155,7 +155,7 @@ fits-base t (h ∷ es) lt word r p = go (ltb (ahead t (h .time)) half) refl p
     go true q p = (h .time, word h (here refl), ltb-true (ahead t (h .time)) half q, r)
     go false q p = (t, lt, ahead-self t, all-within t (h ∷ es) p)
 
-module _ (h : Held) (s : List ℕ) (c : Copy) (S : Sound h s) (F : IsFrame c) where
+module _ (h : Held) (s : List ℕ) (c : Copy) (S : HeldFacts h s) (F : IsFrame c) where
   -- after a draw, what is not late is after the last pair
   pub not-late : isLate h c ≡ false → h .drawn ≡ true → order (c .time) (c .channel) (h .lastTime) (h .lastChannel) ≡ Ordering·gt
   not-late l d = not-after (order (c .time) (c .channel) (h .lastTime) (h .lastChannel)) (rw d at l)
@@ -195,8 +195,8 @@ module _ (h : Held) (s : List ℕ) (c : Copy) (S : Sound h s) (F : IsFrame c) wh
             (rw (put-cong sideOfEntry (byKey (entryPlace b)) always (entryOf c k) (h .entries) agree-new)
             (put-asc (entryPlace b) always (entryOf c k) (h .entries) (T .asc)))
 
-    pub laid-sound : (v : Verdict) → isLate h c ≡ false → k < slots → Clash (entryOf c k) (h .entries) → Sound (lays c k h s v .held) (lays c k h s v .store)
-    laid-sound v l lk q = record {
+    pub laid-facts : (v : Verdict) → isLate h c ≡ false → k < slots → Clash (entryOf c k) (h .entries) → HeldFacts (lays c k h s v .held) (lays c k h s v .store)
+    laid-facts v l lk q = record {
       rising = sorted-rising b (T .base) (placed c k (h .entries)) near-placed (placed-sorted .asc);
       stretch = sorted-stretch b (placed c k (h .entries)) placed-sorted;
       each = λ e m. inside e (unfold placed in put-from sideOfEntry always (entryOf c k) (h .entries) e m);
@@ -220,25 +220,25 @@ module _ (h : Held) (s : List ℕ) (c : Copy) (S : Sound h s) (F : IsFrame c) wh
 
   -- ---- one copy judged
   -- the slot of the entry that is replaced, and a free one
-  pub found-clash : (e : Entry) → heldOf c (h .entries) ≡ some e → (e .slot < slots) × Clash (entryOf c (e .slot)) (h .entries)
+  pub found-clash : (e : Entry) → findPair c (h .entries) ≡ some e → (e .slot < slots) × Clash (entryOf c (e .slot)) (h .entries)
   unfolding entryOf
   found-clash e w =
-      let m = held-mem (sideOfEntry (entryOf c 0)) (h .entries) e w in
+      let m = find-mem (sideOfEntry (entryOf c 0)) (h .entries) e w in
       (S .each e m .slot, λ y n v. w ∙ ap some (differ-one slotOf (h .entries) (S .own-slots) e y m n v))
 
   pub free-clash : length (h .entries) < slots → (freeSlot (h .entries) < slots) × Clash (entryOf c (freeSlot (h .entries))) (h .entries)
   unfolding entryOf
   free-clash l =
       let f = free-slot (h .entries) l in
-      (f .0, λ y n v. absurd (untaken (freeSlot (h .entries)) (h .entries) (f .1) y n v))
+      (f .0, λ y n v. absurd (slot-unused (freeSlot (h .entries)) (h .entries) (f .1) y n v))
 
-  pub judge-sound : Sound (judge h s c .held) (judge h s c .store)
-  judge-sound =
-      judge-cases h s c (λ j. Sound (j .held) (j .store))
+  pub judge-facts : HeldFacts (judge h s c .held) (judge h s c .store)
+  judge-facts =
+      judge-cases h s c (λ j. HeldFacts (j .held) (j .store))
       (λ u. S) (λ u v. S) (λ u v e w q. S)
-      (λ u v e w q. let t = sorted-with u v in let f = found-clash e w in laid-sound (t .0) (t .1) (t .2) (e .slot) Verdict.Better u (f .0) (f .1))
+      (λ u v e w q. let t = sorted-with u v in let f = found-clash e w in laid-facts (t .0) (t .1) (t .2) (e .slot) Verdict.Better u (f .0) (f .1))
       (λ u v w q. S)
-      (λ u v w q. let t = sorted-with u v in let f = free-clash q in laid-sound (t .0) (t .1) (t .2) (freeSlot (h .entries)) Verdict.Inserted u (f .0) (f .1))
+      (λ u v w q. let t = sorted-with u v in let f = free-clash q in laid-facts (t .0) (t .1) (t .2) (freeSlot (h .entries)) Verdict.Inserted u (f .0) (f .1))
 
   pub judge-length : length (judge h s c .store) ≡ length s
   judge-length =
@@ -249,23 +249,23 @@ module _ (h : Held) (s : List ℕ) (c : Copy) (S : Sound h s) (F : IsFrame c) wh
       (λ u v w q. stored-length c (h .entries) s (S .room) (F .size) (freeSlot (h .entries)) (free-clash q .0))
 
 -- ---- copies judged in turn
-pub judgeAll-sound : (h : Held) (s : List ℕ) (cs : List Copy) → Sound h s → Frames cs → Sound (judgeAll h s cs .held) (judgeAll h s cs .store)
+pub judgeAll-facts : (h : Held) (s : List ℕ) (cs : List Copy) → HeldFacts h s → Frames cs → HeldFacts (judgeAll h s cs .held) (judgeAll h s cs .store)
 unfolding judgeAll
-judgeAll-sound h s [] S F = S
-judgeAll-sound h s (c ∷ cs) S F = judgeAll-sound (judge h s c .held) (judge h s c .store) cs (judge-sound h s c S (F c (here refl))) (λ x m. F x (there m))
+judgeAll-facts h s [] S F = S
+judgeAll-facts h s (c ∷ cs) S F = judgeAll-facts (judge h s c .held) (judge h s c .store) cs (judge-facts h s c S (F c (here refl))) (λ x m. F x (there m))
 
-pub judgeAll-length : (h : Held) (s : List ℕ) (cs : List Copy) → Sound h s → Frames cs → length (judgeAll h s cs .store) ≡ length s
+pub judgeAll-length : (h : Held) (s : List ℕ) (cs : List Copy) → HeldFacts h s → Frames cs → length (judgeAll h s cs .store) ≡ length s
 unfolding judgeAll
 judgeAll-length h s [] S F = refl
 judgeAll-length h s (c ∷ cs) S F =
-    judgeAll-length (judge h s c .held) (judge h s c .store) cs (judge-sound h s c S (F c (here refl))) (λ x m. F x (there m))
+    judgeAll-length (judge h s c .held) (judge h s c .store) cs (judge-facts h s c S (F c (here refl))) (λ x m. F x (there m))
     ∙ judge-length h s c S (F c (here refl))
 
 -- ---- the first entry drawn
 abbrev pub drawnFirst : Entry → List Entry → Held
 drawnFirst e es = record { entries = es; drawn = true; lastTime = e .time; lastChannel = e .channel }
 
-module _ (h : Held) (s : List ℕ) (e : Entry) (es : List Entry) (q : h .entries ≡ e ∷ es) (S : Sound h s) where
+module _ (h : Held) (s : List ℕ) (e : Entry) (es : List Entry) (q : h .entries ≡ e ∷ es) (S : HeldFacts h s) where
   each-left : (f : Entry) → List·Memᴰ f (e ∷ es) → IsEntry f
   each-left = rw q at (S .each)
 
@@ -276,8 +276,8 @@ module _ (h : Held) (s : List ℕ) (e : Entry) (es : List Entry) (q : h .entries
   pub rest-after : (f : Entry) → List·Memᴰ f es → AfterLast (drawnFirst e es) f
   rest-after f m = first-before (left .0) e es (left .1) f m
 
-  pub draw-sound : Sound (drawnFirst e es) s
-  draw-sound =
+  pub draw-facts : HeldFacts (drawnFirst e es) s
+  draw-facts =
       let T = left .1 in
       let own : OwnSlots (e ∷ es) = rw q at (S .own-slots) in
       let R : Sorted (left .0) es = record { base = T .base; near = λ f m. T .near f (there m); asc = T .asc .1 } in

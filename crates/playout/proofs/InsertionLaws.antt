@@ -10,7 +10,7 @@ use native.Mathlib.Omega.{arith}
 use lib.ListN.{length}
 use lib.Arith.{lt-of-le-ne}
 use lib.Dec.{T, isLe, isEq, eqb, leb→le, nleb→lt, eqb→eq, eqb-refl}
-use Rattle.playout.specs.Entries.{putAt, put, heldAt, held}
+use Rattle.playout.specs.Entries.{putAt, put, findAt, findBy}
 
 -- what `compare` says
 abbrev pub Cmp : Ordering → ℕ → ℕ → Type 0
@@ -145,55 +145,55 @@ module _ {A : Type 0} (by : A → A → Ordering) (beats : A → A → Bool) whe
       go Ordering·gt ih (there m) = later (ih m)
 
   -- a key that is not held makes the list one longer
-  pub put-longer : (c : A) (l : List A) → held (by c) l ≡ none → length (put by beats c l) ≡ suc (length l)
-  unfolding put held
+  pub put-longer : (c : A) (l : List A) → findBy (by c) l ≡ none → length (put by beats c l) ≡ suc (length l)
+  unfolding put findBy
   put-longer c [] e = refl
   put-longer c (h ∷ t) e = go (by c h) (put-longer c t) e
     where
-      go : (o : Ordering) → (held (by c) t ≡ none → length (put by beats c t) ≡ suc (length t)) → heldAt o h (held (by c) t) ≡ none → length (putAt by beats o c h t (put by beats c t)) ≡ suc (suc (length t))
+      go : (o : Ordering) → (findBy (by c) t ≡ none → length (put by beats c t) ≡ suc (length t)) → findAt o h (findBy (by c) t) ≡ none → length (putAt by beats o c h t (put by beats c t)) ≡ suc (suc (length t))
       go Ordering·lt ih e = refl
       go Ordering·eq ih e = absurd (none≢some h (sym e))
       go Ordering·gt ih e = ap suc (ih e)
 
   -- a key that is held leaves its length
-  pub put-level : (c : A) (l : List A) (g : A) → held (by c) l ≡ some g → length (put by beats c l) ≡ length l
-  unfolding put held
+  pub put-level : (c : A) (l : List A) (g : A) → findBy (by c) l ≡ some g → length (put by beats c l) ≡ length l
+  unfolding put findBy
   put-level c [] g e = absurd (none≢some g e)
   put-level c (h ∷ t) g e = go (by c h) (put-level c t g) e
     where
-      go : (o : Ordering) → (held (by c) t ≡ some g → length (put by beats c t) ≡ length t) → heldAt o h (held (by c) t) ≡ some g → length (putAt by beats o c h t (put by beats c t)) ≡ suc (length t)
+      go : (o : Ordering) → (findBy (by c) t ≡ some g → length (put by beats c t) ≡ length t) → findAt o h (findBy (by c) t) ≡ some g → length (putAt by beats o c h t (put by beats c t)) ≡ suc (length t)
       go Ordering·lt ih e = absurd (none≢some g e)
       go Ordering·eq ih e = refl
       go Ordering·gt ih e = ap suc (ih e)
 
   -- a held item that is not beaten stays as it is
-  pub put-same : (c : A) (l : List A) (h : A) → held (by c) l ≡ some h → beats c h ≡ false → put by beats c l ≡ l
-  unfolding put held
+  pub put-same : (c : A) (l : List A) (h : A) → findBy (by c) l ≡ some h → beats c h ≡ false → put by beats c l ≡ l
+  unfolding put findBy
   put-same c [] g e b = absurd (none≢some g e)
   put-same c (h ∷ t) g e b = go (by c h) (put-same c t g) e
     where
-      go : (o : Ordering) → (held (by c) t ≡ some g → beats c g ≡ false → put by beats c t ≡ t) → heldAt o h (held (by c) t) ≡ some g → putAt by beats o c h t (put by beats c t) ≡ h ∷ t
+      go : (o : Ordering) → (findBy (by c) t ≡ some g → beats c g ≡ false → put by beats c t ≡ t) → findAt o h (findBy (by c) t) ≡ some g → putAt by beats o c h t (put by beats c t) ≡ h ∷ t
       go Ordering·lt ih e = absurd (none≢some g e)
       go Ordering·eq ih e = let q : h ≡ g = cc in rw (q, b)
       go Ordering·gt ih e = ap (λ (l : List A). h ∷ l) (ih e b)
 
-pub held-mem : {A : Type 0} (to : A → Ordering) (l : List A) (h : A) → held to l ≡ some h → List·Memᴰ h l
-unfolding held
-held-mem to [] h e = absurd (none≢some h e)
-held-mem {A} to (x ∷ t) h e = go (to x) (held-mem to t h) e
+pub find-mem : {A : Type 0} (to : A → Ordering) (l : List A) (h : A) → findBy to l ≡ some h → List·Memᴰ h l
+unfolding findBy
+find-mem to [] h e = absurd (none≢some h e)
+find-mem {A} to (x ∷ t) h e = go (to x) (find-mem to t h) e
   where
-    go : (o : Ordering) → (held to t ≡ some h → List·Memᴰ h t) → heldAt o x (held to t) ≡ some h → List·Memᴰ h (x ∷ t)
+    go : (o : Ordering) → (findBy to t ≡ some h → List·Memᴰ h t) → findAt o x (findBy to t) ≡ some h → List·Memᴰ h (x ∷ t)
     go Ordering·lt ih e = absurd (none≢some h e)
     go Ordering·eq ih e = here (sym (Option·some-injective x h e))
     go Ordering·gt ih e = there (ih e)
 
 -- what is held, through a map
-pub held-map : {A B : Type 0} (to : B → Ordering) (g : A → B) (l : List A) → held to (map g l) ≡ Option·map g (held (λ y. to (g y)) l)
-unfolding held
-held-map to g [] = refl
-held-map {A} {B} to g (h ∷ t) = go (to (g h)) (held-map to g t)
+pub find-map : {A B : Type 0} (to : B → Ordering) (g : A → B) (l : List A) → findBy to (map g l) ≡ Option·map g (findBy (λ y. to (g y)) l)
+unfolding findBy
+find-map to g [] = refl
+find-map {A} {B} to g (h ∷ t) = go (to (g h)) (find-map to g t)
   where
-    go : (o : Ordering) → held to (map g t) ≡ Option·map g (held (λ y. to (g y)) t) → heldAt o (g h) (held to (map g t)) ≡ Option·map g (heldAt o h (held (λ y. to (g y)) t))
+    go : (o : Ordering) → findBy to (map g t) ≡ Option·map g (findBy (λ y. to (g y)) t) → findAt o (g h) (findBy to (map g t)) ≡ Option·map g (findAt o h (findBy (λ y. to (g y)) t))
     go Ordering·lt ih = refl
     go Ordering·eq ih = refl
     go Ordering·gt ih = ih

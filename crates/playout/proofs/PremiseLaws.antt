@@ -15,10 +15,10 @@ use Rattle.playout.specs.Copies.{Copy, side, better}
 use Rattle.playout.specs.Entries.{Entry, Held, view, views, put}
 use Rattle.playout.specs.Verdicts.{fits, judge, Counts, noCounts, counted, tally, judgeAll}
 use Rattle.playout.specs.Lists.{SamePair, Playout, WithinStretch, Distinct, AtMost}
-use Rattle.playout.proofs.MergeLaws.{bests-like}
-use Rattle.playout.proofs.CountLaws.{Differ, no-more}
+use Rattle.playout.proofs.InsertionLaws.{bests-like}
+use Rattle.playout.proofs.DistinctLaws.{Differ, no-more}
 use Rattle.playout.proofs.JudgeLaws.{judge-cases, judge-last, judge-room}
-use Rattle.playout.proofs.SoundLaws.{IsFrame, Frames, Sound, fresh, fresh-sound, not-far, fits-base, judge-sound}
+use Rattle.playout.proofs.HeldLaws.{IsFrame, Frames, HeldFacts, fresh, fresh-facts, not-far, fits-base, judge-facts}
 use Rattle.playout.proofs.PlayoutLaws.{Settled, judge-views, copyPlace, mem-map, ranks, to-playout, of-playout, more, gathered, in-stretch, premises-settled}
 
 -- ---- at most as many pairs as the playout list has
@@ -61,7 +61,7 @@ map-mem f (x ∷ l) y (here e) = (x, here refl, e)
 map-mem f (x ∷ l) y (there m) = let r = map-mem f l y m in (r .0, there (r .1), r .2)
 
 -- one more copy, where the copies before were settled
-module _ (h : Held) (s : List ℕ) (c : Copy) (done : List Copy) (S : Sound h s) (d : h .drawn ≡ false) (F : Frames (c ∷ done)) (D : Playout done (views s (h .entries))) where
+module _ (h : Held) (s : List ℕ) (c : Copy) (done : List Copy) (S : HeldFacts h s) (d : h .drawn ≡ false) (F : Frames (c ∷ done)) (D : Playout done (views s (h .entries))) where
   fc : IsFrame c
   fc = F c (here refl)
 
@@ -101,7 +101,7 @@ module _ (h : Held) (s : List ℕ) (c : Copy) (done : List Copy) (S : Sound h s)
       )
 
 -- all copies
-settled-all : (cs done : List Copy) (h : Held) (s : List ℕ) (n : Counts) → Sound h s → h .drawn ≡ false → length (h .entries) ≤ slots → ((x : Copy) → List·Memᴰ x cs ⊎ List·Memᴰ x done → IsFrame x) → WithinStretch done → Playout done (views s (h .entries)) → Stays n (tally n (judgeAll h s cs .judgements)) → WithinStretch (reverseAux cs done) × AtMost slots (reverseAux cs done)
+settled-all : (cs done : List Copy) (h : Held) (s : List ℕ) (n : Counts) → HeldFacts h s → h .drawn ≡ false → length (h .entries) ≤ slots → ((x : Copy) → List·Memᴰ x cs ⊎ List·Memᴰ x done → IsFrame x) → WithinStretch done → Playout done (views s (h .entries)) → Stays n (tally n (judgeAll h s cs .judgements)) → WithinStretch (reverseAux cs done) × AtMost slots (reverseAux cs done)
 unfolding judgeAll tally
 settled-all [] done h s n S d l F W D k = (W, λ ds sub A. le-trans (at-most-played done (views s (h .entries)) D ds sub A) (omega (arith, length-map (h .entries) (view s))))
 settled-all (c ∷ cs) done h s n S d l F W D k =
@@ -111,7 +111,7 @@ settled-all (c ∷ cs) done h s n S d l F W D k =
     let same : Stays n (counted n (judge h s c .verdict)) = (omega (arith, k .0, g .0, f .0), omega (arith, k .1, g .1, f .1)) in
     let z = stays-settled h s c done S d FD D n same in
     let r = next h s c done S d FD D (z .0) (z .1) in
-    settled-all cs (c ∷ done) (judge h s c .held) (judge h s c .store) (counted n (judge h s c .verdict)) (judge-sound h s c S (FD c (here refl))) (judge-last h s c .0 ∙ d) (judge-room h s c l)
+    settled-all cs (c ∷ done) (judge h s c .held) (judge h s c .store) (counted n (judge h s c .verdict)) (judge-facts h s c S (FD c (here refl))) (judge-last h s c .0 ∙ d) (judge-room h s c l)
     (λ x o. F x (turn x o)) (r .0) (r .1) (k .0 ∙ sym (same .0), k .1 ∙ sym (same .1))
   where
     turn : (x : Copy) → List·Memᴰ x cs ⊎ List·Memᴰ x (c ∷ done) → List·Memᴰ x (c ∷ cs) ⊎ List·Memᴰ x done
@@ -131,7 +131,7 @@ module _ (s : List ℕ) (cs : List Copy) (l : storeSize ≤ length s) (F : Frame
   pub settled-premises : tally noCounts (gathered s cs .judgements) .far ≡ 0 → tally noCounts (gathered s cs .judgements) .noRoom ≡ 0 → WithinStretch cs × AtMost slots cs
   settled-premises f r =
       let k =
-      settled-all cs [] fresh s noCounts (fresh-sound s l) refl (omega arith) (λ x o. F x (⊎-elim (λ (m : List·Memᴰ x cs). m) (λ m. absurd (nowhere m)) o))
+      settled-all cs [] fresh s noCounts (fresh-facts s l) refl (omega arith) (λ x o. F x (⊎-elim (λ (m : List·Memᴰ x cs). m) (λ m. absurd (nowhere m)) o))
       (record { base = 0; word = omega arith; within = λ x m. absurd (nowhere m) })
       (record { ascending = tt; copies = λ d m. m; all = λ x m. absurd (nowhere m); best = λ d x m n. absurd (nowhere m) })
       (f, r) in
