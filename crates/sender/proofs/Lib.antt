@@ -2,5 +2,5 @@ pub mod RangeLaws
 pub mod WordLaws
 pub mod ListsLaws
 pub mod PutLaws
-pub mod AgreeLaws
+pub mod ListPartLaws
 pub mod SendingLaws
