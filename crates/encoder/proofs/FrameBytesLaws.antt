@@ -24,7 +24,7 @@ inside-more : (n : ℕ) (r : Row) (rs : List Row) → outside n (r ∷ rs) ≡ f
 unfolding outside
 inside-more n r rs h = by-test (ltb n (r .start + r .length)) (λ a. not-both true refl (rw a at h)) (λ a. (ltb-false n (r .start + r .length) a, rw a at h))
 
-frame-length : (bytes : List ℕ) (start n : ℕ) → start + n ≤ length bytes → length (take n (drop start bytes)) ≡ n
+pub frame-length : (bytes : List ℕ) (start n : ℕ) → start + n ≤ length bytes → length (take n (drop start bytes)) ≡ n
 frame-length bytes start n h = length-take-le n (drop start bytes) (simp length-drop (omega arith))
 
 -- the frames of a list that lie in their bytes are as long as the rows say

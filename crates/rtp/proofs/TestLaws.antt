@@ -1,6 +1,6 @@
 -- Laws of tests.
 use mathlib.Core.Path.{_≡_, refl}
-use mathlib.Core.Bool.{Bool, true, false}
+use mathlib.Core.Bool.{Bool, true, false, cond}
 
 -- both ways of a test
 pub by-test {ℓ} : {P : Type ℓ} (b : Bool) → (b ≡ true → P) → (b ≡ false → P) → P
@@ -17,3 +17,16 @@ not-both b p q = let z : _≡_ {A = Bool} true false = cc in absurd (false-is-no
 
     false-is-not-true : _≡_ {A = Bool} true false → ⊥
     false-is-not-true z = mathlib.Core.Path.subst Is z tt
+
+-- tests one after another that pass: both do, the first does not and the second does, neither does
+pub both : (t b : Bool) → cond t b false ≡ true → (t ≡ true) × (b ≡ true)
+both true b h = (refl, h)
+both false b h = not-both false h refl
+
+pub either : (t b : Bool) → cond t false b ≡ true → (t ≡ false) × (b ≡ true)
+either true b h = not-both false h refl
+either false b h = (refl, h)
+
+pub neither : (t b : Bool) → cond t true b ≡ false → (t ≡ false) × (b ≡ false)
+neither true b h = not-both true refl h
+neither false b h = (refl, h)

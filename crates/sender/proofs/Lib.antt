@@ -1,10 +1,4 @@
 pub mod RangeLaws
-pub mod HeaderBackLaws
-pub mod SameFrameLaws
-pub mod PayloadBackLaws
-pub mod PartLaws
-pub mod BlocksBackLaws
-pub mod PacketTheorem
 pub mod WordLaws
 pub mod ListsLaws
 pub mod PutLaws

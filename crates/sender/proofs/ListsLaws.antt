@@ -17,10 +17,9 @@ use Rattle.rtp.proofs.TestLaws.{by-test}
 use Rattle.payload.specs.Contents.{Contents, refused, groups}
 use Rattle.payload.specs.Rows.{rowsIn}
 use Rattle.encoder.specs.declared.writing.Written.{Written}
-use Rattle.encoder.specs.Lists.{whole}
+use Rattle.encoder.specs.Lists.{whole, firstTime}
 use Rattle.encoder.specs.Plans.{maxPayload, plan}
 use Rattle.encoder.specs.Writings.{Numbers, writtenNumbers, plannedNumbers, refusedNumbers, measured}
-use Rattle.encoder.specs.Claims.{firstTime}
 use Rattle.encoder.proofs.PayloadLaws.{listed}
 use Rattle.sender.specs.Parts.{maxOffset, maxBlock, primaryTime}
 use Rattle.sender.specs.Room.{blockHeaderOf, offsetOf, redundantNumbers, addNumbers, listsNumbers, listsHeaders, HeaderFits, HeadersFit, listBytes, listsPayloads, headersSize}

@@ -7,7 +7,7 @@ use lib.Dec.{ltb, eqb}
 use borrow.Author.Tests.{ltb-false, eqb-false}
 use Rattle.rtp.specs.Ranges.{noRedundancy, maxChannels, inRange}
 use Rattle.rtp.specs.declared.settings.Settings.{Settings}
-use Rattle.encoder.proofs.AttachLaws.{either}
+use Rattle.rtp.proofs.TestLaws.{either}
 
 pub record Ranged (st : Settings) : Type 0 where
   pub channels : 1 ≤ st .channels

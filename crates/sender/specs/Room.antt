@@ -10,9 +10,8 @@ use Rattle.rtp.specs.Ranges.{inRange, noRedundancy}
 use Rattle.rtp.specs.Redundancy.{before}
 use Rattle.rtp.specs.declared.settings.Settings.{Settings}
 use Rattle.rtp.specs.declared.refusal.Refusal.the-variants.{Unwritable}
-use Rattle.encoder.specs.Lists.{rowsIn, outside}
+use Rattle.encoder.specs.Lists.{rowsIn, outside, firstTime}
 use Rattle.encoder.specs.Writings.{Encoded, noBytes, bytesOf, encoded, encodedBytes, Numbers, refusedNumbers, measured}
-use Rattle.encoder.specs.Claims.{firstTime}
 use Rattle.sender.specs.Parts.{maxOffset, maxBlock, total, parts}
 use Rattle.sender.specs.Packets.{Heading, assembledFrom}
 

@@ -6,17 +6,18 @@ use Prim.Native.Nat.{ℕ, zero, suc, _+_, _-_, _*_, _^_, _%_, _≤_, _<_}
 use native.Mathlib.Omega.{arith}
 use lib.Dec.{ltb, eqb}
 use borrow.Author.Tests.{eq-eqb, ne-eqb, ltb-true, eqb-true}
+use Rattle.rtp.proofs.TestLaws.{both}
 use Rattle.rtp.specs.declared.refusal.Refusal.the-variants.{Unwritable}
 use Rattle.payload.specs.Frames.{stepOf}
 use Rattle.payload.specs.Contents.{Group, Contents, refused, groups}
 use Rattle.payload.specs.Rows.{Row, placed, after, blockRows}
 use Rattle.payload.specs.Codes.{noCode, codeFor}
 use Rattle.encoder.specs.Plans.{ticksAfter, gapBetween, continues, follows, attach, planFrom}
-use Rattle.encoder.proofs.TableBlockLaws.{Block, blocksIn, blocksRows}
-use Rattle.encoder.proofs.FrameLaws.{plain, plains, plains-append, Alike}
-use Rattle.encoder.proofs.AttachLaws.{both, Later, same-groups, Attached, attached}
-use Rattle.encoder.proofs.PlanBlockLaws.{standing}
-use Rattle.encoder.proofs.TickLaws.{next, placed-back}
+use Rattle.roundtrip.proofs.TableBlockLaws.{Block, blocksIn, blocksRows}
+use Rattle.roundtrip.proofs.FrameLaws.{plain, plains, plains-append, Alike}
+use Rattle.roundtrip.proofs.AttachLaws.{Later, same-groups, Attached, attached}
+use Rattle.roundtrip.proofs.PlanBlockLaws.{standing}
+use Rattle.roundtrip.proofs.TickLaws.{next, placed-back}
 
 -- Rows of frame-blocks but for their starts
 

@@ -15,13 +15,13 @@ use Rattle.payload.specs.Frames.{stepOf}
 use Rattle.payload.specs.Contents.{Group, Contents, refused, groups}
 use Rattle.payload.specs.Rows.{Row, placed, blockRows}
 use Rattle.payload.specs.Codes.{noCode, codeFor}
 use Rattle.encoder.specs.Plans.{maxGap, gapBetween, nextChannel, starts, follows, attach, planFrom}
-use Rattle.encoder.proofs.TableBackLaws.{Runs}
-use Rattle.encoder.proofs.TableBlockLaws.{Block, blocksOf, blocksIn, blocksRows}
-use Rattle.encoder.proofs.FrameLaws.{plain, plains}
-use Rattle.encoder.proofs.AttachLaws.{blockAt}
-use Rattle.encoder.proofs.ShortestLaws.{rowFor, attachAll}
-use Rattle.encoder.proofs.TickLaws.{next, ticks}
+use Rattle.roundtrip.proofs.TableBackLaws.{Runs}
+use Rattle.roundtrip.proofs.TableBlockLaws.{Block, blocksOf, blocksIn, blocksRows}
+use Rattle.roundtrip.proofs.FrameLaws.{plain, plains}
+use Rattle.roundtrip.proofs.AttachLaws.{blockAt}
+use Rattle.roundtrip.proofs.ShortestLaws.{rowFor, attachAll}
+use Rattle.roundtrip.proofs.TickLaws.{next, ticks}
 
 -- What a plan goes by: of the row before, the time, the class and the length
 

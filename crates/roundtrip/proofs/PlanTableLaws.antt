@@ -1,5 +1,5 @@
 -- Laws of the plan of a whole list: it is a table that says the list, it is refused as unwritable alone, and where a table says the list there is one.
-use mathlib.Core.Path.{_≡_, refl, ap, sym, _∙_, subst}
+use mathlib.Core.Path.{_≡_, refl, ap, sym, _∙_}
 use mathlib.Core.List.{List, [], _∷_}
 use mathlib.Core.Bool.{Bool, true, false, cond}
 use Prim.Native.Nat.{ℕ, _+_, _^_, _≤_, _<_}
@@ -14,16 +14,18 @@ use Rattle.payload.specs.Frames.{stepOf}
 use Rattle.payload.specs.Contents.{Group, Contents, refused, groups, rowsIn, sizeIn, framesIn}
 use Rattle.payload.specs.Rows.{Row, tableRows}
 use Rattle.payload.proofs.PayloadLaws.{length-table}
 use Rattle.encoder.specs.Plans.{maxPayload, gapBetween, nextChannel, follows, joins, headGap, attach, planFrom, stepBefore, fitting, plan}
-use Rattle.encoder.specs.Claims.{firstTime}
-use Rattle.encoder.proofs.TableBackLaws.{Runs}
-use Rattle.encoder.proofs.TableBlockLaws.{blocksIn, table-blocks, total, table-frames}
-use Rattle.encoder.proofs.FrameLaws.{plains, total-plains, length-plains}
-use Rattle.encoder.proofs.AttachLaws.{Later, firstGap, same-groups}
-use Rattle.encoder.proofs.ShortestLaws.{shortest}
-use Rattle.encoder.proofs.TickLaws.{next, first}
-use Rattle.encoder.proofs.PlanBlockLaws.{plan-plain, fit-runs, plan-blocks}
-use Rattle.encoder.proofs.PlanRowLaws.{blockPlains, plain-blocks, begun, Times, Planned, planned}
+use Rattle.encoder.specs.Lists.{firstTime}
+use Rattle.encoder.specs.Room.{lengthsIn}
+use Rattle.encoder.proofs.PayloadLaws.{fitted}
+use Rattle.roundtrip.proofs.TableBackLaws.{Runs}
+use Rattle.roundtrip.proofs.TableBlockLaws.{blocksIn, table-blocks, table-frames}
+use Rattle.roundtrip.proofs.FrameLaws.{plains, lengths-plains, length-plains}
+use Rattle.roundtrip.proofs.AttachLaws.{Later, firstGap}
+use Rattle.roundtrip.proofs.ShortestLaws.{shortest}
+use Rattle.roundtrip.proofs.TickLaws.{next, first}
+use Rattle.roundtrip.proofs.PlanBlockLaws.{plan-plain, fit-runs, plan-blocks}
+use Rattle.roundtrip.proofs.PlanRowLaws.{blockPlains, plain-blocks, begun, Times, Planned, planned}
 
 -- The only refusal
 
@@ -85,12 +87,6 @@ passed : (t : Bool) (x : Contents) (gs : List Group) → cond t (refused Unwrita
 passed true x gs h = let z : _≡_ {A = ℕ} 0 1 = cc in absurd (omega arith)
 passed false x gs h = (refl, h)
 
-fitted : (format ch : ℕ) (x : Contents) (gs : List Group) → fitting format ch x ≡ groups gs → (x ≡ groups gs) × (sizeIn format gs + framesIn ch gs ≤ maxPayload)
-fitted format ch (refused q) gs h = let z : _≡_ {A = ℕ} 0 1 = cc in absurd (omega arith)
-fitted format ch (groups hs) gs h =
-    let p = passed (ltb maxPayload (sizeIn format hs + framesIn ch hs)) (groups hs) gs h in
-    (p .1, subst (λ (l : List Group). sizeIn format l + framesIn ch l ≤ maxPayload) (same-groups hs gs (p .1)) (ltb-false _ _ (p .0)))
-
 runs-first : (format : ℕ) (gs : List Group) → Later format gs → firstGap gs ≡ 0 → Runs format gs
 runs-first format [] l f = tt
 runs-first format (g ∷ gs) l f = (l .0, f, l .1)
@@ -107,8 +103,8 @@ rows-same step ch time start rs gs h =
     sym (length-plains rs) ∙ ap (λ (l : List Row). length l) h ∙ length-plains (tableRows step ch time start gs) ∙ length-table step ch time start gs
 
 -- and as many bytes of frames
-pub frames-same : (step ch time start : ℕ) (rs : List Row) (gs : List Group) → plains rs ≡ plains (tableRows step ch time start gs) → total rs ≡ framesIn ch gs
-frames-same step ch time start rs gs h = sym (total-plains rs) ∙ ap total h ∙ total-plains (tableRows step ch time start gs) ∙ table-frames step ch time start gs
+pub frames-same : (step ch time start : ℕ) (rs : List Row) (gs : List Group) → plains rs ≡ plains (tableRows step ch time start gs) → lengthsIn rs ≡ framesIn ch gs
+frames-same step ch time start rs gs h = sym (lengths-plains rs) ∙ ap lengthsIn h ∙ lengths-plains (tableRows step ch time start gs) ∙ table-frames step ch time start gs
 
 pub plan-table : (format ch : ℕ) (rs : List Row) (gs : List Group) → 1 ≤ ch → Times rs → plan format ch rs ≡ groups gs → Tabled format ch rs gs
 unfolding plan

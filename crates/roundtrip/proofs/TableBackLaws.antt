@@ -4,28 +4,20 @@ use mathlib.Core.List.{List, [], _∷_, _++_, append-assoc}
 use mathlib.Core.Bool.{true, false}
 use Prim.Native.Nat.{ℕ, _+_, _*_, _≤_}
 use native.Mathlib.Omega.{arith}
-use native.Mathlib.Nat.{add-zero}
-use lib.ListN.{length, length-append}
+use lib.ListN.{length}
 use lib.Seq.{drop-at}
 use Rattle.rtp.specs.Sizes.{maxRows}
-use Rattle.payload.specs.Contents.{Group, groups, meaning, prepend, contents, rowsIn, sizeIn}
+use Rattle.payload.specs.Contents.{Group, groups, meaning, prepend, contents, rowsIn}
 use Rattle.payload.proofs.TableLaws.{contents-last, contents-more}
 use Rattle.encoder.specs.Plans.{headGap}
 use Rattle.encoder.specs.Bytes.{entryBytes, tableBytes}
-use Rattle.encoder.proofs.EntryBackLaws.{Run, entryFor, length-entry, entry-back, meaning-back}
+use Rattle.encoder.proofs.EntryLaws.{length-entry}
+use Rattle.roundtrip.proofs.EntryBackLaws.{Run, entryFor, entry-back, meaning-back}
 
 -- runs one after another, each directly after the one before
 abbrev pub Runs : ℕ → List Group → Type 0
 Runs format [] = Unit {0}
 Runs format (g ∷ gs) = Run format g × (headGap g ≡ 0) × Runs format gs
-
-pub length-table-bytes : (format : ℕ) (gs : List Group) → Runs format gs → length (tableBytes format gs) ≡ sizeIn format gs
-unfolding tableBytes sizeIn
-length-table-bytes format [] h = refl
-length-table-bytes format (g ∷ []) h = rw add-zero (length-entry format false g (h .0))
-length-table-bytes format (g ∷ f ∷ gs) h =
-    let e = length-table-bytes format (f ∷ gs) (h .2) in
-    rw (length-append, length-entry format true g (h .0), e)
 
 pub table-back : (format ch rows : ℕ) (g : Group) (gs : List Group) (rest : List ℕ) → Runs format (g ∷ gs) → rows + rowsIn ch (g ∷ gs) ≤ maxRows
     → contents format ch rows (tableBytes format (g ∷ gs) ++ rest) ≡ groups (g ∷ gs)
@@ -41,6 +33,6 @@ table-back format ch rows g (f ∷ gs) rest v h =
     let ih = table-back format ch (rows + length (g .gaps) * ch) f gs rest (v .2) (omega arith) in
     rw append-assoc
     (contents-more format ch rows s e (entry-back format true g next (v .0)) (omega arith) refl
-    ∙ ap (λ (l : List ℕ). prepend (meaning format s e) (contents format ch (rows + length (g .gaps) * ch) l)) (drop-at (entryBytes format true g) next (e .size) (length-entry format true g (v .0)))
+    ∙ ap (λ (l : List ℕ). prepend (meaning format s e) (contents format ch (rows + length (g .gaps) * ch) l)) (drop-at (entryBytes format true g) next (e .size) (length-entry format true g))
     ∙ ap (prepend (meaning format s e)) ih
     ∙ ap (λ (x : Group). groups (x ∷ f ∷ gs)) (meaning-back format true g next (v .0) (v .1)))

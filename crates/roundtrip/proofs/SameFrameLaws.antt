@@ -1,20 +1,19 @@
 -- Laws of rows that are the rows of a list, row by row, but for their starts.
 use mathlib.Core.Path.{_≡_, refl, ap, sym, _∙_}
 use mathlib.Core.List.{List, [], _∷_, _++_}
-use mathlib.Core.Bool.{Bool, true, false, cond}
+use mathlib.Core.Bool.{false}
 use Prim.Native.Nat.{ℕ, zero, suc, _+_, _-_, _≤_}
 use native.Mathlib.Omega.{arith}
 use lib.ListN.{length, take, drop, length-take, length-drop}
 use lib.Seq.{take-append-le, drop-append-le}
 use lib.Dec.{ltb}
 use borrow.Author.Tests.{ltb-false}
-use Rattle.rtp.proofs.TestLaws.{not-both}
+use Rattle.rtp.proofs.TestLaws.{neither}
 use Rattle.payload.specs.Rows.{Row}
 use Rattle.encoder.specs.Lists.{outside}
-use Rattle.encoder.proofs.FrameLaws.{past}
+use Rattle.encoder.proofs.FrameBytesLaws.{frame-length}
 use Rattle.encoder.specs.Bytes.{frameIn}
-use Rattle.encoder.specs.Claims.{SameFrames}
-use Rattle.encoder.proofs.FrameLaws.{length-frame}
+use Rattle.roundtrip.specs.Claims.{SameFrames}
 
 pub same-length : (p bytes : List ℕ) (qs rs : List Row) → SameFrames p bytes qs rs → length qs ≡ length rs
 same-length p bytes [] [] h = refl
@@ -42,8 +41,8 @@ same-longer p back bytes [] [] o h = tt
 same-longer p back bytes [] (r ∷ rs) o h = absurd h
 same-longer p back bytes (q ∷ qs) [] o h = absurd h
 same-longer p back bytes (q ∷ qs) (r ∷ rs) o h =
-    let i = past (ltb (length bytes) (r .start + r .length)) (outside (length bytes) rs) o in
-    let n : length (frameIn p q) ≡ q .length = ap length (h .0 .frame) ∙ length-frame bytes r (ltb-false _ _ (i .0)) ∙ sym (h .0 .length) in (
+    let i = neither (ltb (length bytes) (r .start + r .length)) (outside (length bytes) rs) o in
+    let n : length (frameIn p q) ≡ q .length = ap length (h .0 .frame) ∙ frame-length bytes (r .start) (r .length) (ltb-false _ _ (i .0)) ∙ sym (h .0 .length) in (
       record {
         time = h .0 .time;
         class = h .0 .class;
@@ -53,19 +52,3 @@ same-longer p back bytes (q ∷ qs) (r ∷ rs) o h =
       },
       same-longer p back bytes qs rs (i .1) (h .1),
     )
-
--- Rows inside their bytes, some of a list
-
-pub outside-take : (m n : ℕ) (rs : List Row) → outside m rs ≡ false → outside m (take n rs) ≡ false
-unfolding outside
-outside-take m zero rs h = refl
-outside-take m (suc n) [] h = refl
-outside-take m (suc n) (r ∷ rs) h =
-    let i = past (ltb m (r .start + r .length)) (outside m rs) h in
-    rw (i .0) (outside-take m n rs (i .1))
-
-pub outside-drop : (m n : ℕ) (rs : List Row) → outside m rs ≡ false → outside m (drop n rs) ≡ false
-unfolding outside
-outside-drop m zero rs h = h
-outside-drop m (suc n) [] h = refl
-outside-drop m (suc n) (r ∷ rs) h = outside-drop m n rs (past (ltb m (r .start + r .length)) (outside m rs) h .1)

@@ -11,9 +11,9 @@ use Rattle.rtp.specs.Redundancy.{before}
 use Rattle.rtp.specs.declared.settings.Settings.{Settings}
 use Rattle.payload.specs.Rows.{Row}
 use Rattle.encoder.specs.Writings.{Encoded, noBytes, bytesOf, encoded}
-use Rattle.encoder.specs.Claims.{firstTime}
-use Rattle.encoder.proofs.PlanRowLaws.{Times}
+use Rattle.encoder.specs.Lists.{firstTime}
+use Rattle.roundtrip.proofs.PlanRowLaws.{Times}
 use Rattle.sender.specs.Parts.{maxOffset, maxBlock, primaryTime, Part, Parts, noParts, partsOf, primaryPart, prependPart, redundantPart, parts}
 
 -- Times of 32 bits
 

@@ -1,37 +1,39 @@
 -- Demand 2 of writing: what is written reads back, and 13 is given exactly where no payload reads to the list.
 use mathlib.Core.Path.{_≡_, refl, ap, sym, _∙_, subst}
-use mathlib.Core.List.{List, [], _∷_, _++_}
+use mathlib.Core.List.{List, [], _∷_, _++_, append-nil}
 use mathlib.Core.Bool.{true, false}
 use Prim.Native.Nat.{ℕ, suc, _+_, _≤_}
 use native.Mathlib.Omega.{arith}
-use lib.ListN.{length, length-append}
+use lib.ListN.{length}
 use lib.Dec.{ltb, eqb}
-use borrow.Author.Tests.{eq-eqb, eqb-true, eqb-false}
+use borrow.Author.Tests.{eqb-true}
 use Rattle.rtp.specs.Sizes.{maxRows}
 use Rattle.rtp.specs.Ranges.{inRange}
 use Rattle.rtp.specs.declared.settings.Settings.{Settings}
 use Rattle.rtp.specs.declared.refusal.Refusal.the-variants.{Unwritable}
-use Rattle.rtp.proofs.TestLaws.{by-test, not-both}
+use Rattle.rtp.proofs.TestLaws.{by-test}
 use Rattle.payload.specs.Frames.{stepOf}
 use Rattle.payload.specs.Contents.{Group, Contents, refused, groups, contents, rowsIn as rowsSaid, sizeIn, framesIn, sizesAnswer}
 use Rattle.payload.specs.Rows.{Row, tableRows}
 use Rattle.payload.specs.Payloads.{exact, payload, rowsOf, placedRows, payloadRows}
 use Rattle.payload.proofs.ContentsLaws.{Small, within}
 use Rattle.payload.specs.Rows.{rowsIn}
-use Rattle.encoder.specs.Lists.{whole, outside}
+use Rattle.encoder.specs.Lists.{firstTime, whole, outside}
 use Rattle.encoder.specs.Plans.{maxPayload, plan}
 use Rattle.encoder.specs.Bytes.{tableBytes, frames}
 use Rattle.encoder.specs.Writings.{noBytes, bytesOf, plannedBytes, encoded, roomFor, writing}
-use Rattle.encoder.specs.Claims.{Bytes, Words, SameFrames, firstTime, ReadsTo, RoundTrip, Unreadable, Exactness}
-use Rattle.encoder.proofs.TableBackLaws.{Runs, length-table-bytes, table-back}
-use Rattle.encoder.proofs.ByteLaws.{bytes-append, bytes-table, bytes-frames}
-use Rattle.encoder.proofs.TableBlockLaws.{blocksIn, table-blocks, Laid, laid-blocks}
-use Rattle.encoder.proofs.FrameLaws.{plains, same-plains, length-frames, laid-same}
-use Rattle.encoder.proofs.PlanRowLaws.{Times}
-use Rattle.encoder.proofs.PlanTableLaws.{Only, only-plan, frames-same, Tabled, plan-table, Plan, table-plan}
-use Rattle.encoder.proofs.ReadLaws.{read-runs}
+use Rattle.encoder.proofs.ListLaws.{length-rows}
+use Rattle.encoder.proofs.PayloadLaws.{listed, length-bytes}
+use Rattle.encoder.proofs.WritingLaws.{in-range-some}
+use Rattle.roundtrip.specs.Claims.{Bytes, Words, SameFrames, ReadsTo, RoundTrip, Unreadable, Exactness}
+use Rattle.roundtrip.proofs.ByteLaws.{bytes-append, bytes-table, bytes-frames}
+use Rattle.roundtrip.proofs.FrameLaws.{plains, same-plains}
+use Rattle.roundtrip.proofs.PlanRowLaws.{Times}
+use Rattle.roundtrip.proofs.PlanTableLaws.{Only, only-plan, plan-table, Plan, table-plan}
+use Rattle.roundtrip.proofs.PayloadBackLaws.{payload-back}
+use Rattle.roundtrip.proofs.ReadLaws.{read-runs}
 
--- The list's times, and the settings' channels
+-- A list's times
 
 pub times : (ws : List ℕ) → Words ws → Times (rowsIn ws)
 unfolding rowsIn
@@ -41,70 +43,26 @@ times (a ∷ b ∷ []) h = tt
 times (a ∷ b ∷ c ∷ []) h = tt
 times (a ∷ b ∷ c ∷ d ∷ ws) h = (h 0, times ws (λ i. h (suc (suc (suc (suc i))))))
 
-channels : (st : Settings) → inRange st ≡ true → 1 ≤ st .channels
-unfolding inRange
-channels st h =
-    by-test (eqb (st .channels) 0)
-    (λ a. not-both false (rw a at h) refl)
-    (λ a. omega (arith, eqb-false (st .channels) 0 a))
-
--- A planned payload
-
-module _ (format ch : ℕ) (bytes : List ℕ) (rs : List Row) (gs : List Group) (v : Tabled format ch rs gs) (inside : outside (length bytes) rs ≡ false) where
-  planned-length : length (tableBytes format gs ++ frames bytes rs) ≡ sizeIn format gs + framesIn ch gs
-  planned-length =
-      let e = frames-same (stepOf format) ch (firstTime rs) 0 rs gs (v .rows 0) in
-      length-append (tableBytes format gs) (frames bytes rs) ∙ rw (length-table-bytes format gs (v .runs), length-frames bytes rs inside, e)
-
-  planned-contents : contents format ch 0 (tableBytes format gs ++ frames bytes rs) ≡ groups gs
-  planned-contents = go gs (v .runs) (v .some) (v .few)
-    where
-      go : (gs : List Group) → Runs format gs → 1 ≤ length gs → rowsSaid ch gs ≤ maxRows → contents format ch 0 (tableBytes format gs ++ frames bytes rs) ≡ groups gs
-      go [] r n few = absurd (omega arith)
-      go (g ∷ gs) r n few = table-back format ch 0 g gs (frames bytes rs) r (omega arith)
-
-  planned-rows : List Row
-  planned-rows = tableRows (stepOf format) ch (firstTime rs) (0 + sizeIn format gs) gs
-
-  planned-read : payloadRows format ch 0 (firstTime rs) 0 (tableBytes format gs ++ frames bytes rs) ≡ rowsOf planned-rows
-  unfolding payloadRows payload placedRows planned-rows
-  planned-read = rw (planned-contents, eq-eqb (sizeIn format gs + framesIn ch gs) (length (tableBytes format gs ++ frames bytes rs)) (sym planned-length))
-
-  planned-same : SameFrames (tableBytes format gs ++ frames bytes rs) bytes planned-rows rs
-  unfolding planned-rows
-  planned-same =
-      let n : 0 + sizeIn format gs ≡ length (tableBytes format gs) = omega (arith, length-table-bytes format gs (v .runs)) in
-      laid-same (tableBytes format gs) bytes planned-rows rs (sym (v .rows (0 + sizeIn format gs)))
-      (subst (λ (k : ℕ). Laid k planned-rows) n laid) inside
-    where
-      laid : Laid (0 + sizeIn format gs) planned-rows
-      laid =
-          subst (Laid (0 + sizeIn format gs)) (sym (table-blocks (stepOf format) ch (firstTime rs) (0 + sizeIn format gs) gs))
-          (laid-blocks (stepOf format) ch (firstTime rs) (0 + sizeIn format gs) (blocksIn gs))
-
 -- a list that there is a plan for, and what is written of it
 module _ (st : Settings) (ws bytes : List ℕ) (words : Words ws) (range : inRange st ≡ true) (inside : outside (length bytes) (rowsIn ws) ≡ false) where
-  tabled : (gs : List Group) → plan (st .format) (st .channels) (rowsIn ws) ≡ groups gs → Tabled (st .format) (st .channels) (rowsIn ws) gs
-  tabled gs h = plan-table (st .format) (st .channels) (rowsIn ws) gs (channels st range) (times ws words) h
-
   module _ (gs : List Group) (h : plan (st .format) (st .channels) (rowsIn ws) ≡ groups gs) where
     written-length : length (tableBytes (st .format) gs ++ frames bytes (rowsIn ws)) ≤ maxPayload
-    written-length = let v = tabled gs h in omega (arith, v .fits, planned-length (st .format) (st .channels) bytes (rowsIn ws) gs v inside)
+    written-length =
+        omega (arith, length-bytes (st .format) (st .channels) ws bytes gs (in-range-some st range) inside h, listed (st .format) (st .channels) ws gs h .fits)
 
     written-reads : whole ws ≡ true → ReadsTo st (tableBytes (st .format) gs ++ frames bytes (rowsIn ws)) bytes ws
+    unfolding encoded
     written-reads w =
-        let v = tabled gs h in
-        record {
-          whole-rows = w;
-          rows = planned-rows (st .format) (st .channels) bytes (rowsIn ws) gs v inside;
-          read = planned-read (st .format) (st .channels) bytes (rowsIn ws) gs v inside;
-          same = planned-same (st .format) (st .channels) bytes (rowsIn ws) gs v inside;
-        }
+        let p = tableBytes (st .format) gs ++ frames bytes (rowsIn ws) in
+        let few : 0 + length (rowsIn ws) ≤ maxRows = omega (arith, length-rows ws, listed (st .format) (st .channels) ws gs h .few) in
+        let b = payload-back st bytes p (rowsIn ws) (in-range-some st range) (times ws words) inside (rw h) .back [] [] 0 few in
+        record { whole-rows = w; rows = b .rows; read = b .read; same = subst (λ (q : List ℕ). SameFrames q bytes (b .rows) (rowsIn ws)) (append-nil p) (b .same) }
 
     written-bytes : Bytes bytes → Bytes (tableBytes (st .format) gs ++ frames bytes (rowsIn ws))
     written-bytes bs =
-        let v = tabled gs h in
-        bytes-append (tableBytes (st .format) gs) (frames bytes (rowsIn ws)) (bytes-table (st .format) (st .channels) gs (channels st range) (v .runs) (v .few)) (bytes-frames bytes (rowsIn ws) bs)
+        let v = plan-table (st .format) (st .channels) (rowsIn ws) gs (in-range-some st range) (times ws words) h in
+        bytes-append (tableBytes (st .format) gs) (frames bytes (rowsIn ws)) (bytes-table (st .format) (st .channels) gs (in-range-some st range) (v .runs) (v .few))
+        (bytes-frames bytes (rowsIn ws) bs)
 
 -- Round trip
 
@@ -179,7 +137,7 @@ readable-plan : (st : Settings) (ws bytes p : List ℕ) → Words ws → inRange
 readable-plan st ws bytes p words range bs l r =
     let k = parsed (st .format) (st .channels) (firstTime (rowsIn ws)) p (r .rows) (r .read) in
     let v = read-runs (st .format) (st .channels) 0 p (k .table) bs (k .is) in
-    table-plan (st .format) (st .channels) (0 + sizeIn (st .format) (k .table)) (rowsIn ws) (k .table) (channels st range) (times ws words) (v .0) (v .1)
+    table-plan (st .format) (st .channels) (0 + sizeIn (st .format) (k .table)) (rowsIn ws) (k .table) (in-range-some st range) (times ws words) (v .0) (v .1)
     (few-rows (st .format) (st .channels) p (k .table) (k .is)) (omega (arith, k .size)) (sym (same-plains p bytes (r .rows) (rowsIn ws) (r .same)) ∙ ap plains (sym (k .same)))
 
 module _ (st : Settings) (ws bytes : List ℕ) (area : ℕ) (words : Words ws) (range : inRange st ≡ true) (inside : outside (length bytes) (rowsIn ws) ≡ false) where

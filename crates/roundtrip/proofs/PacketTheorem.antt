@@ -2,33 +2,32 @@
 use mathlib.Core.Path.{_≡_, refl, _∙_, subst}
 use mathlib.Core.List.{List, [], _∷_, _++_, append-nil}
 use mathlib.Core.Bool.{Bool, true, false, cond}
-use Prim.Native.Nat.{ℕ, suc, _+_, _*_, _^_, _≤_, _<_}
+use Prim.Native.Nat.{ℕ, _+_, _*_, _^_, _≤_, _<_}
 use native.Mathlib.Omega.{arith}
 use lib.ListN.{length}
 use lib.Dec.{ltb, eqb}
-use borrow.Author.Tests.{eq-eqb, ne-eqb, ltb-false, eqb-true, eqb-false}
+use borrow.Author.Tests.{eq-eqb, ne-eqb, ltb-false, eqb-true}
 use Rattle.rtp.specs.Sizes.{maxPacket, maxRows, rowWidth}
-use Rattle.rtp.specs.Ranges.{noRedundancy, inRange}
+use Rattle.rtp.specs.Ranges.{inRange}
 use Rattle.rtp.specs.declared.settings.Settings.{Settings}
 use Rattle.rtp.specs.declared.refusal.Refusal.{Refusal}
+use Rattle.rtp.proofs.TestLaws.{both, either}
 use Rattle.payload.specs.Rows.{Row}
 use Rattle.packet.specs.Readings.{typedRows}
 use Rattle.packet.proofs.ReadingLaws.{reading-headed}
 use Rattle.encoder.specs.Lists.{rowsIn, outside}
-use Rattle.encoder.proofs.WritingTheorems.{times}
+use Rattle.roundtrip.proofs.PayloadTheorems.{times}
 use Rattle.encoder.specs.Writings.{Encoded, noBytes, bytesOf, roomFor}
-use Rattle.encoder.specs.Claims.{Words}
 use Rattle.encoder.proofs.ListLaws.{length-rows}
-use Rattle.encoder.proofs.AttachLaws.{both, either}
-use Rattle.encoder.proofs.PlanRowLaws.{Times}
+use Rattle.roundtrip.proofs.PlanRowLaws.{Times}
 use Rattle.sender.specs.Parts.{maxRedundant, total, primaryTime, Part, Parts, noParts, partsOf, parts}
 use Rattle.sender.specs.Packets.{Heading, headerBytes, bodyBytes, packetType, redundancyMissing, assembledFrom, assembled, countsFit, sending}
-use Rattle.sender.specs.Claims.{ReadsBack, PacketRoundTrip}
+use Rattle.roundtrip.specs.Claims.{ReadsBack, PacketRoundTrip}
 use Rattle.sender.proofs.RangeLaws.{Ranged, ranged}
-use Rattle.sender.proofs.HeaderBackLaws.{headOf, header-back, payload-after}
-use Rattle.sender.proofs.PayloadBackLaws.{Back, payload-back}
-use Rattle.sender.proofs.PartLaws.{Made, made, primary-small}
-use Rattle.sender.proofs.BlocksBackLaws.{redundant-back}
+use Rattle.roundtrip.proofs.HeaderBackLaws.{headOf, header-back, payload-after}
+use Rattle.roundtrip.proofs.PayloadBackLaws.{Back, payload-back}
+use Rattle.roundtrip.proofs.PartLaws.{Made, made, primary-small}
+use Rattle.roundtrip.proofs.BlocksBackLaws.{redundant-back}
 
 -- What the counts say
 

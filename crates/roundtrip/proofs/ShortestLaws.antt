@@ -11,10 +11,10 @@ use Rattle.rtp.specs.Ranges.{g719Interleaved, gsmHr}
 use Rattle.rtp.proofs.TestLaws.{by-test, not-both}
 use Rattle.payload.specs.Contents.{entrySize, Group, Contents, groups, sizeIn}
 use Rattle.payload.specs.Rows.{Row}
 use Rattle.encoder.specs.Plans.{maxGap, headGap, joins, attach}
-use Rattle.encoder.proofs.TableBackLaws.{Runs}
-use Rattle.encoder.proofs.TableBlockLaws.{Block, blocksOf, blocksIn}
-use Rattle.encoder.proofs.AttachLaws.{joined, joins-so, firstGap}
+use Rattle.roundtrip.proofs.TableBackLaws.{Runs}
+use Rattle.roundtrip.proofs.TableBlockLaws.{Block, blocksOf, blocksIn}
+use Rattle.roundtrip.proofs.AttachLaws.{joined, joins-so, firstGap}
 
 -- a row of a frame-block; its class and length are what counts
 abbrev pub rowFor : Block → Row

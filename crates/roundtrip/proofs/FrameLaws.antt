@@ -1,19 +1,21 @@
 -- Laws of rows but for their starts, and of their frames laid one after another.
 use mathlib.Core.Path.{_≡_, refl, ap, sym, _∙_, subst}
 use mathlib.Core.List.{List, [], _∷_, _++_, append-assoc}
-use mathlib.Core.Bool.{Bool, true, false, cond}
-use Prim.Native.Nat.{ℕ, _+_, _≤_}
+use mathlib.Core.Bool.{false}
+use Prim.Native.Nat.{ℕ, _+_}
 use native.Mathlib.Omega.{arith}
-use lib.ListN.{length, take, drop, length-append, length-take, length-drop}
+use lib.ListN.{length, take, drop, length-append}
 use lib.Seq.{take-at, drop-at}
 use lib.Dec.{ltb}
 use borrow.Author.Tests.{ltb-false}
-use Rattle.rtp.proofs.TestLaws.{not-both}
+use Rattle.rtp.proofs.TestLaws.{neither}
 use Rattle.payload.specs.Rows.{Row}
 use Rattle.encoder.specs.Lists.{outside}
 use Rattle.encoder.specs.Bytes.{frameIn, frames}
-use Rattle.encoder.specs.Claims.{SameFrames}
-use Rattle.encoder.proofs.TableBlockLaws.{total, Laid}
+use Rattle.encoder.specs.Room.{lengthsIn}
+use Rattle.encoder.proofs.FrameBytesLaws.{frame-length}
+use Rattle.roundtrip.specs.Claims.{SameFrames}
+use Rattle.roundtrip.proofs.TableBlockLaws.{Laid}
 
 -- a row but for its start
 abbrev pub plain : Row → Row
@@ -54,30 +56,14 @@ same-plains p bytes [] (r ∷ rs) h = absurd h
 same-plains p bytes (q ∷ qs) [] h = absurd h
 same-plains p bytes (q ∷ qs) (r ∷ rs) h = let e = same-plains p bytes qs rs (h .1) in λ i. record { time = h .0 .time i; class = h .0 .class i; channel = h .0 .channel i; start = 0; length = h .0 .length i } ∷ e i
 
-pub total-plains : (rs : List Row) → total (plains rs) ≡ total rs
-unfolding total
-total-plains [] = refl
-total-plains (r ∷ rs) = rw (total-plains rs)
+pub lengths-plains : (rs : List Row) → lengthsIn (plains rs) ≡ lengthsIn rs
+unfolding lengthsIn
+lengths-plains [] = refl
+lengths-plains (r ∷ rs) = rw (lengths-plains rs)
 
 pub length-plains : (rs : List Row) → length (plains rs) ≡ length rs
 length-plains [] = refl
 length-plains (r ∷ rs) = rw (length-plains rs)
-
--- Frames of rows that lie inside their bytes
-
-pub past : (t b : Bool) → cond t true b ≡ false → (t ≡ false) × (b ≡ false)
-past true b h = not-both true refl h
-past false b h = (refl, h)
-
-pub length-frame : (bytes : List ℕ) (r : Row) → r .start + r .length ≤ length bytes → length (frameIn bytes r) ≡ r .length
-length-frame bytes r h = simp (length-take, length-drop) (omega arith)
-
-pub length-frames : (bytes : List ℕ) (rs : List Row) → outside (length bytes) rs ≡ false → length (frames bytes rs) ≡ total rs
-unfolding frames outside total
-length-frames bytes [] h = refl
-length-frames bytes (r ∷ rs) h =
-    let p = past (ltb (length bytes) (r .start + r .length)) (outside (length bytes) rs) h in
-    rw (length-append, length-frame bytes r (ltb-false _ _ (p .0)), length-frames bytes rs (p .1))
 
 -- rows laid after a front find the frames of their like there
 pub laid-same : (front bytes : List ℕ) (qs rs : List Row) → plains qs ≡ plains rs → Laid (length front) qs → outside (length bytes) rs ≡ false
@@ -87,9 +73,9 @@ laid-same front bytes [] [] e l h = tt
 laid-same front bytes [] (r ∷ rs) e l h = let z : _≡_ {A = ℕ} 0 1 = cc in absurd (omega arith)
 laid-same front bytes (q ∷ qs) [] e l h = let z : _≡_ {A = ℕ} 0 1 = cc in absurd (omega arith)
 laid-same front bytes (q ∷ qs) (r ∷ rs) e l h =
-    let p = past (ltb (length bytes) (r .start + r .length)) (outside (length bytes) rs) h in
+    let p = neither (ltb (length bytes) (r .start + r .length)) (outside (length bytes) rs) h in
     let a = plain-first q r qs rs e in
-    let n = length-frame bytes r (ltb-false _ _ (p .0)) in
+    let n = frame-length bytes (r .start) (r .length) (ltb-false _ _ (p .0)) in
     let s : length (front ++ frameIn bytes r) ≡ length front + q .length = rw (length-append, n, a .length) in
     let rest = frameIn bytes r ++ frames bytes rs in
     let f : frameIn (front ++ rest) q ≡ frameIn bytes r =

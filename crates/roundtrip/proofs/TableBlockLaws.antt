@@ -6,6 +6,7 @@ use native.Mathlib.Omega.{arith}
 use native.Mathlib.Nat.{zero-mul, suc-mul, add-mul, add-zero}
 use lib.ListN.{length}
 use Rattle.payload.specs.Contents.{Group, framesIn}
+use Rattle.encoder.specs.Room.{lengthsIn}
 use Rattle.payload.specs.Rows.{Row, placed, after, timeAfter, blockRows, groupRows, tableRows}
 
 -- a frame-block: the frame-blocks left out before it, and its frames' class and length
@@ -50,34 +51,30 @@ table-blocks step ch time start (g ∷ gs) =
 
 -- The bytes of rows' frames
 
-unfoldable pub total : List Row → ℕ
-total [] = 0
-total (r ∷ rs) = r .length + total rs
+lengths-append : (a b : List Row) → lengthsIn (a ++ b) ≡ lengthsIn a + lengthsIn b
+unfolding lengthsIn
+lengths-append [] b = omega arith
+lengths-append (r ∷ a) b = let e = lengths-append a b in omega arith
 
-pub total-append : (a b : List Row) → total (a ++ b) ≡ total a + total b
-unfolding total
-total-append [] b = omega arith
-total-append (r ∷ a) b = let e = total-append a b in omega arith
-
-total-block : (n c time class start len : ℕ) → total (blockRows n c time class start len) ≡ n * len
-unfolding total blockRows
-total-block zero c time class start len = rw zero-mul
-total-block (suc n) c time class start len = let e = total-block n (c + 1) time class (start + len) len in rw suc-mul (omega arith)
+lengths-block : (n c time class start len : ℕ) → lengthsIn (blockRows n c time class start len) ≡ n * len
+unfolding lengthsIn blockRows
+lengths-block zero c time class start len = rw zero-mul
+lengths-block (suc n) c time class start len = let e = lengths-block n (c + 1) time class (start + len) len in rw suc-mul (omega arith)
 
 -- those of a table are what it says
-group-frames : (step ch time class start len : ℕ) (gs : List ℕ) → total (groupRows step ch time class start len gs) ≡ length gs * ch * len
-unfolding groupRows total
+group-frames : (step ch time class start len : ℕ) (gs : List ℕ) → lengthsIn (groupRows step ch time class start len gs) ≡ length gs * ch * len
+unfolding groupRows lengthsIn
 group-frames step ch time class start len [] = simp zero-mul
 group-frames step ch time class start len (g ∷ gs) =
     let e = group-frames step ch (after step time g) class (start + ch * len) len gs in
     let d : suc (length gs) * ch * len ≡ length gs * ch * len + ch * len = rw (suc-mul, add-mul) in
-    rw (total-append, total-block) (omega arith)
+    rw (lengths-append, lengths-block) (omega arith)
 
-pub table-frames : (step ch time start : ℕ) (gs : List Group) → total (tableRows step ch time start gs) ≡ framesIn ch gs
-unfolding tableRows framesIn total
+pub table-frames : (step ch time start : ℕ) (gs : List Group) → lengthsIn (tableRows step ch time start gs) ≡ framesIn ch gs
+unfolding tableRows framesIn lengthsIn
 table-frames step ch time start [] = refl
 table-frames step ch time start (g ∷ gs) =
-    rw (total-append, group-frames, table-frames step ch (timeAfter step time (g .gaps)) (start + length (g .gaps) * ch * g .length) gs)
+    rw (lengths-append, group-frames, table-frames step ch (timeAfter step time (g .gaps)) (start + length (g .gaps) * ch * g .length) gs)
 
 -- Rows whose frames lie one after another
 

@@ -18,14 +18,15 @@ use Rattle.payload.specs.Payloads.{Rows}
 use Rattle.packet.specs.Blocks.{cut, blockRows, thenRows, blocksRows, redundantRows}
 use Rattle.packet.proofs.AnswerLaws.{then-none}
 use Rattle.packet.proofs.BlockLaws.{block}
-use Rattle.encoder.specs.Lists.{outside}
-use Rattle.encoder.specs.Claims.{SameFrames, firstTime}
-use Rattle.encoder.proofs.PlanRowLaws.{Times}
+use Rattle.encoder.specs.Lists.{outside, firstTime}
+use Rattle.sender.proofs.WordLaws.{outside-take, outside-drop}
+use Rattle.roundtrip.specs.Claims.{SameFrames}
+use Rattle.roundtrip.proofs.PlanRowLaws.{Times}
 use Rattle.sender.specs.Parts.{maxOffset, maxBlock, Part}
 use Rattle.sender.specs.Packets.{blockHeaderBytes, headersBytes, blocksBytes}
-use Rattle.sender.proofs.SameFrameLaws.{same-length, same-append, outside-take, outside-drop}
-use Rattle.sender.proofs.PayloadBackLaws.{Back, Reads, payload-back}
-use Rattle.sender.proofs.PartLaws.{Made, times-take, times-drop, first-small}
+use Rattle.roundtrip.proofs.SameFrameLaws.{same-length, same-append}
+use Rattle.roundtrip.proofs.PayloadBackLaws.{Back, Reads, payload-back}
+use Rattle.roundtrip.proofs.PartLaws.{Made, times-take, times-drop, first-small}
 
 -- Block headers
 

@@ -1,30 +1,21 @@
 -- Laws of a frame-block put before a table.
 use mathlib.Core.Path.{_≡_, refl, sym, subst}
 use mathlib.Core.List.{List, [], _∷_}
-use mathlib.Core.Bool.{Bool, true, false, cond}
+use mathlib.Core.Bool.{true, false}
 use Prim.Native.Nat.{ℕ, zero, suc, _≤_, _<_}
 use native.Mathlib.Omega.{arith}
 use lib.ListN.{length, getD}
 use lib.Dec.{eqb}
 use borrow.Author.Tests.{le-leb, eq-eqb, leb-true, eqb-true}
 use Rattle.rtp.specs.Ranges.{gsmHr}
-use Rattle.rtp.proofs.TestLaws.{by-test, not-both}
+use Rattle.rtp.proofs.TestLaws.{by-test, not-both, both, either}
 use Rattle.payload.specs.Contents.{Group, groups}
 use Rattle.payload.specs.Rows.{Row}
 use Rattle.payload.specs.Codes.{noCode, codeFor}
 use Rattle.encoder.specs.Plans.{maxGap, headGap, single, joins, attach}
-use Rattle.encoder.proofs.EntryBackLaws.{Run}
-use Rattle.encoder.proofs.TableBackLaws.{Runs}
-use Rattle.encoder.proofs.TableBlockLaws.{Block, blocksIn}
-
--- a test that passes after others
-pub both : (t b : Bool) → cond t b false ≡ true → (t ≡ true) × (b ≡ true)
-both true b h = (refl, h)
-both false b h = not-both false h refl
-
-pub either : (t b : Bool) → cond t false b ≡ true → (t ≡ false) × (b ≡ true)
-either true b h = not-both false h refl
-either false b h = (refl, h)
+use Rattle.roundtrip.proofs.EntryBackLaws.{Run}
+use Rattle.roundtrip.proofs.TableBackLaws.{Runs}
+use Rattle.roundtrip.proofs.TableBlockLaws.{Block, blocksIn}
 
 -- what joining a run means
 pub record Joined (format : ℕ) (r : Row) (g : Group) : Type 0 where

@@ -14,8 +14,9 @@ use Rattle.payload.specs.declared.contents.Entry.{Entry}
 use Rattle.payload.specs.declared.contents.EntryRead.{EntryRead}
 use Rattle.payload.specs.Contents.{entrySize, entryOf, Group, halfAt, gapAt, gapsFrom, meaning}
 use Rattle.payload.specs.Codes.{noCode, codeFor}
 use Rattle.encoder.specs.Plans.{maxGap, headGap}
 use Rattle.encoder.specs.Bytes.{halves, flag, entryBytes}
+use Rattle.encoder.proofs.EntryLaws.{length-halves}
 use Rattle.payload.proofs.CodeLaws.{code-back, code-small}
 
 -- a run of frame-blocks that an entry can say, but for the gap before it
@@ -56,12 +57,6 @@ half-back (a ∷ b ∷ ns) rest zero h l = let y = h 0 in let z = h 1 in omega a
 half-back (a ∷ b ∷ ns) rest (suc zero) h l = let y = h 0 in let z = h 1 in omega arith
 half-back (a ∷ b ∷ ns) rest (suc (suc k)) h l = half-later (16 * a + b) (halves ns ++ rest) k ∙ half-back ns rest k (λ i. h (suc (suc i))) (omega arith)
 
-pub length-halves : (ns : List ℕ) → length (halves ns) ≡ (length ns + 1) / 2
-unfolding halves
-length-halves [] = refl
-length-halves (a ∷ []) = refl
-length-halves (a ∷ b ∷ ns) = let e = length-halves ns in omega arith
-
 -- gaps by their places
 gaps-are : (format : ℕ) (s : List ℕ) (k : ℕ) (gs : List ℕ) → ((i : ℕ) → i < length gs → gapAt format s (k + i) ≡ getD gs i 0) → gapsFrom format s k (length gs) ≡ gs
 unfolding gapsFrom
@@ -78,12 +73,6 @@ gaps-are format s k (g ∷ gs) h =
 
 abbrev pub entryFor : ℕ → Bool → Group → Entry
 entryFor format more g = record { more = more; class = g .class; length = g .length; blocks = length (g .gaps); size = entrySize format (length (g .gaps)) }
-
-pub length-entry : (format : ℕ) (more : Bool) (g : Group) → Run format g → length (entryBytes format more g) ≡ entrySize format (length (g .gaps))
-unfolding entryBytes
-length-entry format more g r =
-    by-test (eqb format gsmHr) (λ a. rw a)
-    (λ a. by-test (eqb format g719Interleaved) (λ b. rw (a, b) (omega (arith, length-halves (g .gaps)))) (λ b. rw (a, b)))
 
 pub entry-back : (format : ℕ) (more : Bool) (g : Group) (rest : List ℕ) → Run format g → entryOf format (entryBytes format more g ++ rest) ≡ EntryRead.Entry (entryFor format more g)
 unfolding entryBytes entryOf

@@ -13,12 +13,12 @@ use Rattle.rtp.proofs.RedundancyLaws.{bytes-drop}
 use Rattle.payload.specs.Contents.{Group, rowsIn}
 use Rattle.payload.specs.Rows.{Row}
 use Rattle.payload.specs.Codes.{codeFor}
 use Rattle.encoder.specs.Plans.{headGap}
 use Rattle.encoder.specs.Bytes.{halves, flag, entryBytes, tableBytes, frameIn, frames}
-use Rattle.encoder.specs.Claims.{Bytes}
+use Rattle.roundtrip.specs.Claims.{Bytes}
 use Rattle.payload.proofs.CodeLaws.{code-small}
-use Rattle.encoder.proofs.EntryBackLaws.{Run, small-gaps}
-use Rattle.encoder.proofs.TableBackLaws.{Runs}
+use Rattle.roundtrip.proofs.EntryBackLaws.{Run, small-gaps}
+use Rattle.roundtrip.proofs.TableBackLaws.{Runs}
 
 bytes-none : Bytes []
 bytes-none i = omega arith

@@ -19,11 +19,11 @@ use Rattle.payload.specs.Contents.{minEntry, codeIn, blocksIn, entrySize, coded
 use Rattle.payload.proofs.EntryLaws.{past, fair}
 use Rattle.payload.proofs.ContentsLaws.{contents-step, shorter, blocks-of}
 use Rattle.payload.specs.Codes.{noCode, codeFor}
 use Rattle.encoder.specs.Plans.{maxGap, headGap}
 use Rattle.payload.proofs.CodeLaws.{code-some}
-use Rattle.encoder.proofs.EntryBackLaws.{Run}
-use Rattle.encoder.proofs.TableBackLaws.{Runs}
-use Rattle.encoder.proofs.AttachLaws.{same-groups}
+use Rattle.roundtrip.proofs.EntryBackLaws.{Run}
+use Rattle.roundtrip.proofs.TableBackLaws.{Runs}
+use Rattle.roundtrip.proofs.AttachLaws.{same-groups}
 
 -- The gaps of an entry
 

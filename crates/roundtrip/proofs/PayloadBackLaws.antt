@@ -5,28 +5,27 @@ use mathlib.Core.Bool.{false}
 use Prim.Native.Nat.{ℕ, _+_, _≤_}
 use native.Mathlib.Omega.{arith}
 use lib.ListN.{length, length-append}
-use lib.Dec.{eqb}
 use borrow.Author.Tests.{eq-eqb}
 use Rattle.rtp.specs.Sizes.{maxRows}
-use Rattle.rtp.specs.Ranges.{g719Interleaved, gsmHr}
 use Rattle.rtp.specs.declared.settings.Settings.{Settings}
-use Rattle.rtp.proofs.TestLaws.{by-test}
 use Rattle.payload.specs.Frames.{stepOf}
-use Rattle.payload.specs.Contents.{entrySize, Group, Contents, refused, groups, contents, rowsIn, sizeIn, framesIn}
+use Rattle.payload.specs.Contents.{Group, Contents, refused, groups, contents, rowsIn, sizeIn, framesIn}
 use Rattle.payload.specs.Rows.{Row, tableRows}
 use Rattle.payload.specs.Payloads.{payload, Rows, rowsOf, placedRows, payloadRows}
 use Rattle.payload.proofs.PayloadLaws.{length-table}
-use Rattle.encoder.specs.Lists.{outside}
+use Rattle.encoder.specs.Lists.{outside, firstTime}
 use Rattle.encoder.specs.Plans.{plan}
 use Rattle.encoder.specs.Bytes.{tableBytes, frames}
 use Rattle.encoder.specs.Writings.{bytesOf, plannedBytes, encoded}
-use Rattle.encoder.specs.Claims.{SameFrames, firstTime}
-use Rattle.encoder.proofs.TableBackLaws.{Runs, length-table-bytes, table-back}
-use Rattle.encoder.proofs.TableBlockLaws.{blocksIn, table-blocks, Laid, laid-blocks}
-use Rattle.encoder.proofs.FrameLaws.{length-plains, length-frames, laid-same}
-use Rattle.encoder.proofs.PlanRowLaws.{Times}
-use Rattle.encoder.proofs.PlanTableLaws.{Tabled, plan-table, frames-same}
-use Rattle.sender.proofs.SameFrameLaws.{same-longer}
+use Rattle.encoder.proofs.EntryLaws.{size-some, length-table as length-table-bytes}
+use Rattle.encoder.proofs.FrameBytesLaws.{length-frames}
+use Rattle.roundtrip.specs.Claims.{SameFrames}
+use Rattle.roundtrip.proofs.TableBackLaws.{Runs, table-back}
+use Rattle.roundtrip.proofs.TableBlockLaws.{blocksIn, table-blocks, Laid, laid-blocks}
+use Rattle.roundtrip.proofs.FrameLaws.{length-plains, laid-same}
+use Rattle.roundtrip.proofs.PlanRowLaws.{Times}
+use Rattle.roundtrip.proofs.PlanTableLaws.{Tabled, plan-table, frames-same}
+use Rattle.roundtrip.proofs.SameFrameLaws.{same-longer}
 
 -- x is rows of the packet s, and they are the rows of the list rs
 pub record Back (s bytes : List ℕ) (rs : List Row) (x : Rows) : Type 0 where
@@ -40,13 +39,10 @@ pub record Reads (st : Settings) (bytes p : List ℕ) (rs : List Row) : Type 0 w
   pub back : (front rest : List ℕ) (done : ℕ) → done + length rs ≤ maxRows
       → Back (front ++ (p ++ rest)) bytes rs (payloadRows (st .format) (st .channels) done (firstTime rs) (length front) p)
 
-some-size : (format n : ℕ) → 1 ≤ entrySize format n
-some-size format n = by-test (eqb format gsmHr) (λ a. rw a (omega arith)) (λ a. by-test (eqb format g719Interleaved) (λ b. rw (a, b) (omega arith)) (λ b. rw (a, b) (omega arith)))
-
 some-table : (format : ℕ) (gs : List Group) → 1 ≤ length gs → 1 ≤ sizeIn format gs
 unfolding sizeIn
 some-table format [] h = absurd (omega arith)
-some-table format (g ∷ gs) h = omega (arith, some-size format (length (g .gaps)))
+some-table format (g ∷ gs) h = omega (arith, size-some format (length (g .gaps)))
 
 -- a planned payload
 module _ (format ch : ℕ) (bytes : List ℕ) (rs : List Row) (gs : List Group) (v : Tabled format ch rs gs) (inside : outside (length bytes) rs ≡ false) where
@@ -59,7 +55,7 @@ module _ (format ch : ℕ) (bytes : List ℕ) (rs : List Row) (gs : List Group) 
   planned-length : length Planned ≡ sizeIn format gs + framesIn ch gs
   planned-length =
       let e = frames-same (stepOf format) ch (firstTime rs) 0 rs gs (v .rows 0) in
-      length-append (tableBytes format gs) (frames bytes rs) ∙ rw (length-table-bytes format gs (v .runs), length-frames bytes rs inside, e)
+      length-append (tableBytes format gs) (frames bytes rs) ∙ rw (length-table-bytes format gs, length-frames bytes rs inside, e)
 
   planned-few : length rs ≡ rowsIn ch gs
   planned-few = sym (length-plains rs) ∙ ap (λ (l : List Row). length l) (v .rows 0) ∙ length-plains (tableRows (stepOf format) ch (firstTime rs) 0 gs) ∙ length-table (stepOf format) ch (firstTime rs) 0 gs
@@ -82,7 +78,7 @@ module _ (format ch : ℕ) (bytes : List ℕ) (rs : List Row) (gs : List Group) 
 
   planned-same : (front rest : List ℕ) → SameFrames (front ++ (Planned ++ rest)) bytes (PlannedRows (length front)) rs
   planned-same front rest =
-      let n : length front + sizeIn format gs ≡ length (front ++ tableBytes format gs) = rw (length-append, length-table-bytes format gs (v .runs)) in
+      let n : length front + sizeIn format gs ≡ length (front ++ tableBytes format gs) = rw (length-append, length-table-bytes format gs) in
       let qs = PlannedRows (length front) in
       let s : SameFrames ((front ++ tableBytes format gs) ++ frames bytes rs) bytes qs rs =
       laid-same (front ++ tableBytes format gs) bytes qs rs (sym (v .rows (length front + sizeIn format gs))) (subst (λ (k : ℕ). Laid k qs) n (planned-laid (length front))) inside in
