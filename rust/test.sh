@@ -9,7 +9,8 @@ cd "$(dirname "$0")"
 start=$SECONDS
 cargo test --offline --release --quiet -p reference -p cases --test '*'
 # shellcheck disable=SC2046
-cargo test --offline --release --quiet -p heolstorpit --no-default-features --features "$features" $(printf -- '--test %s ' "${groups[@]}") -- --nocapture
+cargo test --offline --release --quiet -p heolstorpit --no-default-features --features "$features" --test conversions \
+    $(printf -- '--test %s ' "${groups[@]}") -- --nocapture
 cargo test --offline --release --quiet -p bench --no-default-features --features "$features" --test plain
 link_c
 target/link

@@ -1,5 +1,7 @@
 /* libre's jbuf and speexdsp's jitter buffer, each as four calls: make, put a frame, get a frame to an area, free. A frame is copied in
  * and copied out, as by our library. */
+#include "../../include/heolstorpit.h"
+
 #include <stdint.h>
 #include <stdlib.h>
 #include <string.h>
@@ -75,7 +77,7 @@ size_t peer_speexdsp_get(void *jitter, uint8_t *area) {
     spx_int32_t offset;
     int answer;
     packet.data = (char *)area;
-    packet.len = 320;
+    packet.len = HSP_DRAW_AREA;
     answer = jitter_buffer_get(jitter, &packet, 960, &offset);
     jitter_buffer_tick(jitter);
     return answer == JITTER_BUFFER_OK ? packet.len : 0;

@@ -4,6 +4,7 @@ use rtp::redundancy;
 use rtp::redundancy::BlockHeader;
 use rtp::redundancy::HeadersRead;
 use rtp::redundancy::Redundant;
+use rtp::time;
 
 // A block's type; a block of another type than the agreed one gives no frames.
 fn print_type(block_type: u8, payload_type: u8) {
@@ -17,7 +18,7 @@ fn print_redundant(payload_type: u8, timestamp: u32, block: Redundant) {
     words::print(b"  redundant block: ");
     print_type(block.payload_type, payload_type);
     words::print_number(b", offset ", block.offset as u64);
-    let time = redundancy::block_time(timestamp, block.offset);
+    let time = time::difference(timestamp, block.offset);
     words::print_number(b" (time ", time as u64);
     words::print_bytes(b"), ", block.length);
     words::print(b"\n");

@@ -5,8 +5,8 @@ use crate::words;
 use libc::STDOUT_FILENO;
 use packet::reading;
 use packet::reading::Reading;
-use payload::reading::ROW_AREA;
 use rtp::settings::Settings;
+use rtp::sizes::ROW_AREA;
 
 fn zero_rows() -> [u32; ROW_AREA] {
     [0; ROW_AREA]

@@ -1,15 +1,16 @@
 // Frames in words, from their rows.
 use crate::words;
 use libc::STDOUT_FILENO;
-use payload::contents::MAX_ROWS;
-use payload::reading::ROW_AREA;
-use payload::rows::ROW_WIDTH;
+use payload::rows;
+use rtp::sizes::MAX_ROWS;
+use rtp::sizes::ROW_AREA;
+use rtp::sizes::ROW_WIDTH;
 
 // A frame, by the four words of its row.
-fn print_words(time: u32, class_and_channel: u32, start: u32, length: u32) {
-    let class = class_and_channel / 256;
+fn print_words(time: u32, tag: u32, start: u32, length: u32) {
+    let class = rows::tag_class(tag);
     words::print_number(b"    time ", time as u64);
-    words::print_number(b", channel ", (class_and_channel % 256) as u64);
+    words::print_number(b", channel ", rows::tag_channel(tag) as u64);
     words::print(b", ");
     words::print_class(class);
     if class != 0 {

@@ -11,7 +11,7 @@ use borrow.Author.Tests.{ltb-true, ltb-false}
 use borrow.Rule.Slice.PartMut.{putMid}
 use Rattle.rtp.specs.Sizes.{rowWidth, maxRows}
 use Rattle.rtp.specs.Areas.{over}
-use Rattle.rtp.specs.Redundancy.{before}
+use Rattle.rtp.specs.Time.{difference}
 use Rattle.rtp.specs.declared.refusal.Refusal.{Refusal}
 use Rattle.rtp.specs.declared.refusal.Refusal.the-variants.{Unwritable}
 use Rattle.rtp.proofs.TestLaws.{by-test}
@@ -104,9 +104,9 @@ listed format ch ws gs h =
     }))
 
 -- the first frame-block stands at the list's own time
-gap-none : (step time : ℕ) → gapBetween step (before time step) time ≡ 0
+gap-none : (step time : ℕ) → gapBetween step (difference time step) time ≡ 0
 gap-none step time =
-    let x = before time step in
+    let x = difference time step in
     let e : (x + 2 ^ 32 - x) % 2 ^ 32 ≡ 0 = omega arith in
     ap (λ (n : ℕ). n / step) e ∙ zero-div step
 
@@ -147,10 +147,10 @@ module _ (format ch table : ℕ) (ws bytes : List ℕ) (area : ℕ) (r : Payload
   pub payload-table : table ≤ area
   payload-table = omega (arith, it .fits)
 
-  from-before : planFrom format ch 0 (timed (before (getD ws 0 0) (stepOf format))) (rowsIn ws) ≡ groups (it .table-groups)
-  from-before = plan-time format ch (timed (before (getD ws 0 0) (stepOf format))) (stepBefore format (rowAs (wordsAt ws 0))) (rowsIn ws) refl ∙ in-list .planned
+  from-before : planFrom format ch 0 (timed (difference (getD ws 0 0) (stepOf format))) (rowsIn ws) ≡ groups (it .table-groups)
+  from-before = plan-time format ch (timed (difference (getD ws 0 0) (stepOf format))) (stepBefore format (rowAs (wordsAt ws 0))) (rowsIn ws) refl ∙ in-list .planned
 
-  pub table-room : TableRoom format ch (before (getD ws 0 0) (stepOf format)) ws area
+  pub table-room : TableRoom format ch (difference (getD ws 0 0) (stepOf format)) ws area
   table-room = record {
     some = r .some;
     channels = r .channels;
@@ -161,7 +161,7 @@ module _ (format ch table : ℕ) (ws bytes : List ℕ) (area : ℕ) (r : Payload
   pub frames-room : FramesRoom (length bytes) (rowsIn ws) (area - table)
   frames-room = record { inside = r .inside; room = omega (arith, frames-all format ch (stepBefore format (rowAs (wordsAt ws 0))) (rowsIn ws) (it .table-groups) (r .some) (in-list .planned), it .fits) }
 
-  pub put-both : (l m z : List ℕ) → m ≡ over (planBytes format (planFrom format ch 0 (timed (before (getD ws 0 0) (stepOf format))) (rowsIn ws))) l
+  pub put-both : (l m z : List ℕ) → m ≡ over (planBytes format (planFrom format ch 0 (timed (difference (getD ws 0 0) (stepOf format))) (rowsIn ws))) l
       → z ≡ over (frames bytes (rowsIn ws)) (take (length m - table) (drop table m))
       → putMid table (length m - table) m z ≡ over (encodedBytes (plannedBytes format bytes (rowsIn ws) (plan format ch (rowsIn ws)))) l
   unfolding planBytes encodedBytes

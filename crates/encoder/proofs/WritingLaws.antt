@@ -25,11 +25,8 @@ use Rattle.encoder.specs.Bytes.{tableBytes, frames}
 use Rattle.encoder.specs.Writings.{Encoded, noBytes, bytesOf, plannedBytes, encoded, roomFor, writing, writtenNumbers, encodedNumbers, encodedBytes, plannedNumbers, refusedNumbers, measured}
 use Rattle.encoder.specs.Room.{planAnswer, WholePlan, PayloadRoom}
 use Rattle.encoder.proofs.TableLaws.{some-group}
+pub use Rattle.rtp.proofs.RangeLaws.{in-range-some}
 use Rattle.encoder.proofs.PayloadLaws.{plan-refused, listed, length-bytes}
-
-pub in-range-some : (st : Settings) → inRange st ≡ true → 0 < st .channels
-unfolding inRange
-in-range-some st h = by-test (eqb (st .channels) 0) (λ a. not-both false (rw a at h) refl) (λ a. omega (arith, eqb-false (st .channels) 0 a))
 
 -- The plan that an answer stands for
 

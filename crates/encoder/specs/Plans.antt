@@ -7,7 +7,7 @@ use lib.ListN.{length, getD}
 use lib.Dec.{ltb, leb, eqb}
 use Rattle.rtp.specs.Sizes.{maxRows, minPacket, maxPacket}
 use Rattle.rtp.specs.Ranges.{g719Interleaved, gsmHr}
-use Rattle.rtp.specs.Redundancy.{before}
+use Rattle.rtp.specs.Time.{difference}
 use Rattle.rtp.specs.declared.refusal.Refusal.the-variants.{Unwritable}
 use Rattle.payload.specs.Frames.{stepOf}
 use Rattle.payload.specs.Contents.{Group, Contents, refused, groups, sizeIn, framesIn}
@@ -20,7 +20,7 @@ maxPayload = maxPacket - minPacket
 
 -- the ticks from the place after a frame-block's time to another time, modulo 2^32
 abbrev pub ticksAfter : ℕ → ℕ → ℕ → ℕ
-ticksAfter step previous time = before (before time step) previous
+ticksAfter step previous time = difference (difference time step) previous
 
 -- the frame-blocks left out between a frame-block and the next
 abbrev pub gapBetween : ℕ → ℕ → ℕ → ℕ
@@ -78,7 +78,7 @@ planFrom format ch c p (r ∷ rs) =
 
 -- a row one step before the first of a list, which the list's first frame-block follows directly
 abbrev pub stepBefore : ℕ → Row → Row
-stepBefore format r = record { time = before (r .time) (stepOf format); class = r .class; channel = r .channel; start = r .start; length = r .length }
+stepBefore format r = record { time = difference (r .time) (stepOf format); class = r .class; channel = r .channel; start = r .start; length = r .length }
 
 -- a table with its frames within the longest payload
 abbrev pub fitting : ℕ → ℕ → Contents → Contents

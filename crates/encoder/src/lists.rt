@@ -1,5 +1,5 @@
 // Frame lists: the rows in a word area.
-use payload::rows::ROW_WIDTH;
+use rtp::sizes::ROW_WIDTH;
 ghost use mathlib.Core.Path.{_≡_};
 ghost use Prim.Native.Nat.{_+_, _^_, _≤_, _<_};
 ghost use lib.ListN.{length};

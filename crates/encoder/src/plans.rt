@@ -4,14 +4,14 @@ use crate::lists::RowWords;
 use payload::codes;
 use payload::codes::NO_CODE;
 use payload::contents;
-use payload::contents::MAX_ROWS;
 use payload::frames;
-use payload::rows::ROW_WIDTH;
-use rtp::header::MAX_PACKET;
-use rtp::header::MIN_PACKET;
-use rtp::redundancy;
 use rtp::settings::G719_INTERLEAVED;
 use rtp::settings::GSM_HR;
+use rtp::sizes::MAX_PACKET;
+use rtp::sizes::MAX_ROWS;
+use rtp::sizes::MIN_PACKET;
+use rtp::sizes::ROW_WIDTH;
+use rtp::time;
 ghost use mathlib.Core.Path.{_≡_};
 ghost use Prim.Native.Nat.{_+_, _*_, _/_, _%_, _<_};
 ghost use lib.Dec.{eqb};
@@ -42,8 +42,8 @@ pub enum Planned {
 fn ticks_after(format: u8, previous: u32, time: u32) -> u32
     ensures { λ r. ⌜ r ≡ ticksAfter (stepOf format) previous time ⌝ }
 {
-    let back = redundancy::block_time(time, frames::step_of(format));
-    redundancy::block_time(back, previous)
+    let back = time::difference(time, frames::step_of(format));
+    time::difference(back, previous)
 }
 
 // So many ticks in whole frame-blocks.
@@ -231,7 +231,7 @@ pub(crate) fn plan_list(format: u8, channels: u8, rows: &[u32]) -> Planned
     }
     let first = lists::row_at(rows, 0);
     let before = RowWords {
-        time: redundancy::block_time(first.time, frames::step_of(format)),
+        time: time::difference(first.time, frames::step_of(format)),
         tag: first.tag,
         start: first.start,
         length: first.length,

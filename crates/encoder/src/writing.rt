@@ -4,11 +4,11 @@ use crate::plans;
 use crate::plans::Planned;
 use crate::tables;
 use payload::frames;
-use payload::rows::ROW_WIDTH;
-use rtp::redundancy;
 use rtp::refusal::Refusal;
 use rtp::settings;
 use rtp::settings::Settings;
+use rtp::sizes::ROW_WIDTH;
+use rtp::time;
 ghost use mathlib.Core.Path.{_≡_};
 ghost use lib.ListN.{length};
 ghost use Rattle.rtp.specs.Areas.{over};
@@ -54,7 +54,7 @@ fn put_payload(
     requires { ⌜ PayloadRoom format channels table (length (now bytes)) (now rows) (length (now out)) ⌝ }
     ensures { λ _. ⌜ now (out .exit) ≡ over (encodedBytes (plannedBytes format (now (bytes .entry)) (rowsIn (now (rows .entry))) (plan format channels (rowsIn (now (rows .entry)))))) (now (out .entry)) ⌝ }
 {
-    let previous = redundancy::block_time(rows[0], frames::step_of(format));
+    let previous = time::difference(rows[0], frames::step_of(format));
     tables::put_table(format, channels, previous, rows, out);
     tables::put_frames(rows, bytes, &mut out[table..]);
 }

@@ -11,7 +11,8 @@ use borrow.Author.Tests.{eq-eqb, ne-eqb, eqb-true, eqb-false}
 use Rattle.rtp.specs.Sizes.{maxPacket, maxRows, rowWidth, rowArea}
 use Rattle.rtp.specs.Areas.{over}
 use Rattle.rtp.specs.Ranges.{inRange}
-use Rattle.rtp.specs.Redundancy.{before, blockHeader, Headers, refused, headersOf, prepend, headers, headersAnswer}
+use Rattle.rtp.specs.Time.{difference}
+use Rattle.rtp.specs.Redundancy.{blockHeader, Headers, refused, headersOf, prepend, headers, headersAnswer}
 use Rattle.rtp.specs.declared.settings.Settings.{Settings}
 use Rattle.rtp.specs.declared.refusal.Refusal.{Refusal}
 use Rattle.rtp.specs.declared.redundancy.Redundant.{Redundant}
@@ -50,7 +51,7 @@ module _ (st : Settings) where
       by-test (eqb type (st .«payload_type»))
       (λ a. by-test (eqb (length s) 0)
       (λ b. rw (a, b))
-      (λ b. rw (a, b) (placed-same (st .format) (st .channels) (before time offset) (before time' offset') at at' (payload (st .format) (st .channels) done s))))
+      (λ b. rw (a, b) (placed-same (st .format) (st .channels) (difference time offset) (difference time' offset') at at' (payload (st .format) (st .channels) done s))))
       (λ a. rw a)
 
   blocks-same : (bs : List Redundant) (done time time' type at at' : ℕ) (d : List ℕ)
@@ -89,7 +90,7 @@ module _ (st : Settings) where
       by-test (eqb (b .type) (st .«payload_type»))
       (λ x. by-test (eqb (length (b .bytes)) 0)
       (λ y. rw (x, y) (omega arith))
-      (λ y. rw (x, y) (pay-few done (before time (b .offset)) (b .at) (b .bytes))))
+      (λ y. rw (x, y) (pay-few done (difference time (b .offset)) (b .at) (b .bytes))))
       (λ x. rw x (omega arith))
 
   blocks-few : (bs : List Block) (done time : ℕ) → done ≤ maxRows → Few done (rowsAnswer (blocksRows st done time bs))
@@ -147,14 +148,14 @@ module _ (st : Settings) (done area time type offset at : ℕ) (s : List ℕ) wh
   unfolding askedBlock
   asked-empty h k = rw (eq-eqb _ _ h, eq-eqb _ _ k)
 
-  pub asked-some : type ≡ st .«payload_type» → (length s ≡ 0 → ⊥) → askedBlock st done area time type offset at s ≡ askedRows st done area (before time offset) at s
+  pub asked-some : type ≡ st .«payload_type» → (length s ≡ 0 → ⊥) → askedBlock st done area time type offset at s ≡ askedRows st done area (difference time offset) at s
   unfolding askedBlock
   asked-some h k = rw (eq-eqb _ _ h, ne-eqb _ _ k)
 
   pub asked-block : inRange st ≡ true → rowArea ≤ rowWidth * done + area → at + length s ≤ maxPacket
       → askedBlock st done area time type offset at s ≡ blockRows st done time (block type offset at s)
   unfolding askedBlock blockRows
-  asked-block h a b = rw (asked-in st done area (before time offset) at s h a b)
+  asked-block h a b = rw (asked-in st done area (difference time offset) at s h a b)
 
 -- The blocks of a call: the primary block alone, or a redundant block and the rest
 

@@ -8,7 +8,8 @@ use lib.Dec.{ltb, eqb}
 use borrow.Author.Tests.{eqb-false}
 use Rattle.rtp.specs.Sizes.{maxRows, rowArea}
 use Rattle.rtp.specs.Ranges.{inRange}
-use Rattle.rtp.specs.Redundancy.{before, Headers, refused as unheaded, headersOf, redundancyHeaders, headersSize, redundantSize}
+use Rattle.rtp.specs.Time.{difference}
+use Rattle.rtp.specs.Redundancy.{Headers, refused as unheaded, headersOf, redundancyHeaders, headersSize, redundantSize}
 use Rattle.rtp.specs.Header.{header}
 use Rattle.rtp.specs.declared.settings.Settings.{Settings}
 use Rattle.rtp.specs.declared.header.Header.{Header}
@@ -44,7 +45,7 @@ module _ (st : Settings) (n : ℕ) where
       (λ x. by-test (eqb (length (b .bytes)) 0)
       (λ y. rw (x, y) (tt, omega arith))
       (λ y. let z = eqb-false (length (b .bytes)) 0 y in
-      rw (x, y) (payload-fine (st .format) (st .channels) n done (before time (b .offset)) (b .at) (b .bytes) (e (omega arith)))))
+      rw (x, y) (payload-fine (st .format) (st .channels) n done (difference time (b .offset)) (b .at) (b .bytes) (e (omega arith)))))
       (λ x. rw x (tt, omega arith))
 
   more-fine : (done time : ℕ) (b : Block) (bs : List Block) → done ≤ maxRows → (1 ≤ length (b .bytes) → b .at + length (b .bytes) ≤ n)

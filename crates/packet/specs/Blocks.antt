@@ -4,7 +4,8 @@ use mathlib.Core.List.{List, [], _∷_, _++_}
 use mathlib.Core.Bool.{Bool, true, false, cond}
 use lib.ListN.{length, take, drop}
 use lib.Dec.{ltb, eqb}
-use Rattle.rtp.specs.Redundancy.{before, Headers, refused, headersOf, redundancyHeaders, headersSize, redundantSize}
+use Rattle.rtp.specs.Time.{difference}
+use Rattle.rtp.specs.Redundancy.{Headers, refused, headersOf, redundancyHeaders, headersSize, redundantSize}
 use Rattle.rtp.specs.declared.settings.Settings.{Settings}
 use Rattle.rtp.specs.declared.refusal.Refusal.{Refusal}
 use Rattle.rtp.specs.declared.refusal.Refusal.the-variants.{LengthMismatch}
@@ -29,7 +30,7 @@ cut (b ∷ bs) type at d =
 unfoldable pub blockRows : Settings → ℕ → ℕ → Block → Rows
 blockRows st done time b =
     cond (eqb (b .type) (st .«payload_type»))
-    (cond (eqb (length (b .bytes)) 0) (rowsOf []) (payloadRows (st .format) (st .channels) done (before time (b .offset)) (b .at) (b .bytes)))
+    (cond (eqb (length (b .bytes)) 0) (rowsOf []) (payloadRows (st .format) (st .channels) done (difference time (b .offset)) (b .at) (b .bytes)))
     (rowsOf [])
 
 abbrev pub prependRows : List Row → Rows → Rows

@@ -5,7 +5,8 @@ use mathlib.Core.List.{List, [], _∷_, _++_}
 use lib.ListN.{length, replicate}
 use Rattle.rtp.specs.Sizes.{rowArea}
 use Rattle.rtp.specs.Ranges.{g719, g719Interleaved, gsmHr}
-use Rattle.rtp.specs.Redundancy.{before, blockHeader, headersOf, redundancyHeaders}
+use Rattle.rtp.specs.Time.{difference}
+use Rattle.rtp.specs.Redundancy.{blockHeader, headersOf, redundancyHeaders}
 use Rattle.rtp.specs.Refusals.{number}
 use Rattle.rtp.specs.declared.settings.Settings.{Settings}
 use Rattle.rtp.specs.declared.refusal.Refusal.the-variants.{ReservedCode}
@@ -95,7 +96,7 @@ pub record CheckedTable : Type 0 where
   -- 6. Block header E1 0F 00 52, then 61: type 97, offset 960, length 82; at packet time 0 the redundant time is 4294966336.
   pub block-header : blockHeader blockHeaders ≡ BlockHeader.Redundant redundantBlock
   pub block-headers : redundancyHeaders blockHeaders ≡ headersOf (redundantBlock ∷ []) 97
-  pub redundant-time : before 0 960 ≡ 4294966336
+  pub redundant-time : difference 0 960 ≡ 4294966336
   pub redundant-rows : packetRows g719 1 redundancyType 0 (blockHeaders ++ oneBlock ++ oneBlock) ≡ rowsOf (row 4294966336 sound 0 19 80 ∷ row 0 sound 0 101 80 ∷ [])
   -- 7. Kind 3, 80 F0 00 and 28 bytes: lengths 14, 0, 14 at 0, 160, 320.
   pub gsm-rows : packetRows gsmHr 1 plainType 0 gsmFrames ≡ rowsOf (row 0 sound 0 15 14 ∷ row 160 noData 0 29 0 ∷ row 320 sound 0 29 14 ∷ [])

@@ -7,7 +7,8 @@ use lib.ListN.{length}
 use lib.Dec.{eqb}
 use Rattle.rtp.specs.Sizes.{maxPacket, maxRows, rowWidth, rowArea}
 use Rattle.rtp.specs.Ranges.{inRange}
-use Rattle.rtp.specs.Redundancy.{before, Headers, refused, headersOf, headers, headersAnswer}
+use Rattle.rtp.specs.Time.{difference}
+use Rattle.rtp.specs.Redundancy.{Headers, refused, headersOf, headers, headersAnswer}
 use Rattle.rtp.specs.declared.settings.Settings.{Settings}
 use Rattle.rtp.specs.declared.redundancy.HeadersRead.{HeadersRead}
 use Rattle.payload.specs.Payloads.{Rows, noRows, rowsOf, askedRows, rowsAnswer}
@@ -18,7 +19,7 @@ use Rattle.packet.specs.Blocks.{cut, blocksRows}
 unfoldable pub askedBlock : Settings → ℕ → ℕ → ℕ → ℕ → ℕ → ℕ → List ℕ → Rows
 askedBlock st done area time type offset at s =
     cond (eqb type (st .«payload_type»))
-    (cond (eqb (length s) 0) (rowsOf []) (askedRows st done area (before time offset) at s))
+    (cond (eqb (length s) 0) (rowsOf []) (askedRows st done area (difference time offset) at s))
     (rowsOf [])
 
 -- the rows of the blocks whose headers are these, or stand at the front of h, and whose bytes are d, at `at`

@@ -1,12 +1,13 @@
 // The blocks of a redundancy payload.
 use payload::reading;
 use payload::reading::PayloadRead;
-use payload::rows::ROW_WIDTH;
 use rtp::redundancy;
 use rtp::redundancy::BlockHeader;
 use rtp::redundancy::HeadersRead;
 use rtp::refusal::Refusal;
 use rtp::settings::Settings;
+use rtp::sizes::ROW_WIDTH;
+use rtp::time;
 ghost use mathlib.Core.Path.{_≡_};
 ghost use mathlib.Core.Bool.{true};
 ghost use Prim.Native.Nat.{_+_, _≤_};
@@ -49,14 +50,7 @@ fn put_block(
         if s.len() == 0 {
             return PayloadRead::Rows(0);
         }
-        return reading::read_payload(
-            settings,
-            done,
-            redundancy::block_time(time, offset),
-            at,
-            s,
-            rows,
-        );
+        return reading::read_payload(settings, done, time::difference(time, offset), at, s, rows);
     }
     PayloadRead::Rows(0)
 }

@@ -2,12 +2,12 @@
 use crate::blocks;
 use payload::reading;
 use payload::reading::PayloadRead;
-use payload::reading::ROW_AREA;
 use rtp::header;
 use rtp::header::Header;
 use rtp::header::HeaderRead;
 use rtp::refusal::Refusal;
 use rtp::settings::Settings;
+use rtp::sizes::ROW_AREA;
 ghost use mathlib.Core.Path.{_≡_};
 ghost use mathlib.Core.Bool.{true};
 ghost use Prim.Native.Nat.{_≤_};

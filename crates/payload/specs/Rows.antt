@@ -12,9 +12,19 @@ pub record Row : Type 0 where
   pub start : ℕ
   pub length : ℕ
 
+-- a row's second word: 256 × class + channel, packed and unpacked
+abbrev pub tagOf : ℕ → ℕ → ℕ
+tagOf class channel = 256 * class + channel
+
+abbrev pub tagClass : ℕ → ℕ
+tagClass tag = tag / 256
+
+abbrev pub tagChannel : ℕ → ℕ
+tagChannel tag = tag % 256
+
 -- its four words
 abbrev pub rowWords : Row → List ℕ
-rowWords r = r .time ∷ (256 * r .class + r .channel) ∷ r .start ∷ r .length ∷ []
+rowWords r = r .time ∷ tagOf (r .class) (r .channel) ∷ r .start ∷ r .length ∷ []
 
 unfoldable pub words : List Row → List ℕ
 words [] = []
@@ -22,7 +32,7 @@ words (r ∷ rs) = rowWords r ++ words rs
 
 -- the row of four words
 abbrev pub rowOf : ℕ → ℕ → ℕ → ℕ → Row
-rowOf time tag start size = record { time = time; class = tag / 256; channel = tag % 256; start = start; length = size }
+rowOf time tag start size = record { time = time; class = tagClass tag; channel = tagChannel tag; start = start; length = size }
 
 -- the whole rows of a word area; words left over are no row
 unfoldable pub rowsIn : List ℕ → List Row

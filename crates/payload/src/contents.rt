@@ -4,14 +4,12 @@ use crate::frames;
 use crate::frames::Coded;
 use rtp::bytes;
 use rtp::refusal::Refusal;
+use rtp::sizes::MAX_ROWS;
 ghost use mathlib.Core.Path.{_≡_};
 ghost use Prim.Native.Nat.{_+_, _<_, _≤_};
 ghost use lib.ListN.{length};
 ghost use Rattle.payload.specs.Contents.{minEntry, codeIn, blocksIn, entrySize, entryOf, contents, sizesAnswer, gapAt};
 ghost use Rattle.payload.specs.Formats.{formatOf};
-
-// The most rows of a packet.
-pub const MAX_ROWS: usize = 128;
 
 // One table entry: whether another follows, the frames' class and length, the number of frame-blocks, and the entry's own bytes.
 pub struct Entry {

@@ -2,19 +2,17 @@
 use crate::contents;
 use crate::contents::ContentsRead;
 use crate::rows;
-use crate::rows::ROW_WIDTH;
-use rtp::header::MAX_PACKET;
 use rtp::refusal::Refusal;
 use rtp::settings;
 use rtp::settings::Settings;
+use rtp::sizes::MAX_PACKET;
+use rtp::sizes::ROW_AREA;
+use rtp::sizes::ROW_WIDTH;
 ghost use mathlib.Core.Path.{_≡_};
 ghost use lib.ListN.{length};
 ghost use Rattle.rtp.specs.Sizes.{rowArea};
 ghost use Rattle.rtp.specs.Areas.{over};
 ghost use Rattle.payload.specs.Payloads.{askedRows, rowsAnswer, rowsWords};
-
-// The words of an area that rows are read into.
-pub const ROW_AREA: usize = 512;
 
 // The number of rows, or why there are none.
 pub enum PayloadRead {

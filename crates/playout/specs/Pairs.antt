@@ -2,7 +2,7 @@
 use Prim.Native.Nat.{ℕ, _+_, _-_, _%_, _^_, compare, Ordering, Ordering·lt, Ordering·eq, Ordering·gt}
 use mathlib.Core.Bool.{Bool, true, false, cond}
 use lib.Dec.{ltb, eqb}
-use Rattle.rtp.specs.Redundancy.{before}
+use Rattle.rtp.specs.Time.{difference}
 use Rattle.playout.specs.declared.order.Side.{Side}
 
 -- half the range of time
@@ -11,7 +11,7 @@ half = 2 ^ 31
 
 -- t - h modulo 2^32
 unfoldable pub ahead : ℕ → ℕ → ℕ
-ahead t h = before t h
+ahead t h = difference t h
 
 -- time t is after h: 1 to 2^31 - 1 ahead
 unfoldable pub after : ℕ → ℕ → Bool

@@ -1,5 +1,5 @@
 // Time modulo 2^32, and pairs of time and channel.
-use rtp::redundancy;
+use rtp::time;
 ghost use mathlib.Core.Path.{_≡_};
 ghost use Rattle.playout.specs.Pairs.{ahead, after, order, sideOf};
 
@@ -17,7 +17,7 @@ pub enum Side {
 pub fn ticks_ahead(t: u32, h: u32) -> u32
     ensures { λ r. ⌜ r ≡ ahead t h ⌝ }
 {
-    redundancy::block_time(t, h)
+    time::difference(t, h)
 }
 
 pub fn is_after(t: u32, h: u32) -> bool

@@ -1,20 +1,25 @@
 // A receiver of interleaved mono, and packets for it, printed.
 use reorder::buffer::Buffer;
+use reorder::buffer::SLOT_SIZE;
+use reorder::buffer::STORE_SIZE;
 use reorder::calls;
 use reorder::calls::DrawAnswer;
 use reorder::calls::DrawnFrame;
 use reorder::calls::OfferAnswer;
 use reorder::calls::Tally;
 use rtp::refusal;
+use rtp::settings::G719_INTERLEAVED;
+use rtp::settings::NO_REDUNDANCY;
 use rtp::settings::Settings;
+use rtp::sizes::ROW_AREA;
 
 fn print(text: &[u8], value: u32) {
     io::write_all(1, text);
     io::print_decimal(1, value as u64);
 }
 
-pub(crate) fn zero_store() -> [u8; 61440] {
-    [0; 61440]
+pub(crate) fn zero_store() -> [u8; STORE_SIZE] {
+    [0; STORE_SIZE]
 }
 
 // A fresh buffer, under a label.
@@ -22,10 +27,10 @@ pub(crate) fn begin(label: &[u8]) -> Buffer {
     io::write_all(1, label);
     io::write_all(1, b"\n");
     let fresh = calls::new(Settings {
-        format: 2,
+        format: G719_INTERLEAVED,
         channels: 1,
         payload_type: 97,
-        redundancy_type: 128,
+        redundancy_type: NO_REDUNDANCY,
     });
     fresh.buffer
 }
@@ -69,8 +74,8 @@ fn print_tally(tally: Tally) {
     io::write_all(1, b"\n");
 }
 
-fn zero_rows() -> [u32; 512] {
-    [0; 512]
+fn zero_rows() -> [u32; ROW_AREA] {
+    [0; ROW_AREA]
 }
 
 fn offer(buffer: Buffer, store: &mut [u8], base: u32, k: u8) -> Buffer {
@@ -92,8 +97,8 @@ pub(crate) fn three(buffer: Buffer, store: &mut [u8], base: u32, a: u8, b: u8, c
     offer(second, store, base, c)
 }
 
-fn zero_frame() -> [u8; 320] {
-    [0; 320]
+fn zero_frame() -> [u8; SLOT_SIZE] {
+    [0; SLOT_SIZE]
 }
 
 // A byte of a frame-block, if it is not its number.
@@ -105,7 +110,7 @@ fn print_other(byte: u8, number: u32) {
 }
 
 // A frame-block's number by its time, and its first and last byte if they tell of another.
-fn print_frame(base: u32, frame: DrawnFrame, area: &[u8; 320]) {
+fn print_frame(base: u32, frame: DrawnFrame, area: &[u8; SLOT_SIZE]) {
     let number = std::num::wrapping_sub_u32(frame.time, base) / 960;
     print(b" ", number);
     print_other(area[0], number);

@@ -2,8 +2,13 @@
 use packet::reading;
 use packet::reading::Packet;
 use packet::reading::Reading;
+use payload::rows;
 use rtp::refusal;
 use rtp::settings::Settings;
+use rtp::sizes::MAX_PACKET;
+use rtp::sizes::MAX_ROWS;
+use rtp::sizes::ROW_AREA;
+use rtp::sizes::ROW_WIDTH;
 ghost use Prim.Native.Nat.{_≤_};
 
 // The payload type and the redundancy type agreed, and a header's first byte with version 2 and no other bit.
@@ -28,12 +33,15 @@ fn least(a: usize, b: usize) -> usize
     if a < b { a } else { b }
 }
 
+// One byte more than the longest packet.
+const LONGEST: usize = MAX_PACKET + 1;
+
 // `text` laid at `at`, as far as the packet reaches.
-pub(crate) fn put(bytes: &mut [u8; 2049], at: usize, text: &[u8]) {
+pub(crate) fn put(bytes: &mut [u8; LONGEST], at: usize, text: &[u8]) {
     let mut i = 0;
     while i < text.len() {
-        if at < 2049 {
-            if i < 2049 - at {
+        if at < LONGEST {
+            if i < LONGEST - at {
                 bytes[at + i] = text[i];
             }
         }
@@ -41,12 +49,12 @@ pub(crate) fn put(bytes: &mut [u8; 2049], at: usize, text: &[u8]) {
     }
 }
 
-fn zeros() -> [u8; 2049] {
-    [0; 2049]
+fn zeros() -> [u8; LONGEST] {
+    [0; LONGEST]
 }
 
 // A fixed header with sequence 65244 and source 2712847316, and zeros.
-pub(crate) fn start(first: u8, second: u8, time: u32) -> [u8; 2049] {
+pub(crate) fn start(first: u8, second: u8, time: u32) -> [u8; LONGEST] {
     let mut bytes = zeros();
     bytes[0] = first;
     bytes[1] = second;
@@ -77,20 +85,20 @@ fn print_header(packet: Packet) {
     io::write_all(1, b"\n");
 }
 
-fn print_row(rows: &[u32; 512], i: u32) {
-    if i < 128 {
-        let at = 4 * (i as usize);
-        let class_and_channel = rows[at + 1];
+fn print_row(rows: &[u32; ROW_AREA], i: u32) {
+    if (i as usize) < MAX_ROWS {
+        let at = ROW_WIDTH * (i as usize);
+        let tag = rows[at + 1];
         print(b"", rows[at]);
-        print(b" ", class_and_channel / 256);
-        print(b" ", class_and_channel % 256);
+        print(b" ", rows::tag_class(tag));
+        print(b" ", rows::tag_channel(tag));
         print(b" ", rows[at + 2]);
         print(b" ", rows[at + 3]);
         io::write_all(1, b"\n");
     }
 }
 
-fn print_rows(rows: &[u32; 512], count: u32) {
+fn print_rows(rows: &[u32; ROW_AREA], count: u32) {
     let mut i = 0;
     while i < count {
         print_row(rows, i);
@@ -98,7 +106,7 @@ fn print_rows(rows: &[u32; 512], count: u32) {
     }
 }
 
-fn print_reading(answer: Reading, rows: &[u32; 512]) {
+fn print_reading(answer: Reading, rows: &[u32; ROW_AREA]) {
     match answer {
         Reading::Refused(why) => {
             print(b"refusal ", refusal::refusal_number(why));
@@ -124,15 +132,15 @@ fn read_part(
     reading::read(settings, &bytes[..n], &mut area[..m])
 }
 
-fn zero_rows() -> [u32; 512] {
-    [0; 512]
+fn zero_rows() -> [u32; ROW_AREA] {
+    [0; ROW_AREA]
 }
 
 // The same with an area of zeros, and what it came to printed under a label.
 pub(crate) fn read_into(
     label: &[u8],
     settings: Settings,
-    bytes: &[u8; 2049],
+    bytes: &[u8; LONGEST],
     size: usize,
     words: usize,
 ) {
@@ -143,8 +151,8 @@ pub(crate) fn read_into(
     print_reading(answer, &rows);
 }
 
-pub(crate) fn read(label: &[u8], settings: Settings, bytes: &[u8; 2049], size: usize) {
-    read_into(label, settings, bytes, size, 512);
+pub(crate) fn read(label: &[u8], settings: Settings, bytes: &[u8; LONGEST], size: usize) {
+    read_into(label, settings, bytes, size, ROW_AREA);
 }
 
 // A packet of `size` bytes whose payload starts with `text`.

@@ -2,6 +2,7 @@
 use crate::example;
 use crate::example::PLAIN;
 use crate::example::VERSION_2;
+use rtp::settings::NO_REDUNDANCY;
 use rtp::settings::Settings;
 
 // 1 and 2.
@@ -47,7 +48,7 @@ pub(crate) fn types() {
         format: 1,
         channels: 1,
         payload_type: PLAIN,
-        redundancy_type: 128,
+        redundancy_type: NO_REDUNDANCY,
     };
     example::payload(b"5: another type", mono, 99, 0, b"\x20\x01", 94);
     example::redundant(b"5: no redundancy type", alone, b"\x61\x20\x01", 95);

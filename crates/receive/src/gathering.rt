@@ -5,8 +5,6 @@ use crate::input::Input;
 use crate::printing;
 use crate::totals;
 use crate::totals::Totals;
-use payload::contents::MAX_ROWS;
-use payload::reading::ROW_AREA;
 use reorder::buffer::Buffer;
 use reorder::buffer::SLOT_SIZE;
 use reorder::buffer::SLOTS;
@@ -16,6 +14,8 @@ use reorder::calls::DrawAnswer;
 use reorder::calls::NewAnswer;
 use rtp::refusal;
 use rtp::settings::Settings;
+use rtp::sizes::MAX_ROWS;
+use rtp::sizes::ROW_AREA;
 
 // The frames kept between packets: with the most that a packet can bring they fill the buffer, so that none is turned away for want of room.
 const KEPT: usize = SLOTS - MAX_ROWS;

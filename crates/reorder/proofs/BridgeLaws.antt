@@ -7,9 +7,10 @@ use native.Mathlib.Omega.{arith}
 use lib.ListN.{length, getD}
 use lib.Dec.{ltb, eqb}
 use borrow.Author.Tests.{ltb-true, ltb-false, eqb-true, eqb-false}
-use Rattle.rtp.specs.Ranges.{g719, g719Interleaved, gsmHr, inRange, maxChannels}
+use Rattle.rtp.specs.Ranges.{inRange}
 use Rattle.rtp.specs.declared.settings.Settings.{Settings}
 use Rattle.rtp.proofs.TestLaws.{by-test, not-both}
+pub use Rattle.rtp.proofs.RangeLaws.{few-channels}
 use Rattle.playout.specs.Sizes.{slots, slotSize, storeSize}
 use Rattle.playout.specs.Entries.{Entry, Held}
 use Rattle.playout.proofs.SoundLaws.{Sound}
@@ -22,22 +23,6 @@ use Rattle.reorder.proofs.LayoutLaws.{column-length, decode-encode}
 use Rattle.reorder.proofs.FormLaws.{Facts, facts, times-word}
 use Rattle.reorder.proofs.FormBackLaws.{well-formed}
 use Rattle.reorder.proofs.StateLaws.{Good, good-sound}
-
--- channels in range
-
-max-channels : (format : ℕ) → maxChannels format ≤ 2
-unfolding maxChannels
-max-channels format =
-    by-test (eqb format g719) (λ a. rw a (omega arith))
-    (λ a. by-test (eqb format g719Interleaved) (λ b. rw (a, b) (omega arith))
-    (λ b. by-test (eqb format gsmHr) (λ c. rw (a, b, c) (omega arith)) (λ c. rw (a, b, c) (omega arith))))
-
-pub few-channels : (st : Settings) → inRange st ≡ true → st .channels ≤ 2
-unfolding inRange
-few-channels st h =
-    by-test (eqb (st .channels) 0) (λ a. not-both false (rw a at h) refl)
-    (λ a. by-test (ltb (maxChannels (st .format)) (st .channels)) (λ b. not-both false (rw (a, b) at h) refl)
-    (λ b. omega (arith, ltb-false (maxChannels (st .format)) (st .channels) b, max-channels (st .format))))
 
 -- a well-formed buffer's model
 

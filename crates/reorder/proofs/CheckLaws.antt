@@ -21,14 +21,7 @@ use Rattle.reorder.specs.WellFormed.{allowed, ascends, entryFine, fineFr
 use Rattle.reorder.specs.Checks.{sortFine, lastFineOf, restZero, entriesFine}
 use Rattle.reorder.proofs.TurnLaws.{up, turn}
 use Rattle.rtp.proofs.TestLaws.{not-both}
-
--- two tests in turn
-pub both : (a b : Bool) → cond a b false ≡ true → (a ≡ true) × (b ≡ true)
-both true b h = (refl, h)
-both false b h = not-both false h refl
-
-pub and-then : (a b : Bool) → a ≡ true → b ≡ true → cond a b false ≡ true
-and-then a b p q = ap (λ (x : Bool). cond x b false) p ∙ q
+pub use Rattle.rtp.proofs.TestLaws.{both, and-then}
 
 -- a callee's answer, tested by `if !`
 pub passed : {r t : Bool} → r ≡ t → not r ≡ false → t ≡ true

@@ -1,12 +1,13 @@
 // The reorder buffer's layout.
 use rtp::settings::Settings;
+use rtp::sizes::MAX_FRAME;
 ghost use mathlib.Core.Path.{_≡_};
 ghost use Rattle.reorder.specs.Layout.{fresh};
 
 // Entries and slots of a buffer.
 pub const SLOTS: usize = 192;
 // The bytes of a slot: of the longest frame.
-pub const SLOT_SIZE: usize = 320;
+pub const SLOT_SIZE: usize = MAX_FRAME;
 // The bytes of the store.
 pub const STORE_SIZE: usize = SLOTS * SLOT_SIZE;
 

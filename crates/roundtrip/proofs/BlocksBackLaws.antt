@@ -8,7 +8,8 @@ use lib.ListN.{length, take, drop, length-append, take-append-drop}
 use lib.Seq.{take-append-seam, drop-append-seam}
 use borrow.Author.Tests.{lt-ltb, le-ltb, eq-eqb, ne-eqb}
 use Rattle.rtp.specs.Sizes.{maxPacket, maxRows}
-use Rattle.rtp.specs.Redundancy.{before, blockHeader, headersOf, prepend, headers, redundancyHeaders, headersSize, redundantSize}
+use Rattle.rtp.specs.Time.{difference}
+use Rattle.rtp.specs.Redundancy.{blockHeader, headersOf, prepend, headers, redundancyHeaders, headersSize, redundantSize}
 use Rattle.rtp.specs.declared.settings.Settings.{Settings}
 use Rattle.rtp.specs.declared.redundancy.Redundant.{Redundant}
 use Rattle.rtp.specs.declared.redundancy.BlockHeader.{BlockHeader}
@@ -78,11 +79,11 @@ module _ (st : Settings) (bytes : List ℕ) (time type : ℕ) (small : type < 12
 
 -- Blocks
 
-before-back : (time u : ℕ) → time < 2 ^ 32 → u < 2 ^ 32 → before time (before time u) ≡ u
-before-back time u t h = omega arith
+difference-back : (time u : ℕ) → time < 2 ^ 32 → u < 2 ^ 32 → difference time (difference time u) ≡ u
+difference-back time u t h = omega arith
 
-before-none : (time : ℕ) → time < 2 ^ 32 → before time 0 ≡ time
-before-none time t = omega arith
+difference-none : (time : ℕ) → time < 2 ^ 32 → difference time 0 ≡ time
+difference-none time t = omega arith
 
 -- the rows of a list's first n rows, and of the others after them
 back-then : (s bytes : List ℕ) (n : ℕ) (rs : List Row) (x : Rows) (next : ℕ → Rows) → Back s bytes (take n rs) x → Back s bytes (drop n rs) (next (length (take n rs))) → Back s bytes rs (thenRows x next)
@@ -103,7 +104,7 @@ first-block st done time type at b hs c = rw (take-append-seam (b .bytes) c, dro
 
 module _ (st : Settings) (bytes : List ℕ) (time : ℕ) (some : 1 ≤ st .channels) (t : time < 2 ^ 32) where
   -- a block whose time is its list's, anywhere
-  block-back : (offset : ℕ) (p : List ℕ) (rs : List Row) → Reads st bytes p rs → before time offset ≡ firstTime rs → (front rest : List ℕ) (done : ℕ) → done + length rs ≤ maxRows
+  block-back : (offset : ℕ) (p : List ℕ) (rs : List Row) → Reads st bytes p rs → difference time offset ≡ firstTime rs → (front rest : List ℕ) (done : ℕ) → done + length rs ≤ maxRows
       → Back (front ++ (p ++ rest)) bytes rs (blockRows st done time (block (st .«payload_type») offset (length front) p))
   unfolding blockRows
   block-back offset p rs r e front rest done few =
@@ -115,7 +116,7 @@ module _ (st : Settings) (bytes : List ℕ) (time : ℕ) (some : 1 ≤ st .chann
       → Back (front ++ blocksBytes bs p) bytes rs (blocksRows st done time (cut (redundantsOf (st .«payload_type») bs) (st .«payload_type») (length front) (blocksBytes bs p)))
   unfolding blocksBytes
   blocks-back [] p rs m times inside front done few =
-      let x = block-back 0 p rs (payload-back st bytes p rs some times inside (m .0)) (before-none time t ∙ sym (m .1)) front [] done few in
+      let x = block-back 0 p rs (payload-back st bytes p rs some times inside (m .0)) (difference-none time t ∙ sym (m .1)) front [] done few in
       rw (last-block st done time (st .«payload_type») (length front) p) (rw (append-nil p) at x)
   blocks-back (b ∷ bs) p rs m times inside front done few =
       let n = m .0 in
@@ -125,7 +126,7 @@ module _ (st : Settings) (bytes : List ℕ) (time : ℕ) (some : 1 ≤ st .chann
       let x =
       block-back (b .offset) (b .bytes) (take n rs)
       (payload-back st bytes (b .bytes) (take n rs) some first (outside-take (length bytes) n rs inside) (m .1 .payload))
-      (ap (before time) (m .1 .offset) ∙ before-back time (firstTime (take n rs)) t (first-small (take n rs) first)) front c done (omega arith) in
+      (ap (difference time) (m .1 .offset) ∙ difference-back time (firstTime (take n rs)) t (first-small (take n rs) first)) front c done (omega arith) in
       let y =
       blocks-back bs p (drop n rs) (m .2) (times-drop n rs times) (outside-drop (length bytes) n rs inside) (front ++ b .bytes) (done + length (take n rs)) (omega arith) in
       rw (first-block st done time (st .«payload_type») (length front) b (redundantsOf (st .«payload_type») bs) c)

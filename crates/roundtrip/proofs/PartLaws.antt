@@ -7,7 +7,7 @@ use native.Mathlib.Omega.{arith}
 use lib.ListN.{length, take, drop}
 use lib.Dec.{ltb}
 use borrow.Author.Tests.{ltb-false}
-use Rattle.rtp.specs.Redundancy.{before}
+use Rattle.rtp.specs.Time.{difference}
 use Rattle.rtp.specs.declared.settings.Settings.{Settings}
 use Rattle.payload.specs.Rows.{Row}
 use Rattle.encoder.specs.Writings.{Encoded, noBytes, bytesOf, encoded}
@@ -40,7 +40,7 @@ primary-small (n ∷ m ∷ ns) rs h = primary-small (m ∷ ns) (drop n rs) (time
 -- a redundant block of the list rs, in a packet at `time`
 pub record Redundancy (st : Settings) (bytes : List ℕ) (time : ℕ) (b : Part) (rs : List Row) : Type 0 where
   pub payload : encoded st bytes rs ≡ bytesOf (b .bytes)
-  pub offset : b .offset ≡ before time (firstTime rs)
+  pub offset : b .offset ≡ difference time (firstTime rs)
   pub near : b .offset ≤ maxOffset
   pub short : length (b .bytes) ≤ maxBlock
 
@@ -71,11 +71,11 @@ module _ (st : Settings) (bytes : List ℕ) (time : ℕ) where
           subst (λ (l : List Part). Made st bytes time l p rs) (s .blocks) (e ∙ ap bytesOf (s .primary), sym t)
 
   made-more : (n : ℕ) (rs : List Row) (rest : Parts) (bs : List Part) (p : List ℕ) → ((cs : List Part) (q : List ℕ) → rest ≡ partsOf cs q → Made st bytes time cs q (drop n rs))
-      → redundantPart (before time (firstTime (take n rs))) (encoded st bytes (take n rs)) rest ≡ partsOf bs p → Made st bytes time bs p rs
+      → redundantPart (difference time (firstTime (take n rs))) (encoded st bytes (take n rs)) rest ≡ partsOf bs p → Made st bytes time bs p rs
   made-more n rs rest bs p ih h = go (encoded st bytes (take n rs)) refl h
     where
       offset : ℕ
-      offset = before time (firstTime (take n rs))
+      offset = difference time (firstTime (take n rs))
 
       put : (q : List ℕ) → encoded st bytes (take n rs) ≡ bytesOf q → length q ≤ maxBlock → offset ≤ maxOffset → (x : Parts) → rest ≡ x
           → prependPart (record { offset = offset; bytes = q }) x ≡ partsOf bs p → Made st bytes time bs p rs

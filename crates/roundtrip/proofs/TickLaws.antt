@@ -5,7 +5,7 @@ use native.Mathlib.Omega.{arith}
 use native.Mathlib.Nat.{mod-add-mod, add-mod-mod, add-mod-right, mul-mod-left, div-add-mod'}
 use lib.Dec.{eqb}
 use Rattle.rtp.specs.Ranges.{gsmHr}
-use Rattle.rtp.specs.Redundancy.{before}
+use Rattle.rtp.specs.Time.{difference}
 use Rattle.rtp.proofs.TestLaws.{by-test}
 use Rattle.payload.specs.Frames.{stepOf}
 use Rattle.payload.specs.Rows.{placed}
@@ -16,8 +16,8 @@ abbrev pub next : ℕ → ℕ → ℕ
 next step time = (time + step) % 2 ^ 32
 
 -- a time less an offset, of a number that is a time modulo 2^32
-before-mod : (n offset : ℕ) → offset ≤ 2 ^ 32 → before (n % 2 ^ 32) offset ≡ before n offset
-before-mod n offset h =
+difference-mod : (n offset : ℕ) → offset ≤ 2 ^ 32 → difference (n % 2 ^ 32) offset ≡ difference n offset
+difference-mod n offset h =
     let a : n % 2 ^ 32 + 2 ^ 32 - offset ≡ n % 2 ^ 32 + (2 ^ 32 - offset) = omega arith in
     let b : n + (2 ^ 32 - offset) ≡ n + 2 ^ 32 - offset = omega arith in
     ap (λ (k : ℕ). k % 2 ^ 32) a ∙ mod-add-mod n (2 ^ 32) (2 ^ 32 - offset) ∙ ap (λ (k : ℕ). k % 2 ^ 32) b
@@ -26,22 +26,22 @@ before-mod n offset h =
 module _ (step previous n : ℕ) (s : step ≤ 960) (p : previous < 2 ^ 32) where
   ticks-on : n ≤ 14400 → ticksAfter step previous ((next step previous + n) % 2 ^ 32) ≡ n
   ticks-on h =
-      let a : before (previous + step + n) step ≡ (previous + n) % 2 ^ 32 = omega arith in
-      let b : before (previous + n) previous ≡ n = omega arith in
+      let a : difference (previous + step + n) step ≡ (previous + n) % 2 ^ 32 = omega arith in
+      let b : difference (previous + n) previous ≡ n = omega arith in
       ap (ticksAfter step previous) (mod-add-mod (previous + step) (2 ^ 32) n)
-      ∙ ap (λ (k : ℕ). before k previous) (before-mod (previous + step + n) step (omega arith) ∙ a)
-      ∙ before-mod (previous + n) previous (omega arith) ∙ b
+      ∙ ap (λ (k : ℕ). difference k previous) (difference-mod (previous + step + n) step (omega arith) ∙ a)
+      ∙ difference-mod (previous + n) previous (omega arith) ∙ b
 
   ticks-back : (time : ℕ) → time < 2 ^ 32 → n ≡ ticksAfter step previous time → (next step previous + n) % 2 ^ 32 ≡ time
   ticks-back time t h =
-      let y = before time step + 2 ^ 32 - previous in
-      let a : previous + step + y ≡ before time step + step + 2 ^ 32 = omega arith in
-      let b : (before time step + step) % 2 ^ 32 ≡ time = omega arith in
+      let y = difference time step + 2 ^ 32 - previous in
+      let a : previous + step + y ≡ difference time step + step + 2 ^ 32 = omega arith in
+      let b : (difference time step + step) % 2 ^ 32 ≡ time = omega arith in
       mod-add-mod (previous + step) (2 ^ 32) n
       ∙ ap (λ (k : ℕ). (previous + step + k) % 2 ^ 32) h
       ∙ add-mod-mod (previous + step) y (2 ^ 32)
       ∙ ap (λ (k : ℕ). k % 2 ^ 32) a
-      ∙ add-mod-right (before time step + step) (2 ^ 32)
+      ∙ add-mod-right (difference time step + step) (2 ^ 32)
       ∙ b
 
 step-small : (format : ℕ) → stepOf format ≤ 960
@@ -72,8 +72,8 @@ placed-back format previous time p t h =
 
 -- the place of a list's first frame-block
 pub record First (step time : ℕ) : Type 0 where
-  pub place : next step (before time step) ≡ time
-  pub gap : gapBetween step (before time step) time ≡ 0
+  pub place : next step (difference time step) ≡ time
+  pub gap : gapBetween step (difference time step) time ≡ 0
 
 pub first : (format time : ℕ) → time < 2 ^ 32 → First (stepOf format) time
 first format time t =

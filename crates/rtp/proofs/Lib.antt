@@ -3,3 +3,4 @@ pub mod AreaLaws
 pub mod HeaderLaws
 pub mod RedundancyLaws
 pub mod RefusalLaws
+pub mod RangeLaws

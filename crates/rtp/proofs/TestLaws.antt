@@ -1,5 +1,5 @@
 -- Laws of tests.
-use mathlib.Core.Path.{_≡_, refl}
+use mathlib.Core.Path.{_≡_, refl, ap, _∙_}
 use mathlib.Core.Bool.{Bool, true, false, cond}
 
 -- both ways of a test
@@ -18,12 +18,16 @@ not-both b p q = let z : _≡_ {A = Bool} true false = cc in absurd (false-is-no
     false-is-not-true : _≡_ {A = Bool} true false → ⊥
     false-is-not-true z = mathlib.Core.Path.subst Is z tt
 
--- tests one after another that pass: both do, the first does not and the second does, neither does
-pub both : (t b : Bool) → cond t b false ≡ true → (t ≡ true) × (b ≡ true)
+-- a test and then another
+pub both : (a b : Bool) → cond a b false ≡ true → (a ≡ true) × (b ≡ true)
 both true b h = (refl, h)
 both false b h = not-both false h refl
 
-pub either : (t b : Bool) → cond t false b ≡ true → (t ≡ false) × (b ≡ true)
+pub and-then : (a b : Bool) → a ≡ true → b ≡ true → cond a b false ≡ true
+and-then a b p q = ap (λ (x : Bool). cond x b false) p ∙ q
+
+-- a test that must fail, and then another
+pub either : (a b : Bool) → cond a false b ≡ true → (a ≡ false) × (b ≡ true)
 either true b h = not-both false h refl
 either false b h = (refl, h)
 

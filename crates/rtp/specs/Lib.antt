@@ -1,4 +1,5 @@
 pub mod Sizes
+pub mod Time
 pub mod Numbers
 pub mod Areas
 pub mod Refusals

@@ -18,9 +18,13 @@ gsmHr = 3
 abbrev pub noRedundancy : ℕ
 noRedundancy = 128
 
+-- the most channels that any format has
+abbrev pub mostChannels : ℕ
+mostChannels = 2
+
 -- the most channels of a format, 0 where there is no such format
 unfoldable pub maxChannels : ℕ → ℕ
-maxChannels format = cond (eqb format g719) 2 (cond (eqb format g719Interleaved) 2 (cond (eqb format gsmHr) 1 0))
+maxChannels format = cond (eqb format g719) mostChannels (cond (eqb format g719Interleaved) mostChannels (cond (eqb format gsmHr) 1 0))
 
 -- format 1 to 3 and 1 to its most channels; the payload type at most 127; the redundancy type at most 127 and another, or none
 unfoldable pub inRange : Settings → Bool

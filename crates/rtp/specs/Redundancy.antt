@@ -1,5 +1,5 @@
--- Document 01, "Redundancy": block headers and block times.
-use Prim.Native.Nat.{ℕ, zero, suc, _+_, _-_, _*_, _/_, _%_, _^_}
+-- Document 01, "Redundancy": block headers.
+use Prim.Native.Nat.{ℕ, zero, suc, _+_, _*_, _/_, _%_}
 use mathlib.Core.List.{List, [], _∷_}
 use mathlib.Core.Bool.{Bool, true, false, cond}
 use lib.ListN.{length, drop}
@@ -11,10 +11,6 @@ use Rattle.rtp.specs.declared.redundancy.BlockHeader.{BlockHeader}
 use Rattle.rtp.specs.declared.redundancy.HeadersRead.{HeadersRead}
 use Rattle.rtp.specs.Sizes.{maxPacket}
 use Rattle.rtp.specs.Numbers.{byteAt}
-
--- a time less an offset, modulo 2^32
-abbrev pub before : ℕ → ℕ → ℕ
-before time offset = (time + 2 ^ 32 - offset) % 2 ^ 32
 
 -- the block header at the front of s: F, type 7 bits; with F set, offset 14 bits and length 10 bits
 unfoldable pub blockHeader : List ℕ → BlockHeader

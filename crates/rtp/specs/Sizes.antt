@@ -17,7 +17,7 @@ abbrev pub rowWidth : ℕ
 rowWidth = 4
 
 abbrev pub rowArea : ℕ
-rowArea = 512
+rowArea = rowWidth * maxRows
 
 -- the longest frame
 abbrev pub maxFrame : ℕ

@@ -1,16 +1,13 @@
 // The RTP header (RFC 3550).
 use crate::bytes;
 use crate::refusal::Refusal;
+use crate::sizes::MAX_PACKET;
+use crate::sizes::MIN_PACKET;
 ghost use mathlib.Core.Path.{_≡_};
 ghost use Prim.Native.Nat.{_≤_};
 ghost use lib.ListN.{length};
 ghost use Rattle.rtp.specs.Sizes.{minPacket};
 ghost use Rattle.rtp.specs.Header.{payloadStart, payloadEnd, header, fields};
-
-// The shortest and the longest packet, in bytes.
-pub const MIN_PACKET: usize = 12;
-
-pub const MAX_PACKET: usize = 2048;
 
 // What a header says; the payload is the packet's part from `start` up to `end`.
 pub struct Header {

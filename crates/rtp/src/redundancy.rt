@@ -1,12 +1,12 @@
 // Redundancy block headers (RFC 2198).
 use crate::bytes;
-use crate::header::MAX_PACKET;
 use crate::refusal::Refusal;
+use crate::sizes::MAX_PACKET;
 ghost use mathlib.Core.Path.{_≡_};
 ghost use Prim.Native.Nat.{ℕ, _≤_};
 ghost use lib.ListN.{length};
 ghost use Rattle.rtp.specs.Sizes.{maxPacket};
-ghost use Rattle.rtp.specs.Redundancy.{blockHeader, headers, headersAnswer, redundancyHeaders, before};
+ghost use Rattle.rtp.specs.Redundancy.{blockHeader, headers, headersAnswer, redundancyHeaders};
 
 // The four-byte header of a redundant block.
 pub struct Redundant {
@@ -31,13 +31,6 @@ pub struct HeaderSizes {
 pub enum HeadersRead {
     Headers(HeaderSizes),
     Refused(Refusal),
-}
-
-// A redundant block's time: the packet's timestamp less the block's offset.
-pub fn block_time(timestamp: u32, offset: u32) -> u32
-    ensures { λ r. ⌜ r ≡ before timestamp offset ⌝ }
-{
-    std::num::wrapping_sub_u32(timestamp, offset)
 }
 
 // The block header at the front of s.

@@ -9,6 +9,9 @@ pub const G719_INTERLEAVED: u8 = 2;
 
 pub const GSM_HR: u8 = 3;
 
+// The most channels that any format has.
+pub const MOST_CHANNELS: u8 = 2;
+
 // The redundancy type that says: no redundancy.
 pub const NO_REDUNDANCY: u8 = 128;
 
@@ -26,10 +29,10 @@ fn max_channels(format: u8) -> u8
     ensures { λ r. ⌜ r ≡ maxChannels format ⌝ }
 {
     if format == G719 {
-        return 2;
+        return MOST_CHANNELS;
     }
     if format == G719_INTERLEAVED {
-        return 2;
+        return MOST_CHANNELS;
     }
     if format == GSM_HR {
         return 1;

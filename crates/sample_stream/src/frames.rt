@@ -44,11 +44,11 @@ fn length_of(packet: u8) -> u32 {
     if packet % 7 == 3 { LONG } else { SHORT }
 }
 
-// A word of a row: time, 256 * class + channel, start or length.
+// A word of a row: time, class and channel (sound of channel 0), start or length.
 fn row_word(k: u8, row: u8, part: usize) -> u32 {
     match part {
         0 => time_of(number_of(k, row)),
-        1 => 256,
+        1 => payload::rows::pack_tag(1, 0),
         2 => LONG * (row as u32),
         _ => length_of(packet_of(k, row)),
     }

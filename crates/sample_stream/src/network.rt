@@ -1,7 +1,7 @@
 // What the network did with the packets.
 use crate::packets;
 use libc::STDOUT_FILENO;
-use rtp::header::MAX_PACKET;
+use rtp::sizes::MAX_PACKET;
 
 // The version bits of this packet are cleared: refusal 2.
 const DAMAGED: u8 = 45;

@@ -9,7 +9,7 @@ use lib.Dec.{ltb, eqb}
 use borrow.Author.Tests.{ltb-true, ltb-false}
 use Rattle.rtp.specs.Sizes.{rowWidth}
 use Rattle.rtp.specs.Ranges.{maxChannels, noRedundancy, inRange}
-use Rattle.rtp.specs.Redundancy.{before}
+use Rattle.rtp.specs.Time.{difference}
 use Rattle.rtp.specs.declared.settings.Settings.{Settings}
 use Rattle.rtp.specs.declared.refusal.Refusal.{Refusal}
 use Rattle.rtp.specs.declared.refusal.Refusal.the-variants.{Unwritable}
@@ -21,7 +21,7 @@ use Rattle.encoder.proofs.WritingLaws.{in-range-some, numbers-encoded, measured
 use Rattle.sender.specs.Parts.{maxOffset, maxBlock, Part, Parts, noParts, partsOf, primaryPart, prependPart, redundantPart, parts}
 use Rattle.sender.specs.Packets.{blockHeaderBytes, headersBytes, blocksBytes}
 use Rattle.sender.specs.Room.{Counted, offsetOf, redundantNumbers, addNumbers, listsNumbers, listsHeaders, HeadersFit, listBytes, listsPayloads}
-use Rattle.sender.proofs.RangeLaws.{ranged}
+use Rattle.rtp.proofs.RangeLaws.{ranged}
 use Rattle.sender.proofs.WordLaws.{rows-take, rows-drop, first-fits, counted-rest, inside-first, inside-rest, whole-first}
 use Rattle.sender.proofs.ListsLaws.{number-some, lists-one, lists-more, redundant-none, redundant-long, redundant-far, redundant-all, add-none, add-rest, add-both, headers-one, headers-more, payloads-one, payloads-more}
 

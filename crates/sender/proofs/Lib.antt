@@ -1,4 +1,3 @@
-pub mod RangeLaws
 pub mod WordLaws
 pub mod ListsLaws
 pub mod PutLaws

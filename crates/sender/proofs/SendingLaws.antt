@@ -19,7 +19,7 @@ use Rattle.sender.specs.Parts.{maxRedundant, total, primaryTime, Part, P
 use Rattle.sender.specs.Packets.{Heading, headerBytes, headersBytes, blocksBytes, bodyBytes, packetType, redundancyMissing, withinPacket, assembledFrom, countsFit, assembled, sending}
 use Rattle.sender.specs.Room.{Counted, listsNumbers, withinNumbers, packetNumbers, listsHeaders, listsPayloads, headersSize, PayloadsRoom, BlocksRoom, BytesRoom, PacketRoom}
 use Rattle.sender.proofs.ListsLaws.{number-some, length-headers}
-use Rattle.sender.proofs.RangeLaws.{ranged}
+use Rattle.rtp.proofs.RangeLaws.{ranged}
 use Rattle.sender.proofs.AgreeLaws.{none-numbers, bytes-numbers, partsSize, Agrees, agrees}
 
 -- How many bytes

@@ -4,7 +4,7 @@ use mathlib.Core.List.{List, [], _∷_, _++_}
 use mathlib.Core.Bool.{Bool, true, false, cond}
 use lib.ListN.{length, take, drop}
 use lib.Dec.{ltb}
-use Rattle.rtp.specs.Redundancy.{before}
+use Rattle.rtp.specs.Time.{difference}
 use Rattle.rtp.specs.declared.settings.Settings.{Settings}
 use Rattle.payload.specs.Rows.{Row}
 use Rattle.encoder.specs.Writings.{Encoded, noBytes, bytesOf, encoded}
@@ -60,4 +60,4 @@ unfoldable pub parts : Settings → List ℕ → ℕ → List ℕ → List Row �
 parts st bytes time [] rs = noParts
 parts st bytes time (n ∷ []) rs = primaryPart (encoded st bytes rs)
 parts st bytes time (n ∷ m ∷ ns) rs =
-    redundantPart (before time (firstTime (take n rs))) (encoded st bytes (take n rs)) (parts st bytes time (m ∷ ns) (drop n rs))
+    redundantPart (difference time (firstTime (take n rs))) (encoded st bytes (take n rs)) (parts st bytes time (m ∷ ns) (drop n rs))

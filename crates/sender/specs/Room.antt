@@ -7,7 +7,7 @@ use lib.ListN.{length, take, drop}
 use lib.Dec.{ltb, eqb}
 use Rattle.rtp.specs.Sizes.{minPacket, maxPacket, rowWidth}
 use Rattle.rtp.specs.Ranges.{inRange, noRedundancy}
-use Rattle.rtp.specs.Redundancy.{before}
+use Rattle.rtp.specs.Time.{difference}
 use Rattle.rtp.specs.declared.settings.Settings.{Settings}
 use Rattle.rtp.specs.declared.refusal.Refusal.the-variants.{Unwritable}
 use Rattle.encoder.specs.Lists.{rowsIn, outside, firstTime}
@@ -27,7 +27,7 @@ Counted counts ws = length ws ≡ rowWidth * total counts
 
 -- how far before `time` the list stands
 abbrev pub offsetOf : ℕ → List ℕ → ℕ
-offsetOf time ws = before time (firstTime (rowsIn ws))
+offsetOf time ws = difference time (firstTime (rowsIn ws))
 
 -- the bytes that a redundant list takes, its block header too
 unfoldable pub redundantNumbers : Settings → ℕ → List ℕ → Numbers

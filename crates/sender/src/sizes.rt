@@ -1,11 +1,11 @@
 // The frame lists of a packet, which lie one after another in a word area: their words, times and sizes.
 use encoder::writing;
 use encoder::writing::Written;
-use payload::contents::MAX_ROWS;
-use payload::rows::ROW_WIDTH;
-use rtp::redundancy;
 use rtp::refusal::Refusal;
 use rtp::settings::Settings;
+use rtp::sizes::MAX_ROWS;
+use rtp::sizes::ROW_WIDTH;
+use rtp::time;
 ghost use mathlib.Core.Path.{_≡_};
 ghost use Prim.Native.Nat.{_+_, _*_, _^_, _≤_, _<_};
 ghost use lib.ListN.{length, getD};
@@ -77,7 +77,7 @@ fn first_time(rows: &[u32]) -> u32
 pub(crate) fn offset_of(time: u32, rows: &[u32]) -> u32
     ensures { λ r. ⌜ r ≡ offsetOf time (now (rows .entry)) ⌝ }
 {
-    redundancy::block_time(time, first_time(rows))
+    time::difference(time, first_time(rows))
 }
 
 // The time of the primary list, the last.

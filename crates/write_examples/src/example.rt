@@ -1,10 +1,14 @@
-// Lists of frames written and printed. Their bytes are an area of 512 bytes, each its own place modulo 251.
+// Lists of frames written and printed.
 use encoder::writing;
 use encoder::writing::Written;
 use packet::reading;
 use packet::reading::Reading;
+use payload::rows;
 use rtp::refusal;
 use rtp::settings::Settings;
+use rtp::sizes::MAX_PACKET;
+use rtp::sizes::MAX_ROWS;
+use rtp::sizes::ROW_AREA;
 use sender::packets;
 
 pub(crate) fn agreed(format: u8, channels: u8) -> Settings {
@@ -21,26 +25,29 @@ fn print(text: &[u8], value: u32) {
     io::print_decimal(1, value as u64);
 }
 
-fn zeros() -> [u8; 512] {
-    [0; 512]
+// The frames' bytes: each its own place modulo 251.
+const FRAME_BYTES: usize = 512;
+
+fn zeros() -> [u8; FRAME_BYTES] {
+    [0; FRAME_BYTES]
 }
 
-fn sound() -> [u8; 512] {
+fn sound() -> [u8; FRAME_BYTES] {
     let mut bytes = zeros();
     let mut i: usize = 0;
-    while i < 512 {
+    while i < FRAME_BYTES {
         bytes[i] = (i % 251) as u8;
         i += 1;
     }
     bytes
 }
 
-fn area() -> [u8; 2048] {
-    [0; 2048]
+fn area() -> [u8; MAX_PACKET] {
+    [0; MAX_PACKET]
 }
 
-fn row_area() -> [u32; 512] {
-    [0; 512]
+fn row_area() -> [u32; ROW_AREA] {
+    [0; ROW_AREA]
 }
 
 fn print_byte(x: u8) {
@@ -98,11 +105,12 @@ fn print_first(start: u32, packet: &[u8]) {
 
 // A row read: its time, class, channel, start and length, and its first byte.
 fn print_row(rows: &[u32], i: usize, packet: &[u8]) {
-    if i < 128 {
+    if i < MAX_ROWS {
         if 4 * i + 3 < rows.len() {
+            let tag = rows[4 * i + 1];
             print(b"row ", rows[4 * i]);
-            print(b" ", rows[4 * i + 1] / 256);
-            print(b" ", rows[4 * i + 1] % 256);
+            print(b" ", rows::tag_class(tag));
+            print(b" ", rows::tag_channel(tag));
             print(b" ", rows[4 * i + 2]);
             print(b" ", rows[4 * i + 3]);
             print_first(rows[4 * i + 2], packet);

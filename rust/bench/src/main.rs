@@ -5,6 +5,7 @@
 //! profile `measured`: bench.sh does.
 
 use bench::plain;
+use reference::{step_ticks, DRAW_AREA, G719_STEP, HEADER_BYTES, MAX_PACKET, ROW_AREA, SLOTS, SLOT_BYTES, STORE_BYTES};
 use std::hint::black_box;
 use std::time::{Duration, Instant};
 
@@ -13,6 +14,8 @@ const SAMPLE: Duration = Duration::from_micros(400);
 const PLAIN: u8 = 97;
 const REDUNDANCY: u8 = 121;
 const LENGTH: usize = 160;
+/// frames that the rows point to
+const FRAMES: usize = 12;
 
 /// Who does the work: one round of it, answering how many operations it made.
 struct Contender<'a> {
@@ -71,23 +74,24 @@ fn settings(format: u8, channels: u8) -> reference::Settings {
 
 #[cfg(any(feature = "read", feature = "write", feature = "buffer"))]
 fn given(s: reference::Settings) -> heolstorpit::Settings {
-    heolstorpit::Settings { format: s.format, channels: s.channels, payload_type: s.payload_type, redundancy_type: s.redundancy_type }
+    let reference::Settings { format, channels, payload_type, redundancy_type } = s;
+    heolstorpit::Settings { format: format.into(), channels, payload_type, redundancy_type }
 }
 
 /// Rows of `blocks` frame-blocks of `length` bytes, from a time, in steps; they point into `bytes`.
 fn list(s: reference::Settings, time: u32, blocks: usize, length: u32, steps: u32) -> Vec<u32> {
-    let ticks = if s.format == 3 { 160 } else { 960 };
-    let row = |block: usize, channel: u32| [time + ticks * steps * block as u32, 256 + channel, 320 * (block as u32 % 12), length];
+    let ticks = step_ticks(s.format) * steps;
+    let row = |block: usize, channel: u32| [time + ticks * block as u32, 256 + channel, (SLOT_BYTES * (block % FRAMES)) as u32, length];
     (0..blocks).flat_map(|block| (0..s.channels as u32).flat_map(move |channel| row(block, channel))).collect()
 }
 
 fn bytes() -> Vec<u8> {
-    (0..320 * 12).map(|i| (i * 7 % 251) as u8).collect()
+    (0..SLOT_BYTES * FRAMES).map(|i| (i * 7 % 251) as u8).collect()
 }
 
 /// A packet as the reference writes it.
 fn packet(s: reference::Settings, counts: &[u32], rows: &[u32]) -> Vec<u8> {
-    let mut out = vec![0; 2048];
+    let mut out = vec![0; MAX_PACKET];
     let length = reference::write_packet(s, false, 1, 2, counts, rows, &bytes(), &mut out).expect("a packet that can be written");
     out.truncate(length as usize);
     out
@@ -114,12 +118,12 @@ fn reading() {
     head("Reading, a packet", &columns);
     for (title, s, counts, rows) in samples() {
         let packet = packet(s, &counts, &rows);
-        let (mut area, mut area_2) = (vec![0; 512], vec![0; 512]);
+        let (mut area, mut area_2) = (vec![0; ROW_AREA], vec![0; ROW_AREA]);
         #[allow(unused_mut)]
         let mut contenders = Vec::new();
         #[cfg(feature = "read")]
         {
-            let (packet, mut area) = (&packet, vec![0; 512]);
+            let (packet, mut area) = (&packet, vec![0; ROW_AREA]);
             contenders.push(contender(LIBRARY, move || {
                 for _ in 0..64 {
                     heolstorpit::read(given(s), black_box(packet), black_box(&mut area)).unwrap();
@@ -148,12 +152,12 @@ fn writing() {
     head("Writing, a packet", &columns);
     let bytes = bytes();
     for (title, s, counts, rows) in samples() {
-        let (mut out, mut out_2) = (vec![0; 2048], vec![0; 2048]);
+        let (mut out, mut out_2) = (vec![0; MAX_PACKET], vec![0; MAX_PACKET]);
         #[allow(unused_mut)]
         let mut contenders = Vec::new();
         #[cfg(feature = "write")]
         {
-            let (counts, rows, bytes, mut out) = (&counts, &rows, &bytes, vec![0; 2048]);
+            let (counts, rows, bytes, mut out) = (&counts, &rows, &bytes, vec![0; MAX_PACKET]);
             let header = heolstorpit::Header { marker: false, sequence: 1, source: 2 };
             contenders.push(contender(LIBRARY, move || {
                 for _ in 0..64 {
@@ -186,7 +190,11 @@ trait Reorder {
     fn get(&mut self) -> bool;
 }
 
-const STEP: u32 = 960;
+const STEP: u32 = G719_STEP;
+/// where the sound of a packet with one table entry starts
+const SOUND: usize = HEADER_BYTES + 2;
+/// packets of one frame each that fill the buffer
+const FULL: u32 = SLOTS as u32;
 
 #[cfg(feature = "buffer")]
 struct Proved {
@@ -241,14 +249,14 @@ struct Copies {
 impl Reorder for Copies {
     fn put(&mut self, n: u32, packet: &mut [u8]) {
         for i in 0..self.per {
-            let slot = 320 * ((n * self.per + i) % 192) as usize;
-            let start = 14 + LENGTH * i as usize;
+            let slot = SLOT_BYTES * ((n * self.per + i) % FULL) as usize;
+            let start = SOUND + LENGTH * i as usize;
             black_box(&mut self.store)[slot..slot + LENGTH].copy_from_slice(&packet[start..start + LENGTH]);
         }
     }
 
     fn get(&mut self) -> bool {
-        let slot = 320 * (self.drawn % 192) as usize;
+        let slot = SLOT_BYTES * (self.drawn % FULL) as usize;
         self.drawn = self.drawn.wrapping_add(1);
         black_box(&mut self.area)[..LENGTH].copy_from_slice(&self.store[slot..slot + LENGTH]);
         true
@@ -258,7 +266,7 @@ impl Reorder for Copies {
 #[cfg(any(feature = "libre", feature = "speexdsp"))]
 struct InC {
     peer: bench::peers::Peer,
-    area: [u8; 320],
+    area: [u8; DRAW_AREA],
     per: u32,
 }
 
@@ -267,7 +275,7 @@ impl Reorder for InC {
     fn put(&mut self, n: u32, packet: &mut [u8]) {
         for i in 0..self.per {
             let number = n * self.per + i;
-            let start = 14 + LENGTH * i as usize;
+            let start = SOUND + LENGTH * i as usize;
             self.peer.put(number as u16, number.wrapping_mul(STEP), &packet[start..start + LENGTH]);
         }
     }
@@ -291,7 +299,7 @@ enum Way {
 /// The packets of each eight in a mixed order.
 const MIXED: [u32; 8] = [3, 0, 5, 1, 7, 2, 6, 4];
 
-/// One round: 192 packets or so; `next` is the number of the next packet. Answers how many frames came out.
+/// One round: as many packets as fill the buffer, or so; `next` is the number of the next packet. Answers how many frames came out.
 fn round(way: Way, per: u32, next: &mut u32, packet: &mut [u8], peer: &mut dyn Reorder) -> usize {
     let mut out = 0;
     match way {
@@ -302,7 +310,7 @@ fn round(way: Way, per: u32, next: &mut u32, packet: &mut [u8], peer: &mut dyn R
                 }
                 *next = held;
             }
-            for _ in 0..24 {
+            for _ in 0..FULL as usize / MIXED.len() {
                 for place in MIXED {
                     peer.put(*next + place, packet);
                     for _ in 0..per {
@@ -313,7 +321,7 @@ fn round(way: Way, per: u32, next: &mut u32, packet: &mut [u8], peer: &mut dyn R
             }
         }
         Way::Bursts { packets } => {
-            for _ in 0..(192 / packets).max(1) {
+            for _ in 0..(FULL / packets).max(1) {
                 for i in 0..packets {
                     let place = if packets % 8 == 0 { i / 8 * 8 + MIXED[i as usize % 8] } else { i };
                     peer.put(*next + place, packet);
@@ -352,10 +360,10 @@ fn gathering() {
         ("singly, 64 held", Way::Singly { held: 64 }, 1),
         ("singly, 176 held", Way::Singly { held: 176 }, 1),
         ("bursts of 8 packets", Way::Bursts { packets: 8 }, 1),
-        ("bursts of 192 packets", Way::Bursts { packets: 192 }, 1),
+        ("bursts of 192 packets", Way::Bursts { packets: FULL }, 1),
         ("bursts of 1 packet of 12 frames", Way::Bursts { packets: 1 }, 12),
         ("bursts of 16 packets of 12 frames", Way::Bursts { packets: 16 }, 12),
-        ("192 packets, the last first", Way::Reversed { packets: 192 }, 1),
+        ("192 packets, the last first", Way::Reversed { packets: FULL }, 1),
     ];
     let mut lost = Vec::new();
     for (title, way, per) in ways {
@@ -367,25 +375,31 @@ fn gathering() {
             LIBRARY,
             Box::new(Proved {
                 buffer: heolstorpit::Buffer::new(given(s)).unwrap(),
-                rows: vec![0; 512],
-                store: vec![0; 61440],
-                area: vec![0; 320],
+                rows: vec![0; ROW_AREA],
+                store: vec![0; STORE_BYTES],
+                area: vec![0; DRAW_AREA],
                 per,
             }),
         ));
         peers.push((
             RUST,
-            Box::new(Plain { take: plain::Take::new(s).unwrap(), rows: vec![0; 512], store: vec![0; 61440], area: vec![0; 320], per }),
+            Box::new(Plain {
+                take: plain::Take::new(s).unwrap(),
+                rows: vec![0; ROW_AREA],
+                store: vec![0; STORE_BYTES],
+                area: vec![0; DRAW_AREA],
+                per,
+            }),
         ));
         #[cfg(feature = "libre")]
-        peers.push(("libre jbuf", Box::new(InC { peer: bench::peers::Peer::new(bench::peers::LIBRE), area: [0; 320], per })));
+        peers.push(("libre jbuf", Box::new(InC { peer: bench::peers::Peer::new(bench::peers::LIBRE), area: [0; DRAW_AREA], per })));
         #[cfg(feature = "speexdsp")]
-        peers.push(("speexdsp", Box::new(InC { peer: bench::peers::Peer::new(bench::peers::SPEEXDSP), area: [0; 320], per })));
-        peers.push(("two memcpys", Box::new(Copies { store: vec![0; 61440], area: vec![0; 320], per, drawn: 0 })));
+        peers.push(("speexdsp", Box::new(InC { peer: bench::peers::Peer::new(bench::peers::SPEEXDSP), area: [0; DRAW_AREA], per })));
+        peers.push(("two memcpys", Box::new(Copies { store: vec![0; STORE_BYTES], area: vec![0; DRAW_AREA], per, drawn: 0 })));
 
         let frames = match way {
-            Way::Singly { .. } => 192,
-            Way::Bursts { packets } => (192 / packets).max(1) * packets,
+            Way::Singly { .. } => FULL,
+            Way::Bursts { packets } => (FULL / packets).max(1) * packets,
             Way::Reversed { packets } => packets,
         } * per;
         let counts: Vec<(&'static str, std::rc::Rc<std::cell::Cell<(u64, u64)>>)> =

@@ -1,5 +1,6 @@
 //! The jitter buffers of libre and speexdsp, through peers.c.
 
+use reference::DRAW_AREA;
 use std::ffi::c_void;
 
 #[allow(dead_code)]
@@ -52,7 +53,7 @@ impl Peer {
     }
 
     /// Gets the next frame, if there is one.
-    pub fn get(&mut self, area: &mut [u8; 320]) -> bool {
+    pub fn get(&mut self, area: &mut [u8; DRAW_AREA]) -> bool {
         unsafe { (self.calls.get)(self.state, area.as_mut_ptr()) != 0 }
     }
 }

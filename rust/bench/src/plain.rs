@@ -56,7 +56,7 @@ fn walk(s: Settings, p: &[u8], before: usize) -> Result<Table, u32> {
             return Err(TOO_MANY_ROWS);
         }
         bytes += blocks * channels * length;
-        let more = p[at] & 128 != 0;
+        let more = p[at] & F_BIT != 0;
         at += size;
         if !more {
             break;
@@ -100,7 +100,7 @@ fn put_rows(s: Settings, p: &[u8], place: usize, mut time: u32, table: &Table, o
                 start += length;
             }
         }
-        let more = p[at] & 128 != 0;
+        let more = p[at] & F_BIT != 0;
         at += size;
         if !more {
             return;
@@ -173,7 +173,7 @@ fn read_redundancy(s: Settings, packet: &[u8], start: usize, end: usize, timesta
         if at >= end {
             return Err(TABLE_PAST_END);
         }
-        if packet[at] & 128 == 0 {
+        if packet[at] & F_BIT == 0 {
             at += 1;
             break;
         }
@@ -191,7 +191,7 @@ fn read_redundancy(s: Settings, packet: &[u8], start: usize, end: usize, timesta
     for write in [false, true] {
         let (mut header, mut block, mut rows) = (start, data, 0);
         loop {
-            let last = packet[header] & 128 == 0;
+            let last = packet[header] & F_BIT == 0;
             let head = if last { (packet[header] as u32) << 24 } else { word(&packet[header..]) };
             let block_end = if last { end } else { block + (head & 1023) as usize };
             if (head >> 24 & 127) as u8 == s.payload_type && block_end > block {
@@ -284,10 +284,10 @@ fn put_payload(s: Settings, words: &[u32], bytes: &[u8], out: &mut [u8]) {
     let mut at = 0;
     if s.format == 3 {
         for row in words.chunks_exact(width) {
-            out[at] = 128 | code(3, row[1] / 256, row[3]).unwrap_or(0) << 4;
+            out[at] = F_BIT | code(3, row[1] / 256, row[3]).unwrap_or(0) << 4;
             at += 1;
         }
-        out[at - 1] &= 127;
+        out[at - 1] &= !F_BIT;
     } else {
         let mut from = 0;
         while from < words.len() {
@@ -297,7 +297,7 @@ fn put_payload(s: Settings, words: &[u32], bytes: &[u8], out: &mut [u8]) {
                 to += width;
             }
             let blocks = (to - from) / width;
-            out[at] = if to < words.len() { 128 } else { 0 } | code(s.format, words[from + 1] / 256, length).unwrap_or(0) << 2;
+            out[at] = if to < words.len() { F_BIT } else { 0 } | code(s.format, words[from + 1] / 256, length).unwrap_or(0) << 2;
             out[at + 1] = blocks as u8;
             at += 2;
             if s.format == 2 {
@@ -385,7 +385,7 @@ pub fn write_packet(
         return Err(AREA_TOO_SHORT);
     }
     let payload_type = if redundant > 0 { s.redundancy_type } else { s.payload_type };
-    out[0] = 128;
+    out[0] = VERSION_2;
     out[1] = payload_type | (marker as u8) << 7;
     out[2..4].copy_from_slice(&sequence.to_be_bytes());
     out[4..8].copy_from_slice(&timestamp.to_be_bytes());
@@ -394,7 +394,7 @@ pub fn write_packet(
     if redundant > 0 {
         for list in &lists[..redundant] {
             let offset = timestamp.wrapping_sub(words[list.0]);
-            let header = (128 | s.payload_type as u32) << 24 | offset << 10 | list.2 as u32;
+            let header = ((F_BIT | s.payload_type) as u32) << 24 | offset << 10 | list.2 as u32;
             out[at..at + 4].copy_from_slice(&header.to_be_bytes());
             at += 4;
         }

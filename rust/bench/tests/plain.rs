@@ -2,7 +2,7 @@
 
 use bench::plain;
 use cases::{Random, Shape};
-use reference::{DRAW_AREA, ROW_AREA, STORE_BYTES};
+use reference::{DRAW_AREA, MAX_PACKET, MAX_PAYLOAD, MAX_ROWS, ROW_AREA, ROW_WORDS, STORE_BYTES};
 
 #[test]
 fn reading() {
@@ -10,8 +10,8 @@ fn reading() {
     let (mut one, mut two) = (vec![0; ROW_AREA], vec![0; ROW_AREA]);
     for _ in 0..200_000 {
         let s = if r.percent(2) { cases::bad_settings(&mut r) } else { cases::settings(&mut r) };
-        let bytes = r.pick(&[100, 400, 2036]);
-        let mut packet = cases::packet(&mut r, s, Shape { bytes, rows: 130, alike: false });
+        let bytes = r.pick(&[100, 400, MAX_PAYLOAD]);
+        let mut packet = cases::packet(&mut r, s, Shape { bytes, rows: MAX_ROWS + 2, alike: false });
         if r.percent(50) {
             cases::damage(&mut r, &mut packet);
         }
@@ -31,12 +31,12 @@ fn writing() {
             4 => cases::counts_of(&mut r, &mut counts),
             _ => {}
         }
-        let length = if r.percent(50) { 2048 } else { r.below(2048) };
+        let length = if r.percent(50) { MAX_PACKET } else { r.below(MAX_PACKET) };
         let (mut one, mut two) = (vec![0; length], vec![0; length]);
         let mine = plain::write_packet(s, true, 1, 2, &counts, &list.words, &list.bytes, &mut one);
         let theirs = reference::write_packet(s, true, 1, 2, &counts, &list.words, &list.bytes, &mut two);
         assert_eq!((mine, &one), (theirs, &two), "{s:?} {counts:?} {list:?}");
-        let end = list.words.len().min(4 * counts.first().map_or(0, |count| (*count).min(1000) as usize));
+        let end = list.words.len().min(ROW_WORDS * counts.first().map_or(0, |count| (*count).min(1000) as usize));
         let mine = plain::write_payload(s, &list.words[..end], &list.bytes, &mut one);
         let theirs = reference::write_payload(s, &list.words[..end], &list.bytes, &mut two);
         assert_eq!((mine, &one), (theirs, &two), "{s:?} {list:?}");
@@ -54,7 +54,7 @@ fn gathering() {
         let mut take = plain::Take::new(s).unwrap();
         let mut buffer = reference::fresh(s).0;
         let base = if r.percent(50) { 0 } else { r.word() };
-        let rows = r.pick(&[1, 8, 128]);
+        let rows = r.pick(&[1, 8, MAX_ROWS]);
         for i in 0..200u32 {
             if r.percent(65) {
                 let mut time = base.wrapping_add(960 * (i / 2 + r.below(40) as u32));

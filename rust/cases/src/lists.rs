@@ -1,7 +1,7 @@
 //! Lists of rows to write, with the bytes they point into.
 
 use crate::{Random, Shape};
-use reference::{Row, Settings, ROW_AREA, ROW_WORDS};
+use reference::{step_ticks, Row, Settings, MAX_BLOCK, MAX_OFFSET, MAX_PAYLOAD, MAX_REDUNDANT, MAX_ROWS, ROW_AREA, ROW_WORDS, SLOT_BYTES};
 
 /// Words of rows, and the byte area that they point into.
 #[derive(Clone, Debug, Default)]
@@ -36,9 +36,9 @@ pub fn list_from_packet(r: &mut Random, s: Settings, shape: Shape, time: u32) ->
 /// `aim` is the number of bytes that its payload is to come close to, where that can be had with rows of no data.
 pub fn made_list(r: &mut Random, s: Settings, time: u32, most_rows: usize, aim: Option<usize>) -> List {
     let channels = s.channels as usize;
-    let size = 320 + r.below(700);
+    let size = SLOT_BYTES + r.below(700);
     let bytes = r.bytes(size);
-    let step = if s.format == 3 { 160 } else { 960 };
+    let step = step_ticks(s.format);
     let mut words = Vec::new();
     let mut now = time;
     let mut run: Option<usize> = None;
@@ -119,11 +119,11 @@ pub fn damage_list(r: &mut Random, s: Settings, list: &mut List) {
         return;
     }
     let row = ROW_WORDS * r.below(rows);
-    let step = if s.format == 3 { 160u32 } else { 960 };
+    let step = step_ticks(s.format);
     match r.below(14) {
         0 => list.words[row] = r.word(),
         1 => {
-            let change = r.pick(&[1, u32::MAX, step, step.wrapping_neg(), 15 * step, 16 * step, 17 * step, 1 << 31, 16384]);
+            let change = r.pick(&[1, u32::MAX, step, step.wrapping_neg(), 15 * step, 16 * step, 17 * step, 1 << 31, MAX_OFFSET + 1]);
             // this row only, or all from here
             let end = if r.percent(50) { row + ROW_WORDS } else { list.words.len() };
             for place in (row..end).step_by(ROW_WORDS) {
@@ -167,16 +167,16 @@ pub fn damage_list(r: &mut Random, s: Settings, list: &mut List) {
 
 /// Up to four redundant lists and a primary one, in one word area, all pointing into one byte area.
 pub fn lists_for_packet(r: &mut Random, s: Settings) -> (List, Vec<u32>) {
-    let redundant = if r.percent(25) { 0 } else { r.within(1, 4) };
+    let redundant = if r.percent(25) { 0 } else { r.within(1, MAX_REDUNDANT) };
     let time = if r.percent(50) { r.word() } else { (r.below(40_000) as u32).wrapping_sub(20_000) };
     let mut whole = List::default();
     let mut counts = Vec::new();
-    let most = if r.percent(20) { 128 } else { r.within(1, 12) };
+    let most = if r.percent(20) { MAX_ROWS } else { r.within(1, 12) };
     for i in 0..=redundant {
         let offset = match r.below(12) {
             _ if i == redundant => 0,
-            0 => 16383,
-            1 => 16384,
+            0 => MAX_OFFSET,
+            1 => MAX_OFFSET + 1,
             2 => r.word(),
             3 => 0,
             4 => (r.below(2000) as u32).wrapping_neg(),
@@ -184,14 +184,14 @@ pub fn lists_for_packet(r: &mut Random, s: Settings) -> (List, Vec<u32>) {
         };
         let at = time.wrapping_sub(offset);
         let aim = match r.below(12) {
-            0 => Some(1018 + r.below(9)),
-            1 => Some(2036 / (redundant + 1)),
+            0 => Some(MAX_BLOCK - 5 + r.below(9)),
+            1 => Some(MAX_PAYLOAD / (redundant + 1)),
             _ => None,
         };
         let list = if r.percent(30) {
             list_from_packet(r, s, Shape { bytes: 600, rows: most, alike: false }, at)
         } else {
-            made_list(r, s, at, if aim.is_some() { 128 } else { most }, aim)
+            made_list(r, s, at, if aim.is_some() { MAX_ROWS } else { most }, aim)
         };
         let base = whole.bytes.len() as u32;
         whole.bytes.extend_from_slice(&list.bytes);
@@ -209,7 +209,7 @@ pub fn counts_of(r: &mut Random, counts: &mut Vec<u32>) {
     match r.below(8) {
         0 => counts.clear(),
         1 => counts.insert(place, 0),
-        2 => counts[place] = counts[place].wrapping_add(r.pick(&[1, u32::MAX, 128])),
+        2 => counts[place] = counts[place].wrapping_add(r.pick(&[1, u32::MAX, MAX_ROWS as u32])),
         3 => counts[place] = r.pick(&[0, u32::MAX, 1 << 31]),
         4 => {
             while counts.len() < 6 {

@@ -1,7 +1,7 @@
 //! Packets: built by the formats' rules with every field at random, then damaged.
 
 use crate::Random;
-use reference::Settings;
+use reference::{Settings, F_BIT, MAX_BLOCK, MAX_OFFSET, MAX_PACKET, MAX_ROWS, M_BIT, NO_REDUNDANCY, VERSION_2};
 
 /// Settings in range.
 pub fn settings(r: &mut Random) -> Settings {
@@ -9,7 +9,7 @@ pub fn settings(r: &mut Random) -> Settings {
     let channels = if format == 3 { 1 } else { r.within(1, 2) as u8 };
     let payload_type = if r.percent(10) { r.pick(&[0, 127]) } else { r.below(128) as u8 };
     let redundancy_type = loop {
-        let t = if r.percent(30) { 128 } else { r.below(128) as u8 };
+        let t = if r.percent(30) { NO_REDUNDANCY } else { r.below(128) as u8 };
         if t != payload_type {
             break t;
         }
@@ -23,7 +23,7 @@ pub fn other_settings(r: &mut Random, s: Settings) -> Settings {
     match r.below(4) {
         0 => Settings { format: other.format, channels: s.channels.min(if other.format == 3 { 1 } else { 2 }), ..s },
         1 => Settings { channels: if s.format == 3 { 1 } else { 3 - s.channels }, ..s },
-        2 => Settings { payload_type: s.redundancy_type & 127, redundancy_type: 128, ..s },
+        2 => Settings { payload_type: s.redundancy_type & 127, redundancy_type: NO_REDUNDANCY, ..s },
         _ => other,
     }
 }
@@ -88,7 +88,7 @@ pub fn payload(r: &mut Random, s: Settings, shape: Shape) -> Vec<u8> {
     let most = match r.below(4) {
         0 => 1,
         1 => r.within(1, 4),
-        _ => 128,
+        _ => MAX_ROWS,
     };
     while entries.len() < most {
         let (code, length) = code(r, s, shape.alike);
@@ -115,7 +115,7 @@ pub fn payload(r: &mut Random, s: Settings, shape: Shape) -> Vec<u8> {
     let mut payload = Vec::with_capacity(bytes);
     let mut sound = 0;
     for (i, entry) in entries.iter().enumerate() {
-        let another = if i + 1 < entries.len() { 128 } else { 0 };
+        let another = if i + 1 < entries.len() { F_BIT } else { 0 };
         if s.format == 3 {
             payload.push(another | entry.code << 4 | r.byte() & 15);
         } else {
@@ -156,8 +156,8 @@ pub fn packet(r: &mut Random, s: Settings, shape: Shape) -> Vec<u8> {
 
 /// A packet with all kinds of headers, mostly valid, at this time.
 pub fn packet_at(r: &mut Random, s: Settings, shape: Shape, time: u32) -> Vec<u8> {
-    let plain = s.redundancy_type == 128 || r.percent(50);
-    let mut first = 0x80;
+    let plain = s.redundancy_type == NO_REDUNDANCY || r.percent(50);
+    let mut first = VERSION_2;
     let mut middle = Vec::new();
     if r.percent(15) {
         let sources = r.within(1, 15);
@@ -179,7 +179,7 @@ pub fn packet_at(r: &mut Random, s: Settings, shape: Shape, time: u32) -> Vec<u8
     if padding > 0 {
         first |= 0x20;
     }
-    let mut packet = vec![first, if plain { s.payload_type } else { s.redundancy_type } | r.byte() & 128];
+    let mut packet = vec![first, if plain { s.payload_type } else { s.redundancy_type } | r.byte() & M_BIT];
     packet.extend(r.bytes(2));
     packet.extend(time.to_be_bytes());
     packet.extend(r.bytes(4));
@@ -206,16 +206,16 @@ fn redundancy(r: &mut Random, s: Settings, shape: Shape, packet: &mut Vec<u8>) {
     let mut data = Vec::new();
     for _ in 0..blocks {
         let block_type = block_type(r, s);
-        let part = Shape { bytes: (shape.bytes / (blocks + 1)).min(1023), rows: (shape.rows / (blocks + 1)).max(1), ..shape };
+        let part = Shape { bytes: (shape.bytes / (blocks + 1)).min(MAX_BLOCK), rows: (shape.rows / (blocks + 1)).max(1), ..shape };
         let bytes = block(r, s, part, block_type);
-        let length = if bytes.len() > 1023 { 0 } else { bytes.len() };
+        let length = if bytes.len() > MAX_BLOCK { 0 } else { bytes.len() };
         let offset = match r.below(6) {
             0 => 0,
-            1 => 16383,
-            2 => r.below(16384),
+            1 => MAX_OFFSET as usize,
+            2 => r.below(MAX_OFFSET as usize + 1),
             _ => 160 * 6 * r.below(17),
         };
-        packet.push(128 | block_type);
+        packet.push(F_BIT | block_type);
         packet.extend(((offset << 10 | length) as u32).to_be_bytes().into_iter().skip(1));
         data.extend_from_slice(&bytes[..length]);
     }
@@ -251,7 +251,7 @@ pub fn damage(r: &mut Random, packet: &mut Vec<u8>) {
         packet.push(r.byte());
         return;
     }
-    let front = packet.len().min(if r.percent(70) { 24 } else { 2048 });
+    let front = packet.len().min(if r.percent(70) { 24 } else { MAX_PACKET });
     match r.below(12) {
         0..=3 => {
             for _ in 0..r.within(1, 3) {
@@ -273,7 +273,7 @@ pub fn damage(r: &mut Random, packet: &mut Vec<u8>) {
             packet.truncate(packet.len() - less);
         }
         8 => {
-            let more = if r.percent(80) { r.within(1, 4) } else { r.below(2100) };
+            let more = if r.percent(80) { r.within(1, 4) } else { r.below(MAX_PACKET + 52) };
             packet.extend(r.bytes(more));
         }
         9 => {

@@ -37,8 +37,8 @@ pub fn spoil(r: &mut Random, b: &mut Buffer, way: usize) {
         // slots distinct and exactly those marked
         5 => b.slots[some] = b.slots[other],
         6 => {
-            b.slots[some] =
-                r.pick(&[191, 192, 193, 255, 256, u32::MAX, 1 << 31, b.slots[some].wrapping_add(64), b.slots[some].wrapping_add(256)])
+            let (most, slot) = (SLOTS as u32, b.slots[some]);
+            b.slots[some] = r.pick(&[most - 1, most, most + 1, 255, 256, u32::MAX, 1 << 31, slot.wrapping_add(64), slot.wrapping_add(256)])
         }
         7 => b.slots.swap(some, other),
         8 => b.occupied[r.below(3)] ^= 1 << r.below(64),

@@ -9,7 +9,7 @@ mod convert;
 use cases::{Random, Shape};
 use convert::{settings, to_raw};
 use heolstorpit::raw;
-use reference::{DRAW_AREA, ROW_AREA, STORE_BYTES};
+use reference::{DRAW_AREA, MAX_PACKET, MAX_PAYLOAD, MAX_ROWS, ROW_AREA, ROW_WORDS, STORE_BYTES};
 
 fn main() {
     let cases: usize = match std::env::args().nth(1) {
@@ -31,7 +31,7 @@ fn exact<T: Copy>(values: &[T]) -> Box<[T]> {
 }
 
 fn some_packet(r: &mut Random, s: reference::Settings) -> Box<[u8]> {
-    let shape = Shape { bytes: r.pick(&[100, 400, 2036]), rows: 128, alike: r.percent(50) };
+    let shape = Shape { bytes: r.pick(&[100, 400, MAX_PAYLOAD]), rows: MAX_ROWS, alike: r.percent(50) };
     let mut packet = cases::packet(r, s, shape);
     if r.percent(50) {
         cases::damage(r, &mut packet);
@@ -64,7 +64,7 @@ fn write(r: &mut Random, cases: usize) {
             _ => {}
         }
         let (rows, bytes, counts) = (exact(&list.words), exact(&list.bytes), exact(&counts));
-        let length = reference::write_packet(s, true, 1, 2, &counts, &rows, &bytes, &mut [0; 2048]);
+        let length = reference::write_packet(s, true, 1, 2, &counts, &rows, &bytes, &mut [0; MAX_PACKET]);
         let out = match length {
             Ok(length) if r.percent(80) => length as usize,
             Ok(length) => r.below(length as usize),
@@ -75,8 +75,8 @@ fn write(r: &mut Random, cases: usize) {
         let expected = reference::write_packet(s, true, 1, 2, &counts, &rows, &bytes, &mut two);
         assert_eq!((answer.refusal, answer.length, one), (expected.err().unwrap_or(0), expected.unwrap_or(0), two));
 
-        let first = exact(&rows[..rows.len().min(4 * counts.first().map_or(0, |count| (*count).min(1000) as usize))]);
-        let length = reference::write_payload(s, &first, &bytes, &mut [0; 2048]);
+        let first = exact(&rows[..rows.len().min(ROW_WORDS * counts.first().map_or(0, |count| (*count).min(1000) as usize))]);
+        let length = reference::write_payload(s, &first, &bytes, &mut [0; MAX_PACKET]);
         let out = length.map_or(r.below(100), |length| length as usize);
         let (mut one, mut two) = (exact(&vec![7; out]), exact(&vec![7; out]));
         let answer = raw::write_payload(settings(s), &first, &bytes, &mut one);
@@ -101,7 +101,7 @@ fn buffer(r: &mut Random, cases: usize) {
         }
         let state = to_raw(&given);
         if r.percent(65) {
-            let shape = Shape { bytes: 2036, rows: r.pick(&[1, 8, 128]), alike: true };
+            let shape = Shape { bytes: MAX_PAYLOAD, rows: r.pick(&[1, 8, MAX_ROWS]), alike: true };
             let time = (960 * r.below(300) as u32).wrapping_sub(960 * 150);
             let mut packet = cases::packet_at(r, buffer.settings, shape, time);
             if r.percent(10) {

@@ -3,130 +3,80 @@
 //! Safe Rust over the proved library `libheolstorpit.a`. Everything is done in memory that the caller lends: nothing
 //! is allocated and nothing is kept. Each function refuses what it cannot do, says why, and then has changed nothing.
 //!
+//! Frame classes, formats and refusals are enums over the library's numbers. They stay open: a number that has no name here is a value like
+//! any other and keeps its number, so that what a later library adds is neither lost nor taken for something else.
+//!
 //! [`raw`] has the same calls with the answers as C gets them.
+#![deny(unsafe_code)]
+#![warn(missing_docs)]
 
+mod answers;
+mod numbered;
 pub mod raw;
 mod refusal;
+mod rows;
+mod sizes;
 
-pub use raw::Settings;
-#[cfg(any(feature = "read", feature = "write", feature = "buffer"))]
-use refusal::accepted;
+pub use answers::{Frame, Reading, Verdicts};
+pub use numbered::{Class, Format};
 pub use refusal::Refusal;
+pub use rows::Row;
+pub use sizes::*;
 
-/// Bytes of a packet, at most.
-pub const MAX_PACKET: usize = 2048;
-/// Bytes of a payload written alone, at most.
-pub const MAX_PAYLOAD: usize = 2036;
-/// Rows of a packet, at most.
-pub const MAX_ROWS: usize = 128;
-/// Words of a row.
-pub const ROW_WORDS: usize = 4;
-/// Words of a row area that is read into, at least.
-pub const ROW_AREA: usize = MAX_ROWS * ROW_WORDS;
-/// Frames that a buffer holds, at most.
-pub const SLOTS: usize = 192;
-/// Bytes of a slot of the store.
-pub const SLOT_BYTES: usize = 320;
-/// Bytes of a store, at least.
-pub const STORE_BYTES: usize = SLOTS * SLOT_BYTES;
-/// Bytes of the area that a frame is drawn to, at least.
-pub const DRAW_AREA: usize = SLOT_BYTES;
-/// The redundancy type that says: none.
-pub const NO_REDUNDANCY: u8 = 128;
-
-/// What a frame is.
+/// What was agreed with the sender. Settings out of range are refused with [`Refusal::SettingsOutOfRange`] when they are used.
 #[derive(Clone, Copy, Debug, PartialEq, Eq, Hash)]
-pub enum Class {
-    NoData,
-    Sound,
-    /// comfort noise
-    Sid,
+pub struct Settings {
+    /// how the payloads are laid out
+    pub format: Format,
+    /// 1 or 2; for GSM-HR only 1
+    pub channels: u8,
+    /// RTP payload type of the sound, 0 to 127
+    pub payload_type: u8,
+    /// RTP payload type of redundancy payloads (RFC 2198), 0 to 127 and another; or [`NO_REDUNDANCY`]
+    pub redundancy_type: u8,
 }
 
-impl Class {
-    pub fn number(self) -> u32 {
-        self as u32
-    }
-
-    pub fn from_number(number: u32) -> Option<Class> {
-        [Class::NoData, Class::Sound, Class::Sid].get(number as usize).copied()
-    }
-}
-
-/// A frame row: four words of a row area, taken apart.
-#[derive(Clone, Copy, Debug, PartialEq, Eq, Hash)]
-pub struct Row {
-    pub time: u32,
-    pub class: Class,
-    pub channel: u8,
-    /// place of the frame's first byte: in the packet read, or in the bytes that a row to be written points into
-    pub start: u32,
-    pub length: u32,
-}
-
-impl Row {
-    pub fn words(self) -> [u32; ROW_WORDS] {
-        [self.time, 256 * self.class.number() + self.channel as u32, self.start, self.length]
-    }
-
-    /// The row of these words; nothing where the class is none of the three.
-    pub fn from_words(words: [u32; ROW_WORDS]) -> Option<Row> {
-        let class = Class::from_number(words[1] / 256)?;
-        Some(Row { time: words[0], class, channel: (words[1] % 256) as u8, start: words[2], length: words[3] })
-    }
-
-    /// The rows at the front of a row area that reading wrote `count` rows to.
-    pub fn list(area: &[u32], count: u32) -> impl Iterator<Item = Row> + '_ {
-        area.chunks_exact(ROW_WORDS).take(count as usize).filter_map(|words| Row::from_words([words[0], words[1], words[2], words[3]]))
+impl From<raw::Settings> for Settings {
+    #[inline]
+    fn from(raw: raw::Settings) -> Settings {
+        let raw::Settings { format, channels, payload_type, redundancy_type } = raw;
+        Settings { format: Format::from(format), channels, payload_type, redundancy_type }
     }
 }
 
-/// What a packet that was read says of itself.
-#[derive(Clone, Copy, Debug, PartialEq, Eq, Hash)]
-pub struct Reading {
-    /// rows written at the front of the row area
-    pub rows: u32,
-    pub marker: bool,
-    pub sequence: u16,
-    pub timestamp: u32,
-    /// SSRC
-    pub source: u32,
+impl From<Settings> for raw::Settings {
+    #[inline]
+    fn from(settings: Settings) -> raw::Settings {
+        let Settings { format, channels, payload_type, redundancy_type } = settings;
+        raw::Settings { format: format.number(), channels, payload_type, redundancy_type }
+    }
 }
 
 /// Reads a packet into the row area, which has at least [`ROW_AREA`] words. Words after the last row stay.
 #[cfg(feature = "read")]
 pub fn read(settings: Settings, packet: &[u8], rows: &mut [u32]) -> Result<Reading, Refusal> {
-    let answer = raw::read(settings, packet, rows);
-    accepted(
-        answer.refusal,
-        Reading {
-            rows: answer.rows,
-            marker: answer.marker != 0,
-            sequence: answer.sequence as u16,
-            timestamp: answer.timestamp,
-            source: answer.source,
-        },
-    )
+    raw::read(settings.into(), packet, rows).result()
 }
 
 /// Writes one payload for the rows, which point into `bytes`, at the front of `out`; answers its length.
 #[cfg(feature = "write")]
 pub fn write_payload(settings: Settings, rows: &[u32], bytes: &[u8], out: &mut [u8]) -> Result<usize, Refusal> {
-    let answer = raw::write_payload(settings, rows, bytes, out);
-    accepted(answer.refusal, answer.length as usize)
+    raw::write_payload(settings.into(), rows, bytes, out).result()
 }
 
 /// What a packet to be written says of itself beside its rows.
 #[derive(Clone, Copy, Debug, PartialEq, Eq, Hash)]
 pub struct Header {
+    /// the marker bit
     pub marker: bool,
+    /// RTP sequence number
     pub sequence: u16,
     /// SSRC
     pub source: u32,
 }
 
-/// Writes one packet at the front of `out`; answers its length. `counts` has the number of rows of each list: up to four
-/// redundant lists, then the primary list; `rows` has the lists one after another.
+/// Writes one packet at the front of `out`; answers its length. `counts` has the number of rows of each list: up to
+/// [`MAX_REDUNDANT`] redundant lists, then the primary list; `rows` has the lists one after another.
 #[cfg(feature = "write")]
 pub fn write_packet(
     settings: Settings,
@@ -136,28 +86,8 @@ pub fn write_packet(
     bytes: &[u8],
     out: &mut [u8],
 ) -> Result<usize, Refusal> {
-    let answer = raw::write_packet(settings, header.marker as u8, header.sequence, header.source, counts, rows, bytes, out);
-    accepted(answer.refusal, answer.length as usize)
-}
-
-/// How many rows of an offered packet got each verdict.
-#[derive(Clone, Copy, Debug, Default, PartialEq, Eq, Hash)]
-pub struct Verdicts {
-    pub late: u32,
-    pub far: u32,
-    pub repeated: u32,
-    pub better: u32,
-    pub no_room: u32,
-    pub inserted: u32,
-}
-
-/// A frame that was drawn; its bytes are at the front of the draw area.
-#[derive(Clone, Copy, Debug, PartialEq, Eq, Hash)]
-pub struct Frame {
-    pub time: u32,
-    pub channel: u8,
-    pub class: Class,
-    pub length: usize,
+    let Header { marker, sequence, source } = header;
+    raw::write_packet(settings.into(), u8::from(marker), sequence, source, counts, rows, bytes, out).result()
 }
 
 /// A reorder buffer. It holds which frames lie where in the store; the store is lent with each call, as the last call left it.
@@ -168,8 +98,7 @@ impl Buffer {
     /// A fresh buffer.
     #[cfg(feature = "buffer")]
     pub fn new(settings: Settings) -> Result<Buffer, Refusal> {
-        let answer = raw::new(settings);
-        accepted(answer.refusal, Buffer(answer.buffer))
+        raw::new(settings.into()).result()
     }
 
     /// Reads the packet into the row area, which has at least [`ROW_AREA`] words, and keeps its frames in the store, which has
@@ -178,8 +107,7 @@ impl Buffer {
     pub fn offer(&mut self, packet: &[u8], rows: &mut [u32], store: &mut [u8]) -> Result<Verdicts, Refusal> {
         let answer = raw::offer(self.0, packet, rows, store);
         self.0 = answer.buffer;
-        let raw::Offered { late, far, repeated, better, no_room, inserted, .. } = answer;
-        accepted(answer.refusal, Verdicts { late, far, repeated, better, no_room, inserted })
+        answer.result()
     }
 
     /// Draws the earliest frame to the front of the area, which has at least [`DRAW_AREA`] bytes; nothing where none is held.
@@ -187,13 +115,7 @@ impl Buffer {
     pub fn draw(&mut self, store: &[u8], area: &mut [u8]) -> Result<Option<Frame>, Refusal> {
         let answer = raw::draw(self.0, store, area);
         self.0 = answer.buffer;
-        let frame = Class::from_number(answer.frame_class).filter(|_| answer.empty == 0).map(|class| Frame {
-            time: answer.time,
-            channel: answer.channel as u8,
-            class,
-            length: answer.length as usize,
-        });
-        accepted(answer.refusal, frame)
+        answer.result()
     }
 
     /// The number of frames held.
@@ -203,7 +125,7 @@ impl Buffer {
 
     /// The settings that the buffer was made with.
     pub fn settings(&self) -> Settings {
-        self.0.settings
+        self.0.settings.into()
     }
 
     /// The state as C has it.

@@ -1,19 +1,18 @@
 //! The calls with the answers as C gets them: numbers, the refusal among them. Safe, on slices.
 //!
 //! The structs are those of include/heolstorpit.h, field by field; the functions hand each slice over as a pointer and a
-//! length, and the library is proved to stay inside them, whatever the values.
+//! length, and the library is proved to stay inside them, whatever the values. `result` makes an answer one that is not raw.
+#![allow(unsafe_code, missing_docs)]
 
-/// `hsp_settings`: what was agreed with the sender.
+use crate::SLOTS;
+
+/// `hsp_settings`
 #[repr(C)]
 #[derive(Clone, Copy, Debug, Default, PartialEq, Eq, Hash)]
 pub struct Settings {
-    /// 1 G.719 basic, 2 G.719 interleaved, 3 GSM-HR
     pub format: u8,
-    /// 1 or 2; for GSM-HR only 1
     pub channels: u8,
-    /// RTP payload type of the sound, 0 to 127
     pub payload_type: u8,
-    /// RTP payload type of redundancy payloads, 0 to 127 and another; or 128: none
     pub redundancy_type: u8,
 }
 
@@ -41,11 +40,11 @@ pub struct Written {
 #[repr(C)]
 #[derive(Clone, Copy, Debug, PartialEq, Eq)]
 pub struct Buffer {
-    pub times: [u32; 192],
-    pub tags: [u32; 192],
-    pub lengths: [u32; 192],
-    pub slots: [u32; 192],
-    pub occupied: [u64; 3],
+    pub times: [u32; SLOTS],
+    pub tags: [u32; SLOTS],
+    pub lengths: [u32; SLOTS],
+    pub slots: [u32; SLOTS],
+    pub occupied: [u64; SLOTS / 64],
     pub last_time: u32,
     pub last_channel: u32,
     pub drawn: u32,

@@ -5,8 +5,11 @@ mod common;
 
 use cases::{Random, Shape};
 use common::{around, settings, to_raw, Seen, Twice};
-use heolstorpit::{raw, Buffer};
-use reference::{Drawn, Settings, Verdicts, DRAW_AREA, ROW_AREA, SLOTS, STORE_BYTES};
+use heolstorpit::{raw, Buffer, Class, Format};
+use reference::{step_ticks, Drawn, Settings, Verdicts, DRAW_AREA, MAX_PAYLOAD, MAX_ROWS, NO_REDUNDANCY, ROW_AREA, SLOTS, STORE_BYTES};
+
+/// Counted: offers that leave as many frames held as there may be.
+const FULL: &str = "offers that leave all slots in use";
 
 /// A buffer with its lent areas, held by the library and by the reference.
 struct Pair {
@@ -93,7 +96,7 @@ impl Pair {
     fn offer(&mut self, packet: &[u8]) {
         self.buffer = self.offer_to(self.buffer, packet, ROW_AREA, STORE_BYTES);
         if self.buffer.held() == SLOTS {
-            self.seen.add("offers that leave 192 held", 1);
+            self.seen.add(FULL, 1);
         }
     }
 
@@ -146,7 +149,7 @@ struct Stream {
 
 impl Stream {
     fn new(r: &mut Random, s: Settings) -> Stream {
-        let step = if s.format == 3 { 160 } else { 960 };
+        let step = step_ticks(s.format);
         let now = match r.below(5) {
             0 => 0,
             1 => 0u32.wrapping_sub(step * r.below(40) as u32),
@@ -154,9 +157,9 @@ impl Stream {
             3 => r.word() & 0xffff,
             _ => r.word(),
         };
-        let rows = if r.percent(10) { 128 } else { r.pick(&[1, 4, 12]) };
+        let rows = if r.percent(10) { MAX_ROWS } else { r.pick(&[1, 4, 12]) };
         let spread = r.pick(&[1, 8, 40, 400]);
-        Stream { now, step, spread, shape: Shape { bytes: r.pick(&[400, 1200, 2036]), rows, alike: r.percent(80) } }
+        Stream { now, step, spread, shape: Shape { bytes: r.pick(&[400, 1200, MAX_PAYLOAD]), rows, alike: r.percent(80) } }
     }
 
     fn packet(&mut self, r: &mut Random, buffer: &reference::Buffer) -> Vec<u8> {
@@ -220,7 +223,7 @@ fn histories() {
             "inserted",
             "drawn",
             "empty",
-            "offers that leave 192 held",
+            FULL,
         ],
     );
     p.seen.at_least(100, &["refusal  1", "refusal  2", "refusal  3", "refusal  4", "refusal  5", "refusal  6", "refusal  7", "refusal 11"]);
@@ -264,7 +267,7 @@ fn spoiled_buffers() {
     p.seen.at_least(1000, &["accepted", "refusal 11", "refusal 15", "spoiled and well-formed still", "spoiled and malformed"]);
 }
 
-/// Full buffers: 192 held, then repeats, better copies and no room; drawn to the end; filled again in the slots given back.
+/// Full buffers: all slots in use, then repeats, better copies and no room; drawn to the end; filled again in the slots given back.
 #[test]
 fn full_buffers() {
     let mut r = Random::new(23);
@@ -274,7 +277,7 @@ fn full_buffers() {
         p.fresh(s);
         let mut stream = Stream::new(&mut r, s);
         stream.spread = 400;
-        stream.shape.rows = 128;
+        stream.shape.rows = MAX_ROWS;
         for _ in 0..3 {
             for _ in 0..60 {
                 let packet = stream.packet(&mut r, &p.buffer);
@@ -288,7 +291,7 @@ fn full_buffers() {
         while p.draw().unwrap() != Drawn::Empty {}
     }
     p.seen.report("buffer, full");
-    p.seen.at_least(1000, &["no room", "better", "repeated", "offers that leave 192 held"]);
+    p.seen.at_least(1000, &["no room", "better", "repeated", FULL]);
 }
 
 /// `new` for all settings with fields around their limits.
@@ -320,7 +323,7 @@ fn six_interleaved_packets() {
         };
         orders = orders.iter().flat_map(next).collect();
     }
-    let s = heolstorpit::Settings { format: 2, channels: 1, payload_type: 97, redundancy_type: 128 };
+    let s = heolstorpit::Settings { format: Format::G719Interleaved, channels: 1, payload_type: 97, redundancy_type: NO_REDUNDANCY };
     let base = 0u32.wrapping_sub(18 * 960);
     let (mut rows, mut store, mut area) = (vec![0; ROW_AREA], vec![0; STORE_BYTES], vec![0; DRAW_AREA]);
     for order in orders {
@@ -329,13 +332,13 @@ fn six_interleaved_packets() {
             let mut packet = vec![0x80, 97, 0, first as u8];
             packet.extend(base.wrapping_add(960 * first).to_be_bytes());
             packet.extend([0, 0, 0, 7, 0x20, 4, 0x04, 0x44]);
-            packet.extend((0..320).map(|i| (first + i / 80 * 5) as u8));
+            packet.extend((0..4 * 80).map(|i| (first + i / 80 * 5) as u8));
             assert_eq!(buffer.offer(&packet, &mut rows, &mut store).unwrap().inserted, 4);
         }
         assert_eq!(buffer.held(), 24);
         for number in expected {
             let frame = buffer.draw(&store, &mut area).unwrap().unwrap();
-            assert_eq!((frame.time, frame.channel, frame.length), (base.wrapping_add(960 * number), 0, 80));
+            assert_eq!((frame.time, frame.channel, frame.class, frame.length), (base.wrapping_add(960 * number), 0, Class::Sound, 80));
             assert!(area[..80].iter().all(|byte| *byte as u32 == number));
         }
         assert_eq!(buffer.draw(&store, &mut area), Ok(None));

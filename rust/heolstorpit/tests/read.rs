@@ -4,8 +4,8 @@ mod common;
 
 use cases::{Random, Shape};
 use common::{around, settings, Seen, Twice};
-use heolstorpit::{raw, Refusal};
-use reference::{Settings, ROW_AREA};
+use heolstorpit::raw;
+use reference::{Settings, F_BIT, MAX_PACKET, MAX_PAYLOAD, MAX_ROWS, ROW_AREA, ROW_WORDS};
 
 struct Comparer {
     area: Twice<u32>,
@@ -35,11 +35,14 @@ impl Comparer {
         );
         self.seen.refusal(answer.refusal);
         self.seen.add("rows", answer.rows as u64);
-        if answer.rows == 128 {
-            self.seen.add("packets of 128 rows", 1);
+        if answer.rows as usize == MAX_ROWS {
+            self.seen.add(FULL, 1);
         }
     }
 }
+
+/// Counted: packets of as many rows as there may be.
+const FULL: &str = "packets of the most rows";
 
 const REFUSALS: [&str; 13] = [
     "accepted",
@@ -59,14 +62,14 @@ const REFUSALS: [&str; 13] = [
 
 fn shape(r: &mut Random) -> Shape {
     let bytes = match r.below(10) {
-        0 => 2036,
-        1 => 2020 + r.below(40),
-        2 => r.below(2036),
+        0 => MAX_PAYLOAD,
+        1 => MAX_PAYLOAD - 16 + r.below(40),
+        2 => r.below(MAX_PAYLOAD),
         _ => r.below(400),
     };
     let rows = match r.below(10) {
-        0 => 128,
-        1 => 120 + r.below(16),
+        0 => MAX_ROWS,
+        1 => MAX_ROWS - 8 + r.below(16),
         _ => 40,
     };
     Shape { bytes, rows, alike: false }
@@ -90,7 +93,7 @@ fn packets_valid_and_damaged() {
     }
     c.seen.report("read, packets valid and damaged");
     c.seen.at_least(1000, &REFUSALS);
-    c.seen.at_least(100, &["packets of 128 rows"]);
+    c.seen.at_least(100, &[FULL]);
 }
 
 /// Random bytes behind a plausible header, so that tables of all shapes are met.
@@ -102,7 +105,7 @@ fn random_bytes() {
         let s = cases::settings(&mut r);
         let length = match r.below(8) {
             0 => r.below(14),
-            1 => 2040 + r.below(16),
+            1 => MAX_PACKET - 8 + r.below(16),
             _ => 12 + r.below(60),
         };
         let mut packet = r.bytes(length);
@@ -131,8 +134,8 @@ fn each_bit_and_each_length() {
     let mut c = Comparer::new(&mut r);
     for _ in 0..250 {
         let s = cases::settings(&mut r);
-        let bytes = if r.percent(80) { 200 } else { 2036 };
-        let packet = cases::packet(&mut r, s, Shape { bytes, rows: 128, alike: false });
+        let bytes = if r.percent(80) { 200 } else { MAX_PAYLOAD };
+        let packet = cases::packet(&mut r, s, Shape { bytes, rows: MAX_ROWS, alike: false });
         c.compare(s, &packet, ROW_AREA);
         for bit in 0..8 * packet.len().min(40) {
             let mut flipped = packet.clone();
@@ -170,16 +173,16 @@ fn limits() {
                         Settings { format: format % 4, channels: channels.clamp(1, 2), ..s },
                         Shape { bytes: 300, rows: 20, alike: false },
                     );
-                    for area in [0, 511, 512, 513] {
+                    for area in [0, ROW_AREA - 1, ROW_AREA, ROW_AREA + 1] {
                         c.compare(s, &packet, area);
                     }
                 }
             }
         }
     }
-    // A packet of each length from 0 to 2,060: a payload of no data, padded to the length; and with the padding count off by one.
+    // A packet of each length from 0 to some over the most: a payload of no data, padded to the length; and with the padding count off by one.
     let s = Settings { format: 1, channels: 1, payload_type: 97, redundancy_type: 98 };
-    for length in 0..2060usize {
+    for length in 0..MAX_PACKET + 12 {
         let mut packet = vec![0; length];
         let header = [0x80, 97, 0, 1, 0, 0, 0, 2, 0, 0, 0, 3, 0, 1];
         let front = length.min(header.len());
@@ -202,7 +205,7 @@ fn limits() {
             }
         }
     }
-    // Rows around 128 over one and two entries, one and two channels, plain and split over blocks.
+    // Rows around the most over one and two entries, one and two channels, plain and split over blocks.
     for channels in [1u8, 2] {
         for format in [1u8, 2] {
             let s = Settings { format, channels, payload_type: 97, redundancy_type: 98 };
@@ -216,12 +219,12 @@ fn limits() {
                         bytes
                     };
                     let mut plain = vec![0x80, 97, 0, 1, 0, 0, 0, 2, 0, 0, 0, 3];
-                    plain.extend(entry(128, a));
+                    plain.extend(entry(F_BIT, a));
                     plain.extend(entry(0, b));
                     c.compare(s, &plain, ROW_AREA);
                     let mut split = vec![0x80, 98, 0, 1, 0, 0, 0, 2, 0, 0, 0, 3];
                     let first = entry(0, a);
-                    split.extend([128 + 97, 0, 0, first.len() as u8, 97]);
+                    split.extend([F_BIT + 97, 0, 0, first.len() as u8, 97]);
                     split.extend(first);
                     split.extend(entry(0, b));
                     c.compare(s, &split, ROW_AREA);
@@ -239,12 +242,12 @@ fn friendly_answers() {
     let mut r = Random::new(5);
     for _ in 0..20_000 {
         let s = cases::settings(&mut r);
-        let mut packet = cases::packet(&mut r, s, Shape { bytes: 300, rows: 128, alike: false });
+        let mut packet = cases::packet(&mut r, s, Shape { bytes: 300, rows: MAX_ROWS, alike: false });
         if r.percent(50) {
             cases::damage(&mut r, &mut packet);
         }
         let (mut one, mut two) = (vec![0; ROW_AREA], vec![0; ROW_AREA]);
-        let friendly = heolstorpit::read(settings(s), &packet, &mut one);
+        let friendly = heolstorpit::read(settings(s).into(), &packet, &mut one);
         let answer = raw::read(settings(s), &packet, &mut two);
         assert_eq!(one, two);
         match friendly {
@@ -253,13 +256,10 @@ fn friendly_answers() {
                     (0, reading.rows, reading.marker as u32, reading.sequence as u32, reading.timestamp, reading.source),
                     (answer.refusal, answer.rows, answer.marker, answer.sequence, answer.timestamp, answer.source)
                 );
-                let rows: Vec<u32> = heolstorpit::Row::list(&one, reading.rows).flat_map(|row| row.words()).collect();
-                assert_eq!(rows, one[..4 * reading.rows as usize]);
+                let rows: Vec<u32> = heolstorpit::Row::list(&one, reading.rows).flat_map(|row| row.words().unwrap()).collect();
+                assert_eq!(rows, one[..ROW_WORDS * reading.rows as usize]);
             }
-            Err(refusal) => assert_eq!((refusal.number(), Refusal::from_number(answer.refusal)), (answer.refusal, Some(refusal))),
+            Err(refusal) => assert_eq!(refusal.number(), answer.refusal),
         }
     }
-    let words: std::collections::HashSet<String> = Refusal::ALL.iter().map(|refusal| refusal.to_string()).collect();
-    assert_eq!(words.len(), 15);
-    assert_eq!((Refusal::from_number(0), Refusal::from_number(16)), (None, None));
 }

@@ -6,9 +6,13 @@ mod common;
 use cases::{List, Random, Shape};
 use common::{settings, Seen, Twice};
 use heolstorpit::{raw, Header};
-use reference::{Settings, MAX_PACKET, MAX_PAYLOAD};
+use reference::{Settings, HEADER_BYTES, MAX_OFFSET, MAX_PACKET, MAX_PAYLOAD, MAX_ROWS};
 
-const MOST: usize = 2300;
+/// Bytes lent to be written to, at most: some more than any packet.
+const MOST: usize = MAX_PACKET + 252;
+
+/// Counted: payloads of as many bytes as there may be.
+const FULL: &str = "payloads of the most bytes";
 
 /// What is written beside the rows of a packet.
 #[derive(Clone, Copy, Debug)]
@@ -98,15 +102,15 @@ fn list(r: &mut Random, s: Settings) -> List {
     let time = time(r);
     match r.below(10) {
         0..=3 => {
-            let bytes = r.pick(&[100, 400, 2036]);
-            let rows = r.pick(&[4, 40, 128]);
+            let bytes = r.pick(&[100, 400, MAX_PAYLOAD]);
+            let rows = r.pick(&[4, 40, MAX_ROWS]);
             cases::list_from_packet(r, s, Shape { bytes, rows, alike: false }, time)
         }
         4 => {
-            let aim = 2028 + r.below(12);
-            cases::made_list(r, s, time, 128, Some(aim))
+            let aim = MAX_PAYLOAD - 8 + r.below(12);
+            cases::made_list(r, s, time, MAX_ROWS, Some(aim))
         }
-        5 => cases::made_list(r, s, time, 140, None),
+        5 => cases::made_list(r, s, time, MAX_ROWS + 12, None),
         _ => cases::made_list(r, s, time, 16, None),
     }
 }
@@ -127,7 +131,7 @@ fn payloads() {
         }
         let written = c.payload(s, &list, MOST);
         if written.is_ok_and(|length| length as usize == MAX_PAYLOAD) {
-            c.seen.add("payloads of 2,036 bytes", 1);
+            c.seen.add(FULL, 1);
         }
         c.out_lengths(&mut r, written, |c, out| {
             c.payload(s, &list, out).ok();
@@ -135,7 +139,7 @@ fn payloads() {
     }
     c.seen.report("write_payload");
     c.seen.at_least(1000, &["accepted", "refusal 11", "refusal 12", "refusal 13", "refusal 14"]);
-    c.seen.at_least(20, &["payloads of 2,036 bytes"]);
+    c.seen.at_least(20, &[FULL]);
 }
 
 /// A list that some plain payload reads to is never refused with 13: whatever payload it came from.
@@ -145,15 +149,16 @@ fn what_was_read_can_be_written() {
     let mut c = Comparer::new(&mut r);
     for _ in 0..60_000 {
         let s = cases::settings(&mut r);
-        let bytes = r.pick(&[100, 400, 2036]);
+        let bytes = r.pick(&[100, 400, MAX_PAYLOAD]);
         let time = time(&mut r);
-        let list = cases::list_from_packet(&mut r, s, Shape { bytes, rows: 128, alike: false }, time);
+        let list = cases::list_from_packet(&mut r, s, Shape { bytes, rows: MAX_ROWS, alike: false }, time);
         if list.words.is_empty() {
             continue;
         }
         let mut out = vec![0; MOST];
-        let length = heolstorpit::write_payload(settings(s), &list.words, &list.bytes, &mut out).expect("a payload reads to this list");
-        assert!(length <= list.bytes.len() - 12, "the payload written is no longer than the one read");
+        let length =
+            heolstorpit::write_payload(settings(s).into(), &list.words, &list.bytes, &mut out).expect("a payload reads to this list");
+        assert!(length <= list.bytes.len() - HEADER_BYTES, "the payload written is no longer than the one read");
         let head = head(&mut r);
         c.packet(s, head, &[list.rows() as u32], &list, MOST).expect("a packet reads to this list");
     }
@@ -178,7 +183,7 @@ fn packets() {
         if let Ok(length) = written {
             c.seen.add(format!("packets of {} lists", counts.len()), 1);
             if length as usize >= MAX_PACKET - 3 {
-                c.seen.add("packets of 2,045 to 2,048 bytes", 1);
+                c.seen.add("packets of the most bytes, or up to three fewer", 1);
             }
         }
         c.out_lengths(&mut r, written, |c, out| {
@@ -203,7 +208,7 @@ fn packets() {
     );
 }
 
-/// Sizes one by one: blocks around 1,023 bytes, payloads around 2,036, packets around 2,048, rows around 128, offsets around 16,383.
+/// Sizes one by one: blocks, payloads, packets, rows and offsets around their limits.
 #[test]
 fn limits() {
     let mut r = Random::new(14);
@@ -224,7 +229,7 @@ fn limits() {
             .collect()
     };
     let gsm = Settings { format: 3, channels: 1, payload_type: 3, redundancy_type: 4 };
-    for none in 0..=140 {
+    for none in 0..=MAX_ROWS + 12 {
         for sound in [0, 1, 66, 67, 68, 69] {
             let list = List { words: made(160, 14, 0, sound, none), bytes: bytes.clone() };
             c.payload(gsm, &list, MOST).ok();
@@ -239,7 +244,7 @@ fn limits() {
     }
     for format in [1u8, 2] {
         let s = Settings { format, channels: 1, payload_type: 3, redundancy_type: 4 };
-        for none in 0..=128usize {
+        for none in 0..=MAX_ROWS {
             for (length, sound) in [(320, 6), (80, 24), (80, 25), (220, 9), (240, 8), (100, 20), (170, 6), (80, 12), (90, 11)] {
                 let list = List { words: made(960, length, 0, sound, none), bytes: bytes.clone() };
                 c.payload(s, &list, MOST).ok();
@@ -248,7 +253,7 @@ fn limits() {
                 c.packet(s, head, &[(sound + none) as u32, 1], &List { words, bytes: bytes.clone() }, MOST).ok();
             }
         }
-        // two, three, four and five lists whose packet comes to 2,048 and more
+        // two, three, four and five lists whose packet comes to the most bytes and more
         for lists in 2..=5usize {
             for (length, each) in [(80, 5), (80, 6), (90, 5), (100, 5), (110, 4), (320, 1), (320, 2), (80, 12)] {
                 for none in 0..24 {
@@ -266,7 +271,8 @@ fn limits() {
     }
     // offsets, at a time where the difference wraps too
     for time in [0u32, 20_000, 100_000] {
-        for offset in [0, 1, 960, 16382, 16383, 16384, 16385, 32767, 32768, 65536, 1 << 24, 1 << 31, u32::MAX, u32::MAX - 16383] {
+        let around = [MAX_OFFSET - 1, MAX_OFFSET, MAX_OFFSET + 1, MAX_OFFSET + 2];
+        for offset in [0, 1, 960, 32767, 32768, 65536, 1 << 24, 1 << 31, u32::MAX, u32::MAX - MAX_OFFSET].into_iter().chain(around) {
             let words = [made(160, 14, time.wrapping_sub(offset), 1, 0), made(160, 14, time, 1, 0)].concat();
             c.packet(gsm, head, &[1, 1], &List { words, bytes: bytes.clone() }, MOST).ok();
         }
@@ -300,7 +306,7 @@ fn friendly_answers() {
         }
         let header = Header { marker: r.percent(50), sequence: r.word() as u16, source: r.word() };
         let (mut one, mut two) = (vec![0; MOST], vec![0; MOST]);
-        let friendly = heolstorpit::write_packet(settings(s), header, &counts, &list.words, &list.bytes, &mut one);
+        let friendly = heolstorpit::write_packet(settings(s).into(), header, &counts, &list.words, &list.bytes, &mut one);
         let answer = raw::write_packet(
             settings(s),
             header.marker as u8,

@@ -5,7 +5,7 @@
 use crate::reading::{code_of, packet_rows};
 use crate::*;
 
-/// The buffer as the library lays it out. The first `n` of the 192 entries are used, in time order, `n` the number of
+/// The buffer as the library lays it out. The first `n` of the entries are used, in time order, `n` the number of
 /// ones in `occupied`. A tag is 256 × class + channel. `drawn` is 1 once a pair was drawn, then kept in `last_time` and
 /// `last_channel`.
 #[derive(Clone, Copy, Debug, PartialEq, Eq)]

@@ -12,7 +12,7 @@ mod sizes;
 mod writing;
 
 pub use buffer::{draw, fresh, is_well_formed, offer, Buffer, Drawn, Verdicts};
-pub use reading::{read, Reading};
+pub use reading::{read, step_ticks, Reading};
 pub use sizes::*;
 pub use writing::{write_packet, write_payload};
 
@@ -54,7 +54,7 @@ pub struct Row {
 
 impl Row {
     /// "A row is: timestamp; 256 × sort + channel; start in the packet; length."
-    pub fn words(&self) -> [u32; 4] {
+    pub fn words(&self) -> [u32; ROW_WORDS] {
         [self.time, 256 * self.class + self.channel, self.start, self.length]
     }
 

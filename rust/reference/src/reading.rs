@@ -101,7 +101,7 @@ fn redundancy_rows(settings: Settings, packet: &[u8], start: usize, end: usize, 
             return Err(TABLE_PAST_END);
         }
         let payload_type = packet[at] & 127;
-        if packet[at] & 128 == 0 {
+        if packet[at] & F_BIT == 0 {
             at += 1;
             break payload_type;
         }
@@ -175,7 +175,7 @@ fn payload_rows(settings: Settings, packet: &[u8], start: usize, end: usize, tim
         if blocks == 0 {
             return Err(NO_FRAME_BLOCKS);
         }
-        // 9: more than 128 rows so far
+        // 9: more rows so far than there may be
         so_far += blocks * channels;
         if so_far > MAX_ROWS {
             return Err(TOO_MANY_ROWS);
@@ -198,7 +198,7 @@ fn payload_rows(settings: Settings, packet: &[u8], start: usize, end: usize, tim
             })
             .collect();
         entries.push(Entry { class, length, steps });
-        let another = packet[at] & 128 != 0;
+        let another = packet[at] & F_BIT != 0;
         at += size;
         if !another {
             break;
@@ -252,7 +252,8 @@ pub(crate) fn code_of(format: u8, class: u32, length: u32) -> Option<u8> {
     (0..32).find(|code| (format != 3 || *code < 8) && frame_of(format, *code) == Some((class, length)))
 }
 
-pub(crate) fn step_ticks(format: u8) -> u32 {
+/// The ticks of one step of a format.
+pub fn step_ticks(format: u8) -> u32 {
     if format == 3 {
         GSM_HR_STEP
     } else {

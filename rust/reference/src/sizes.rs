@@ -18,6 +18,12 @@ pub const MAX_OFFSET: u32 = 16_383;
 pub const MAX_BLOCK: usize = 1_023;
 /// "128 for none"
 pub const NO_REDUNDANCY: u8 = 128;
+/// F: the first bit of a table entry or block header, 1 where another follows
+pub const F_BIT: u8 = 0b1000_0000;
+/// M: the first bit of the packet's second byte
+pub const M_BIT: u8 = 0b1000_0000;
+/// version 2, in the first two bits of a packet
+pub const VERSION_2: u8 = 0b1000_0000;
 /// "one frame-block is 960 ticks"; kind 3: "Step 160 ticks"
 pub const G719_STEP: u32 = 960;
 pub const GSM_HR_STEP: u32 = 160;

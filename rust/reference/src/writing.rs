@@ -97,7 +97,7 @@ fn canonical(settings: Settings, list: &[Row], bytes: &[u8]) -> Option<Vec<u8>> 
     let mut payload = Vec::new();
     if settings.format == 3 {
         for (i, row) in list.iter().enumerate() {
-            let another = if i + 1 < list.len() { 128 } else { 0 };
+            let another = if i + 1 < list.len() { F_BIT } else { 0 };
             payload.push(another + 16 * code_of(3, row.class, row.length)?);
         }
     } else {
@@ -105,7 +105,7 @@ fn canonical(settings: Settings, list: &[Row], bytes: &[u8]) -> Option<Vec<u8>> 
         let runs: Vec<&[&[Row]]> = blocks.chunk_by(|a, b| a[0].length == b[0].length).collect();
         for (i, run) in runs.iter().enumerate() {
             let first = run[0][0];
-            let another = if i + 1 < runs.len() { 128 } else { 0 };
+            let another = if i + 1 < runs.len() { F_BIT } else { 0 };
             payload.push(another + 4 * code_of(settings.format, first.class, first.length)?);
             payload.push(u8::try_from(run.len()).ok()?);
             if settings.format == 2 {
@@ -172,7 +172,7 @@ fn packet_of(settings: Settings, marker: bool, sequence: u16, source: u32, count
             return None;
         }
         let word = (offset << 10) + payload.len() as u32;
-        packet.push(128 + settings.payload_type);
+        packet.push(F_BIT + settings.payload_type);
         packet.extend_from_slice(&word.to_be_bytes()[1..]);
     }
     packet.push(settings.payload_type);
@@ -189,7 +189,7 @@ fn packet_of(settings: Settings, marker: bool, sequence: u16, source: u32, count
 
 /// The twelve bytes of the RTP header. "The writer uses no CC, X or P".
 fn header(marker: bool, payload_type: u8, sequence: u16, timestamp: u32, source: u32) -> Vec<u8> {
-    let mut bytes = vec![128, if marker { 128 + payload_type } else { payload_type }];
+    let mut bytes = vec![VERSION_2, if marker { M_BIT + payload_type } else { payload_type }];
     bytes.extend_from_slice(&sequence.to_be_bytes());
     bytes.extend_from_slice(&timestamp.to_be_bytes());
     bytes.extend_from_slice(&source.to_be_bytes());

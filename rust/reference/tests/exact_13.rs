@@ -20,7 +20,7 @@ fn tables(format: u8, blocks: usize) -> Vec<Vec<u8>> {
                 }
                 let rests = if count == blocks { vec![vec![]] } else { tables(format, blocks - count) };
                 for rest in rests {
-                    let another = if count == blocks { 0 } else { 128 };
+                    let another = if count == blocks { 0 } else { F_BIT };
                     let mut table = vec![another + 4 * code, count as u8];
                     if format == 2 {
                         table.extend(list.chunks(2).map(|two| 16 * two[0] + two[1]));
@@ -41,7 +41,7 @@ fn reads_to(settings: Settings, table: &[u8]) -> Vec<(u32, u32, u32)> {
     for _ in 0..200 {
         let mut area = vec![0; ROW_AREA];
         if let Ok(reading) = read(settings, &packet, &mut area) {
-            return area[..4 * reading.rows as usize].chunks(4).map(|row| (row[0], row[1], row[3])).collect();
+            return area[..ROW_WORDS * reading.rows as usize].chunks(ROW_WORDS).map(|row| (row[0], row[1], row[3])).collect();
         }
         packet.extend([0; 10]);
     }
@@ -51,7 +51,7 @@ fn reads_to(settings: Settings, table: &[u8]) -> Vec<(u32, u32, u32)> {
 #[test]
 fn thirteen_exactly_when_no_table_reads_to_it() {
     for (format, channels) in [(1, 1), (2, 1), (1, 2), (2, 2)] {
-        let settings = Settings { format, channels, payload_type: 97, redundancy_type: 128 };
+        let settings = Settings { format, channels, payload_type: 97, redundancy_type: NO_REDUNDANCY };
         let (mut written, mut refused) = (0, 0);
         for blocks in 1..=4usize {
             let readable: std::collections::HashSet<_> = tables(format, blocks).iter().map(|t| reads_to(settings, t)).collect();
@@ -92,20 +92,20 @@ fn edges_of_the_sizes() {
     let list = |lengths: &[u32]| -> Vec<u32> {
         lengths.iter().enumerate().flat_map(|(i, length)| [i as u32 * 960, if *length == 0 { 0 } else { 256 }, 0, *length]).collect()
     };
-    let bytes = [3; 320];
+    let bytes = [3; SLOT_BYTES];
     let mut out = vec![0; 4096];
     // six frames of 320 and one of 110, in two entries: 4 + 2030 = 2034; with a third entry of no data 2036; with a fourth 2038
     let mut lengths = vec![320, 320, 320, 320, 320, 320, 110];
     assert_eq!(write_payload(settings, &list(&lengths), &bytes, &mut out), Ok(2034));
     lengths.push(0);
-    assert_eq!(write_payload(settings, &list(&lengths), &bytes, &mut out), Ok(2036));
-    assert_eq!(write_payload(settings, &list(&lengths), &bytes, &mut out[..2035]), Err(12));
-    assert_eq!(write_packet(settings, true, 1, 2, &[8], &list(&lengths), &bytes, &mut out), Ok(2048));
+    assert_eq!(write_payload(settings, &list(&lengths), &bytes, &mut out), Ok(MAX_PAYLOAD as u32));
+    assert_eq!(write_payload(settings, &list(&lengths), &bytes, &mut out[..MAX_PAYLOAD - 1]), Err(12));
+    assert_eq!(write_packet(settings, true, 1, 2, &[8], &list(&lengths), &bytes, &mut out), Ok(MAX_PACKET as u32));
     lengths.insert(0, 0);
     assert_eq!(write_payload(settings, &list(&lengths), &bytes, &mut out), Err(13));
-    // 128 rows of no data, and 129
-    assert_eq!(write_payload(settings, &list(&[0; 128]), &[], &mut out), Ok(2));
-    assert_eq!(write_payload(settings, &list(&[0; 129]), &[], &mut out), Err(13));
+    // the most rows, of no data, and one more
+    assert_eq!(write_payload(settings, &list(&[0; MAX_ROWS]), &[], &mut out), Ok(2));
+    assert_eq!(write_payload(settings, &list(&[0; MAX_ROWS + 1]), &[], &mut out), Err(13));
     // an empty list, a part of a row, a row outside
     assert_eq!(write_payload(settings, &[], &bytes, &mut out), Err(13));
     assert_eq!(write_payload(settings, &[0, 256, 0, 80, 0], &bytes, &mut out), Err(13));

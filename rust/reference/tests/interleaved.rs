@@ -17,7 +17,7 @@ fn packet(first: u32, base: u32) -> Vec<u8> {
 }
 
 fn drawn_after(order: &[u32], base: u32) -> Vec<u32> {
-    let settings = Settings { format: 2, channels: 1, payload_type: 97, redundancy_type: 128 };
+    let settings = Settings { format: 2, channels: 1, payload_type: 97, redundancy_type: NO_REDUNDANCY };
     let (mut buffer, _) = fresh(settings);
     let mut store = vec![0; STORE_BYTES];
     let mut area = vec![0; ROW_AREA];

@@ -1,7 +1,7 @@
 //! The C functions over the reference. mutants.sh builds it over a reference with a fault planted in it, links the tests to
 //! that, and sees them fail.
 
-use reference::{Buffer, Drawn, Settings, Verdicts};
+use reference::{Buffer, Drawn, Settings, Verdicts, SLOTS};
 use std::slice::{from_raw_parts, from_raw_parts_mut};
 
 #[repr(C)]
@@ -17,7 +17,7 @@ pub struct CWritten(u32, u32);
 #[repr(C)]
 #[derive(Clone, Copy)]
 pub struct CBuffer {
-    columns: [[u32; 192]; 4],
+    columns: [[u32; SLOTS]; 4],
     occupied: [u64; 3],
     last: [u32; 3],
     settings: CSettings,

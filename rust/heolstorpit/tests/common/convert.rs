@@ -3,8 +3,8 @@
 
 use heolstorpit::raw;
 
-pub fn settings(s: reference::Settings) -> heolstorpit::Settings {
-    heolstorpit::Settings { format: s.format, channels: s.channels, payload_type: s.payload_type, redundancy_type: s.redundancy_type }
+pub fn settings(s: reference::Settings) -> raw::Settings {
+    raw::Settings { format: s.format, channels: s.channels, payload_type: s.payload_type, redundancy_type: s.redundancy_type }
 }
 
 pub fn to_raw(b: &reference::Buffer) -> raw::Buffer {

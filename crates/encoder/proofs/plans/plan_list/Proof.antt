@@ -5,7 +5,7 @@ use native.Mathlib.Omega.{arith}
 use denote.Ref.{now}
 use borrow.Author.Tests.{lt-ltb, le-ltb}
 use Rattle.rtp.specs.Sizes.{maxRows}
-use Rattle.rtp.specs.Redundancy.{before}
+use Rattle.rtp.specs.Time.{difference}
 use Rattle.encoder.specs.declared.lists.RowWords.{RowWords}
 use Rattle.encoder.specs.declared.plans.Planned.{Planned}
 use Rattle.encoder.specs.Lists.{rowsIn}
@@ -22,7 +22,7 @@ use Rattle.encoder.proofs.plans.plan_list.Lts as lts
 use Rattle.encoder.proofs.lists.row_at.Reads as row-at-reads
 use Rattle.encoder.proofs.plans.plan_from.Reads as plan-from-reads
 use Rattle.payload.proofs.frames.step_of.Reads as step-of-reads
-use Rattle.rtp.proofs.redundancy.block_time.Reads as block-time-reads
+use Rattle.rtp.proofs.time.difference.Reads as difference-reads
 
 -- the plan of the rows, as it was made and as the list has it
 made-at : (c : tie.After-plan-from) → let a = c .before .before .before .before .before .before .before .args in
@@ -31,7 +31,7 @@ made-at c =
     let a = c .before .before .before .before .before .before .before .args in
     c .plan-from .ensures
     ∙ ap (λ (t : ℕ). planAnswer (a .format) (a .channels) (planFrom (a .format) (a .channels) 0 (rowAs (record { time = t; tag = c .before .before .before .row-at .result .tag; start = c .before .before .before .row-at .result .start; length = c .before .before .before .row-at .result .length })) (rowsIn (now (a .rows)))))
-    (c .before .block-time .ensures ∙ ap (before (c .before .before .before .row-at .result .time)) (c .before .before .step-of .ensures))
+    (c .before .difference .ensures ∙ ap (difference (c .before .before .before .row-at .result .time)) (c .before .before .step-of .ensures))
     ∙ ap (λ (w : RowWords). planAnswer (a .format) (a .channels) (planFrom (a .format) (a .channels) 0 (stepBefore (a .format) (rowAs w)) (rowsIn (now (a .rows))))) (c .before .before .before .row-at .ensures)
 
 -- its numbers are small
@@ -57,8 +57,8 @@ row-at-requires c κs = search needs
 step-of-requires : tie.Need-step-of-requires
 step-of-requires c κs = search needs
 
-block-time-requires : tie.Need-block-time-requires
-block-time-requires c κs = search needs
+difference-requires : tie.Need-difference-requires
+difference-requires c κs = search needs
 
 plan-from-requires : tie.Need-plan-from-requires
 plan-from-requires c κs = search needs
@@ -95,7 +95,7 @@ plan-list-spec =
     returns-2
     row-at-requires
     step-of-requires
-    block-time-requires
+    difference-requires
     plan-from-requires
     enum-known-plan
     add-if3

@@ -3,7 +3,7 @@ use Prim.Native.Nat.{ℕ}
 use native.Mathlib.Omega.{arith}
 use lib.ListN.{length, getD}
 use denote.Ref.{now}
-use Rattle.rtp.specs.Redundancy.{before}
+use Rattle.rtp.specs.Time.{difference}
 use Rattle.rtp.specs.Areas.{over}
 use Rattle.rtp.proofs.AreaLaws.{part-length}
 use Rattle.payload.specs.Frames.{stepOf}
@@ -19,20 +19,20 @@ use Rattle.encoder.proofs.writing.put_payload.Lts as lts
 use Rattle.encoder.proofs.tables.put_frames.Reads as put-frames-reads
 use Rattle.encoder.proofs.tables.put_table.Reads as put-table-reads
 use Rattle.payload.proofs.frames.step_of.Reads as step-of-reads
-use Rattle.rtp.proofs.redundancy.block_time.Reads as block-time-reads
+use Rattle.rtp.proofs.time.difference.Reads as difference-reads
 
 -- the place before the list's first frame-block
-previous-is : (c : tie.After-block-time) → let a = c .before .before .before .before .before .before .args in c .block-time .result ≡ before (getD (now (a .rows)) 0 0) (stepOf (a .format))
-previous-is c = let a = c .before .before .before .before .before .before .args in c .block-time .ensures ∙ ap (before (getD (now (a .rows)) 0 0)) (c .before .step-of .ensures)
+previous-is : (c : tie.After-difference) → let a = c .before .before .before .before .before .before .args in c .difference .result ≡ difference (getD (now (a .rows)) 0 0) (stepOf (a .format))
+previous-is c = let a = c .before .before .before .before .before .before .args in c .difference .ensures ∙ ap (difference (getD (now (a .rows)) 0 0)) (c .before .step-of .ensures)
 
-shared-slice-read-block-time : tie.Need-shared-slice-read-block-time
-shared-slice-read-block-time c = let a = c .before .before .before .before .args in omega (arith, payload-row (a .format) (a .channels) (a .table) (now (a .rows)) (now (a .bytes)) (length (now (a .out))) (c .before .before .before .before .pre))
+shared-slice-read-difference : tie.Need-shared-slice-read-difference
+shared-slice-read-difference c = let a = c .before .before .before .before .args in omega (arith, payload-row (a .format) (a .channels) (a .table) (now (a .rows)) (now (a .bytes)) (length (now (a .out))) (c .before .before .before .before .pre))
 
 step-of-requires : tie.Need-step-of-requires
 step-of-requires c κs = search needs
 
-block-time-requires : tie.Need-block-time-requires
-block-time-requires c κs = search needs
+difference-requires : tie.Need-difference-requires
+difference-requires c κs = search needs
 
 put-table-requires : tie.Need-put-table-requires
 put-table-requires c κs = let a = c .before .before .before .before .before .before .before .args in subst (λ (n : ℕ). TableRoom (a .format) (a .channels) n (now (a .rows)) (length (now (a .out)))) (sym (previous-is (c .before))) (table-room (a .format) (a .channels) (a .table) (now (a .rows)) (now (a .bytes)) (length (now (a .out))) (c .before .before .before .before .before .before .before .pre))
@@ -61,9 +61,9 @@ pub put-payload-spec : {M : Type 1} → statement M
 put-payload-spec =
     tie.close
     (tie.spec
-    shared-slice-read-block-time
+    shared-slice-read-difference
     step-of-requires
-    block-time-requires
+    difference-requires
     put-table-requires
     sub-put-frames
     part-put-frames-start

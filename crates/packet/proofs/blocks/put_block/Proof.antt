@@ -12,22 +12,22 @@ use Rattle.packet.proofs.blocks.put_block.Tie as tie
 use Rattle.packet.proofs.blocks.put_block.Reads as reads
 use Rattle.packet.proofs.blocks.put_block.Lts as lts
 use Rattle.payload.proofs.reading.read_payload.Reads as read-payload-reads
-use Rattle.rtp.proofs.redundancy.block_time.Reads as block-time-reads
+use Rattle.rtp.proofs.time.difference.Reads as difference-reads
 
 -- the rows of the call
 rows-at : (c : tie.After-read-payload) → let a = c .before .before .before .before .before .before .before .before .args in
-    askedRows (a .settings) (a .done) (length (now (a .rows))) (c .before .before .block-time .result) (a .at) (now (a .s))
+    askedRows (a .settings) (a .done) (length (now (a .rows))) (c .before .before .difference .result) (a .at) (now (a .s))
     ≡ askedBlock (a .settings) (a .done) (length (now (a .rows))) (a .time) (a .block-type) (a .offset) (a .at) (now (a .s))
 rows-at c =
     let a = c .before .before .before .before .before .before .before .before .args in
-    ap (λ (t : ℕ). askedRows (a .settings) (a .done) (length (now (a .rows))) t (a .at) (now (a .s))) (c .before .before .block-time .ensures)
+    ap (λ (t : ℕ). askedRows (a .settings) (a .done) (length (now (a .rows))) t (a .at) (now (a .s))) (c .before .before .difference .ensures)
     ∙ sym (asked-some (a .settings) (a .done) (length (now (a .rows))) (a .time) (a .block-type) (a .offset) (a .at) (now (a .s)) (c .before .before .before .before .if1 .taken) (c .before .before .before .if2 .left))
 
 returns : tie.Need-returns
 returns c = let a = c .before .before .before .before .before .args in gives-empty (now (a .rows)) _ (asked-empty (a .settings) (a .done) (length (now (a .rows))) (a .time) (a .block-type) (a .offset) (a .at) (now (a .s)) (c .before .if1 .taken) (c .if2 .taken))
 
-block-time-requires : tie.Need-block-time-requires
-block-time-requires c κs = search needs
+difference-requires : tie.Need-difference-requires
+difference-requires c κs = search needs
 
 read-payload-requires : tie.Need-read-payload-requires
 read-payload-requires c κs = search needs
@@ -44,4 +44,4 @@ returns-3 c = let a = c .before .before .before .before .args in gives-empty (no
 pub put-block-spec : {M : Type 1} → statement M
 put-block-spec =
     tie.close
-    (tie.spec returns block-time-requires read-payload-requires same-length returns-2 returns-3)
+    (tie.spec returns difference-requires read-payload-requires same-length returns-2 returns-3)

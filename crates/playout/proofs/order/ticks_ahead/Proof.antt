@@ -3,12 +3,12 @@ use borrow.Author.Needs.{needs}
 use Rattle.playout.proofs.order.ticks_ahead.Statement.{statement}
 use Rattle.playout.proofs.order.ticks_ahead.Tie as tie
 
-block-time-requires : tie.Need-block-time-requires
-block-time-requires c κs = search needs
+difference-requires : tie.Need-difference-requires
+difference-requires c κs = search needs
 
 returns : tie.Need-returns
 unfolding ahead
-returns c = simp (← (c .block-time .ensures))
+returns c = simp (← (c .difference .ensures))
 
 pub ticks-ahead-spec : {M : Type 1} → statement M
-ticks-ahead-spec = tie.close (tie.spec block-time-requires returns)
+ticks-ahead-spec = tie.close (tie.spec difference-requires returns)

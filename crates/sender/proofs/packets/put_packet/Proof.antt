@@ -11,7 +11,7 @@ use Rattle.payload.specs.Rows.{rowsIn}
 use Rattle.sender.specs.Parts.{parts}
 use Rattle.sender.specs.Packets.{Heading, headerBytes, assembledFrom}
 use Rattle.sender.specs.Room.{listsHeaders, listsPayloads}
-use Rattle.sender.proofs.RangeLaws.{ranged}
+use Rattle.rtp.proofs.RangeLaws.{ranged}
 use Rattle.sender.proofs.SendingLaws.{Plain, plain-packet, Redundant, redundant-packet}
 use borrow.Author.Needs.{needs}
 use Rattle.sender.proofs.packets.put_packet.Statement.{statement}

@@ -1,0 +1,103 @@
+//! The C functions' answers as results: all of them, whatever their numbers.
+
+use crate::{raw, Buffer, Class, Refusal};
+
+/// What a packet that was read says of itself.
+#[derive(Clone, Copy, Debug, PartialEq, Eq, Hash)]
+pub struct Reading {
+    /// rows written at the front of the row area
+    pub rows: u32,
+    /// the marker bit
+    pub marker: bool,
+    /// RTP sequence number
+    pub sequence: u16,
+    /// RTP timestamp
+    pub timestamp: u32,
+    /// SSRC
+    pub source: u32,
+}
+
+/// How many rows of an offered packet got each verdict.
+#[derive(Clone, Copy, Debug, Default, PartialEq, Eq, Hash)]
+pub struct Verdicts {
+    /// not after the last frame drawn
+    pub late: u32,
+    /// 2^31 ticks or more from frames held, before any was drawn
+    pub far: u32,
+    /// held already, and this copy is no better
+    pub repeated: u32,
+    /// held already, and this better copy replaced the one held
+    pub better: u32,
+    /// found the buffer full
+    pub no_room: u32,
+    /// new
+    pub inserted: u32,
+}
+
+/// A frame that was drawn; its bytes are at the front of the draw area.
+#[derive(Clone, Copy, Debug, PartialEq, Eq, Hash)]
+pub struct Frame {
+    /// timestamp of the frame
+    pub time: u32,
+    /// channels count from 0
+    pub channel: u8,
+    /// what the frame is, one with no name here included
+    pub class: Class,
+    /// bytes of the frame
+    pub length: usize,
+}
+
+/// `value` where the number is 0, else the refusal.
+#[inline]
+fn accepted<T>(number: u32, value: T) -> Result<T, Refusal> {
+    match Refusal::from_number(number) {
+        None => Ok(value),
+        Some(refusal) => Err(refusal),
+    }
+}
+
+impl raw::Reading {
+    /// The packet's header and its number of rows, or the refusal.
+    #[inline]
+    pub fn result(&self) -> Result<Reading, Refusal> {
+        let raw::Reading { refusal, rows, marker, sequence, timestamp, source } = *self;
+        // a sequence number has 16 bits
+        accepted(refusal, Reading { rows, marker: marker != 0, sequence: sequence as u16, timestamp, source })
+    }
+}
+
+impl raw::Written {
+    /// The number of bytes written, or the refusal.
+    #[inline]
+    pub fn result(&self) -> Result<usize, Refusal> {
+        accepted(self.refusal, self.length as usize)
+    }
+}
+
+impl raw::Fresh {
+    /// The buffer, or the refusal.
+    #[inline]
+    pub fn result(&self) -> Result<Buffer, Refusal> {
+        accepted(self.refusal, Buffer::from_raw(self.buffer))
+    }
+}
+
+impl raw::Offered {
+    /// The counts of verdicts, or the refusal.
+    #[inline]
+    pub fn result(&self) -> Result<Verdicts, Refusal> {
+        let raw::Offered { refusal, late, far, repeated, better, no_room, inserted, .. } = *self;
+        accepted(refusal, Verdicts { late, far, repeated, better, no_room, inserted })
+    }
+}
+
+impl raw::Drawn {
+    /// The frame drawn, whatever its class; nothing where none was held; or the refusal.
+    #[inline]
+    pub fn result(&self) -> Result<Option<Frame>, Refusal> {
+        let raw::Drawn { refusal, empty, time, channel, frame_class, length, .. } = *self;
+        // a channel has 8 bits of a row's second word
+        let frame = Frame { time, channel: channel as u8, class: Class::from(frame_class), length: length as usize };
+        accepted(refusal, (empty == 0).then_some(frame))
+    }
+}

@@ -1,0 +1,26 @@
+//! The papers' figures, each said once: what follows from others is computed. They are those of include/heolstorpit.h.
+
+/// Bytes of a packet, at least.
+pub const MIN_PACKET: usize = 12;
+/// Bytes of a packet, at most.
+pub const MAX_PACKET: usize = 2048;
+/// Bytes of a payload written alone, at most.
+pub const MAX_PAYLOAD: usize = 2036;
+/// Rows of a packet, at most.
+pub const MAX_ROWS: usize = 128;
+/// Words of a row.
+pub const ROW_WORDS: usize = 4;
+/// Words of a row area that is read into, at least.
+pub const ROW_AREA: usize = MAX_ROWS * ROW_WORDS;
+/// Frames that a buffer holds, at most.
+pub const SLOTS: usize = 192;
+/// Bytes of a slot of the store: the longest frame.
+pub const SLOT_BYTES: usize = 320;
+/// Bytes of a store, at least.
+pub const STORE_BYTES: usize = SLOTS * SLOT_BYTES;
+/// Bytes of the area that a frame is drawn to, at least.
+pub const DRAW_AREA: usize = SLOT_BYTES;
+/// Redundant lists of a packet written, at most.
+pub const MAX_REDUNDANT: usize = 4;
+/// The redundancy type that says: none.
+pub const NO_REDUNDANCY: u8 = 128;
