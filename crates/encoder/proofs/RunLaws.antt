@@ -10,15 +10,14 @@ use lib.Seq.{drop-drop, getD-drop}
 use lib.Dec.{ltb, eqb}
 use borrow.Author.Tests.{ltb-true, ltb-false, eqb-true}
 use Rattle.rtp.specs.Sizes.{rowWidth}
-use Rattle.rtp.specs.Ranges.{g719Interleaved}
 use Rattle.rtp.proofs.TestLaws.{by-test}
-use Rattle.payload.specs.Frames.{stepOf}
+use Rattle.payload.specs.Formats.{formatOf, stepOf, maxGap}
 use Rattle.payload.specs.Contents.{Group, Contents, refused, groups}
 use Rattle.payload.specs.Rows.{Row}
 use Rattle.payload.specs.Codes.{noCode, codeFor}
 use Rattle.encoder.specs.Lists.{rowsIn}
-use Rattle.encoder.specs.Plans.{gapBetween, maxGap, headGap, single, joins, attach, planFrom}
-use Rattle.encoder.specs.Room.{rowAs, wordsAt, joinsPlan, timed, joined, Accepted, blockGaps, runGroup, Halves, Direct}
+use Rattle.encoder.specs.Plans.{joinsRun, gapBetween, headGap, single, joins, attach, planFrom}
+use Rattle.encoder.specs.Room.{rowAs, wordsAt, timed, joined, Accepted, blockGaps, runGroup, Halves, Direct}
 use Rattle.encoder.proofs.ListLaws.{rows-none}
 use Rattle.encoder.proofs.PlanLaws.{joins-true}
 use Rattle.encoder.proofs.BlockLaws.{no-plan, plan-time, starts-code, Block, block-step}
@@ -85,7 +84,8 @@ pub record Run (format ch : ℕ) (p : Row) (ws : List ℕ) (n : ℕ) (g : Group)
   pub direct : Direct gs
 
 max-gap-small : (format : ℕ) → maxGap format < 16
-max-gap-small format = by-test (eqb format g719Interleaved) (λ a. rw a (omega arith)) (λ a. rw a (omega arith))
+unfolding maxGap
+max-gap-small format = by-test (formatOf format .displaced) (λ a. rw a (omega arith)) (λ a. rw a (omega arith))
 
 module _ (format ch : ℕ) (p : Row) (ws : List ℕ) (g : Group) (gs : List Group) (b : Block format ch p ws (g ∷ gs)) where
   run-alone : g ≡ single (rowAs (wordsAt ws 0)) (gapBetween (stepOf format) (p .time) (getD ws 0 0)) → gs ≡ b .rest → Direct (b .rest) → Run format ch p ws 1 g gs
@@ -183,14 +183,14 @@ module _ (format ch : ℕ) (r : Row) (ws : List ℕ) where
       joined-words = block .enough
 
       pub joined-step : joined format r (planFrom format ch 0 r (rowsIn ws))
-          ≡ cond (joinsPlan format r (rowAs (wordsAt ws 0) .class) (rowAs (wordsAt ws 0) .length) (gapBetween (stepOf format) (r .time) (getD ws 0 0)))
+          ≡ cond (joinsRun format r (rowAs (wordsAt ws 0) .class) (rowAs (wordsAt ws 0) .length) (gapBetween (stepOf format) (r .time) (getD ws 0 0)))
           (suc (joined format (rowAs (wordsAt ws 0)) (planFrom format ch 0 (rowAs (wordsAt ws 0)) (rowsIn (drop (rowWidth * ch) ws))))) 0
       joined-step = step (accepted (planFrom format ch 0 r (rowsIn ws)) a .0) (accepted (planFrom format ch 0 r (rowsIn ws)) a .1) (block .attached)
         where
           step : (gs : List Group) → planFrom format ch 0 r (rowsIn ws) ≡ groups gs
               → attach format (rowAs (wordsAt ws 0)) (gapBetween (stepOf format) (r .time) (getD ws 0 0)) (groups (block .rest)) ≡ groups gs
               → joined format r (planFrom format ch 0 r (rowsIn ws))
-              ≡ cond (joinsPlan format r (rowAs (wordsAt ws 0) .class) (rowAs (wordsAt ws 0) .length) (gapBetween (stepOf format) (r .time) (getD ws 0 0)))
+              ≡ cond (joinsRun format r (rowAs (wordsAt ws 0) .class) (rowAs (wordsAt ws 0) .length) (gapBetween (stepOf format) (r .time) (getD ws 0 0)))
               (suc (joined format (rowAs (wordsAt ws 0)) (planFrom format ch 0 (rowAs (wordsAt ws 0)) (rowsIn (drop (rowWidth * ch) ws))))) 0
           step [] e x = absurd (attached-some format _ _ (block .rest) x)
           step (g ∷ gs) e x =

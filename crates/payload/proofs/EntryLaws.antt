@@ -38,6 +38,10 @@ pub min-few : (format : ℕ) → minEntry format ≤ 2
 unfolding minEntry
 min-few format = by-test (formatOf format .counted) (λ a. rw a (omega arith)) (λ a. rw a (omega arith))
 
+pub min-counted : (format : ℕ) → formatOf format .counted ≡ true → minEntry format ≡ 2
+unfolding minEntry
+min-counted format c = rw c
+
 pub size-some : (format n : ℕ) → 1 ≤ entrySize format n
 unfolding entrySize
 size-some format n = omega (arith, min-some format)

@@ -59,5 +59,5 @@ abbrev pub stepOf : ℕ → ℕ
 stepOf format = formatOf format .step
 
 -- the most frame-blocks that an entry can leave out before one of its own: a displacement has 4 bits
-abbrev pub maxGap : ℕ → ℕ
+unfoldable pub maxGap : ℕ → ℕ
 maxGap format = cond (formatOf format .displaced) 15 0

@@ -9,10 +9,11 @@ use lib.Dec.{eqb}
 use borrow.Author.Tests.{le-leb, eq-eqb, leb-true, eqb-true}
 use Rattle.rtp.specs.Ranges.{gsmHr}
 use Rattle.rtp.proofs.TestLaws.{by-test, not-both, both, either}
+use Rattle.payload.specs.Formats.{maxGap}
 use Rattle.payload.specs.Contents.{Group, groups}
 use Rattle.payload.specs.Rows.{Row}
 use Rattle.payload.specs.Codes.{noCode, codeFor}
-use Rattle.encoder.specs.Plans.{maxGap, headGap, single, joins, attach}
+use Rattle.encoder.specs.Plans.{headGap, single, joins, attach}
 use Rattle.roundtrip.proofs.EntryBackLaws.{Run}
 use Rattle.roundtrip.proofs.TableBackLaws.{Runs}
 use Rattle.roundtrip.proofs.TableBlockLaws.{Block, blocksIn}

@@ -10,11 +10,12 @@ use lib.Dec.{leb, eqb}
 use borrow.Author.Tests.{le-ltb, le-leb, lt-leb, ne-eqb, eqb-true}
 use Rattle.rtp.specs.Ranges.{g719Interleaved, gsmHr}
 use Rattle.rtp.proofs.TestLaws.{by-test}
+use Rattle.payload.specs.Formats.{maxGap}
 use Rattle.payload.specs.declared.contents.Entry.{Entry}
 use Rattle.payload.specs.declared.contents.EntryRead.{EntryRead}
 use Rattle.payload.specs.Contents.{entrySize, entryOf, Group, halfAt, gapAt, gapsFrom, meaning}
 use Rattle.payload.specs.Codes.{noCode, codeFor}
-use Rattle.encoder.specs.Plans.{maxGap, headGap}
+use Rattle.encoder.specs.Plans.{headGap}
 use Rattle.encoder.specs.Bytes.{halves, flag, entryBytes}
 use Rattle.encoder.proofs.EntryLaws.{length-halves}
 use Rattle.payload.proofs.CodeLaws.{code-back, code-small}

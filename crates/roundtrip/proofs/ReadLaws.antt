@@ -11,6 +11,7 @@ use Rattle.rtp.specs.Numbers.{byteAt}
 use Rattle.rtp.specs.Ranges.{g719Interleaved}
 use Rattle.rtp.proofs.TestLaws.{by-test}
 use Rattle.rtp.proofs.RedundancyLaws.{Bytes, bytes-drop}
+use Rattle.payload.specs.Formats.{maxGap}
 use Rattle.payload.specs.declared.frames.Coded.{Coded}
 use Rattle.payload.specs.declared.contents.Entry.{Entry}
 use Rattle.payload.specs.declared.contents.EntryRead.{EntryRead}
@@ -19,7 +20,7 @@ use Rattle.payload.specs.Contents.{minEntry, codeIn, blocksIn, entrySize, coded
 use Rattle.payload.proofs.EntryLaws.{past, fair}
 use Rattle.payload.proofs.ContentsLaws.{contents-step, shorter, blocks-of}
 use Rattle.payload.specs.Codes.{noCode, codeFor}
-use Rattle.encoder.specs.Plans.{maxGap, headGap}
+use Rattle.encoder.specs.Plans.{headGap}
 use Rattle.payload.proofs.CodeLaws.{code-some}
 use Rattle.roundtrip.proofs.EntryBackLaws.{Run}
 use Rattle.roundtrip.proofs.TableBackLaws.{Runs}

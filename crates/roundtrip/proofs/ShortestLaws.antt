@@ -9,9 +9,10 @@ use lib.Dec.{eqb}
 use borrow.Author.Tests.{eq-eqb}
 use Rattle.rtp.specs.Ranges.{g719Interleaved, gsmHr}
 use Rattle.rtp.proofs.TestLaws.{by-test, not-both}
+use Rattle.payload.specs.Formats.{maxGap}
 use Rattle.payload.specs.Contents.{entrySize, Group, Contents, groups, sizeIn}
 use Rattle.payload.specs.Rows.{Row}
-use Rattle.encoder.specs.Plans.{maxGap, headGap, joins, attach}
+use Rattle.encoder.specs.Plans.{headGap, joins, attach}
 use Rattle.roundtrip.proofs.TableBackLaws.{Runs}
 use Rattle.roundtrip.proofs.TableBlockLaws.{Block, blocksOf, blocksIn}
 use Rattle.roundtrip.proofs.AttachLaws.{joined, joins-so, firstGap}

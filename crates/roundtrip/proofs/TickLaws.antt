@@ -7,7 +7,7 @@ use lib.Dec.{eqb}
 use Rattle.rtp.specs.Ranges.{gsmHr}
 use Rattle.rtp.specs.Time.{difference}
 use Rattle.rtp.proofs.TestLaws.{by-test}
-use Rattle.payload.specs.Frames.{stepOf}
+use Rattle.payload.specs.Formats.{stepOf}
 use Rattle.payload.specs.Rows.{placed}
 use Rattle.encoder.specs.Plans.{ticksAfter, gapBetween}
 
