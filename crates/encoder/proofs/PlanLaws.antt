@@ -43,6 +43,7 @@ size-next format n = by-test (formatOf format .displaced) (λ a. rw a (omega ari
 -- a frame-block before a plan, in the plan's numbers
 
 pub record Joins (format : ℕ) (r : Row) (g : Group) : Type 0 where
+  pub runs : formatOf format .counted ≡ true
   pub class : r .class ≡ g .class
   pub length : r .length ≡ g .length
   pub near : headGap g ≤ maxGap format
@@ -52,7 +53,7 @@ joins-true format r g h =
     let a = both (formatOf format .counted) _ h in
     let b = both (eqb (r .class) (g .class)) _ (a .1) in
     let d = both (eqb (r .length) (g .length)) _ (b .1) in
-    record { class = eqb-true (r .class) (g .class) (b .0); length = eqb-true (r .length) (g .length) (d .0); near = leb-true (headGap g) (maxGap format) (d .1) }
+    record { runs = a .0; class = eqb-true (r .class) (g .class) (b .0); length = eqb-true (r .length) (g .length) (d .0); near = leb-true (headGap g) (maxGap format) (d .1) }
 
 pub frames-more : (n ch len : ℕ) → suc n * ch * len ≡ ch * len + n * ch * len
 frames-more n ch len = rw (suc-mul n ch, add-mul (n * ch) ch len) (omega arith)

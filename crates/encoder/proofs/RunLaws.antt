@@ -11,10 +11,11 @@ use lib.Dec.{ltb, eqb}
 use borrow.Author.Tests.{ltb-true, ltb-false, eqb-true}
 use Rattle.rtp.specs.Sizes.{rowWidth}
 use Rattle.rtp.proofs.TestLaws.{by-test}
-use Rattle.payload.specs.Formats.{formatOf, stepOf, maxGap}
+use Rattle.payload.specs.Formats.{stepOf}
 use Rattle.payload.specs.Contents.{Group, Contents, refused, groups}
 use Rattle.payload.specs.Rows.{Row}
 use Rattle.payload.specs.Codes.{noCode, codeFor}
+use Rattle.payload.proofs.FormatLaws.{gap-small}
 use Rattle.encoder.specs.Lists.{rowsIn}
 use Rattle.encoder.specs.Plans.{joinsRun, gapBetween, headGap, single, joins, attach, planFrom}
 use Rattle.encoder.specs.Room.{rowAs, wordsAt, timed, joined, Accepted, blockGaps, runGroup, Halves, Direct}
@@ -83,10 +84,6 @@ pub record Run (format ch : ℕ) (p : Row) (ws : List ℕ) (n : ℕ) (g : Group)
   pub rest : planFrom format ch 0 (timed (getD ws (rowWidth * ch * n - rowWidth * ch) 0)) (rowsIn (drop (rowWidth * ch * n) ws)) ≡ groups gs
   pub direct : Direct gs
 
-max-gap-small : (format : ℕ) → maxGap format < 16
-unfolding maxGap
-max-gap-small format = by-test (formatOf format .displaced) (λ a. rw a (omega arith)) (λ a. rw a (omega arith))
-
 module _ (format ch : ℕ) (p : Row) (ws : List ℕ) (g : Group) (gs : List Group) (b : Block format ch p ws (g ∷ gs)) where
   run-alone : g ≡ single (rowAs (wordsAt ws 0)) (gapBetween (stepOf format) (p .time) (getD ws 0 0)) → gs ≡ b .rest → Direct (b .rest) → Run format ch p ws 1 g gs
   unfolding blockGaps
@@ -118,7 +115,7 @@ module _ (format ch : ℕ) (p : Row) (ws : List ℕ) (g : Group) (gs : List Grou
         some = omega arith;
         enough = omega (arith, w, i .enough, b .enough, length-drop (rowWidth * ch) ws);
         coded = starts-code format (p .time) (rowAs (wordsAt ws 0)) (b .started);
-        near = λ q. subst (λ (k : Group). Halves (k .gaps)) (sym x) (subst (λ (k : Group). headGap k < 16) x q, i .near (omega (arith, t .near, max-gap-small format)));
+        near = λ q. subst (λ (k : Group). Halves (k .gaps)) (sym x) (subst (λ (k : Group). headGap k < 16) x q, i .near (omega (arith, t .near, gap-small format)));
         rest = ap (λ (k : ℕ). planFrom format ch 0 (timed (getD ws k 0)) (rowsIn (drop (rowWidth * ch * suc m) ws))) v
             ∙ ap (λ (k : ℕ). planFrom format ch 0 (timed k) (rowsIn (drop (rowWidth * ch * suc m) ws))) (sym (getD-drop (rowWidth * ch) ws (rowWidth * ch * m - rowWidth * ch) 0))
             ∙ ap (λ (k : List ℕ). planFrom format ch 0 (timed (getD (drop (rowWidth * ch) ws) (rowWidth * ch * m - rowWidth * ch) 0)) (rowsIn k)) (ap (λ (k : ℕ). drop k ws) w ∙ sym (drop-drop (rowWidth * ch * m) (rowWidth * ch) ws))

@@ -27,7 +27,7 @@ pub past : (b : Bool) (r : Refusal) (x : EntryRead) (e : Entry) → cond b (Entr
 past true r x e h = let z : _≡_ {A = ℕ} 0 1 = cc in absurd (omega arith)
 past false r x e h = (refl, h)
 
-same-entry : (a b : Entry) → EntryRead.Entry a ≡ EntryRead.Entry b → a ≡ b
+pub same-entry : (a b : Entry) → EntryRead.Entry a ≡ EntryRead.Entry b → a ≡ b
 same-entry a b h = cc
 
 pub min-some : (format : ℕ) → 1 ≤ minEntry format
@@ -45,6 +45,10 @@ min-counted format c = rw c
 pub size-some : (format n : ℕ) → 1 ≤ entrySize format n
 unfolding entrySize
 size-some format n = omega (arith, min-some format)
+
+pub size-min : (format n : ℕ) → minEntry format ≤ entrySize format n
+unfolding entrySize
+size-min format n = omega arith
 
 -- a displacement lies in its entry
 pub gap-within : (format k n : ℕ) → formatOf format .displaced ≡ true → entrySize format (k + 1) ≤ n → minEntry format + k / 2 < n

@@ -11,7 +11,7 @@ use Rattle.rtp.proofs.TestLaws.{by-test}
 use Rattle.payload.specs.declared.formats.Format.{Format}
 use Rattle.payload.specs.declared.frames.Frame.{Frame}
 use Rattle.payload.specs.declared.frames.Coded.{Coded}
-use Rattle.payload.specs.Formats.{noCode, g719Format, gsmFormat, noFormat, formatOf, stepOf}
+use Rattle.payload.specs.Formats.{noCode, g719Format, gsmFormat, noFormat, formatOf, stepOf, maxGap}
 use Rattle.payload.specs.Frames.{maxClass, g719Length, lengthIn, frameIn, frameOf}
 use Rattle.payload.specs.Room.{InTable}
 use Rattle.payload.proofs.TableRule.{allBelow, at}
@@ -24,14 +24,22 @@ each P g h n format =
     (λ a. by-test (eqb format g719Interleaved) (λ b. rw (a, b) (g true))
     (λ b. by-test (eqb format gsmHr) (λ c. rw (a, b, c) h) (λ c. rw (a, b, c) n)))
 
--- a frame-block's ticks
+-- a frame-block's ticks: none has more than G.719's
+abbrev pub maxStep : ℕ
+maxStep = g719Format false .step
+
 pub record Step (step : ℕ) : Type 0 where
   pub some : 0 < step
-  pub small : step ≤ 960
+  pub small : step ≤ maxStep
 
 pub step-fine : (format : ℕ) → Step (stepOf format)
 step-fine = each (λ f. Step (f .step)) (λ b. record { some = omega arith; small = omega arith })
     (record { some = omega arith; small = omega arith }) (record { some = omega arith; small = omega arith })
+
+-- a gap has 4 bits
+pub gap-small : (format : ℕ) → maxGap format ≤ 15
+unfolding maxGap
+gap-small format = by-test (formatOf format .displaced) (λ a. rw a (omega arith)) (λ a. rw a (omega arith))
 
 -- a code in an entry's first byte, below F and above the reserved bits
 pub record Placed (f : Format) : Type 0 where

@@ -2,7 +2,7 @@ use Prim.Native.Nat.{ℕ, _*_, _≤_}
 use mathlib.Core.Path.{ap}
 use native.Mathlib.Omega.{arith}
 use native.Mathlib.Nat.{mul-le-mul-left}
-use Rattle.payload.proofs.FormatLaws.{step-fine}
+use Rattle.payload.proofs.FormatLaws.{maxStep, step-fine}
 use borrow.Author.Needs.{needs}
 use Rattle.payload.proofs.frames.ticks.Statement.{statement}
 use Rattle.payload.proofs.frames.ticks.Tie as tie
@@ -11,7 +11,7 @@ step-of-requires : tie.Need-step-of-requires
 step-of-requires c κs = search needs
 
 mul-result : tie.Need-mul-result
-mul-result c = let s : c .step-of .result ≤ 960 = omega (arith, c .step-of .ensures, step-fine (c .before .args .format) .small) in omega (arith, mul-le-mul-left (c .before .args .blocks) s, c .before .pre)
+mul-result c = let s : c .step-of .result ≤ maxStep = omega (arith, c .step-of .ensures, step-fine (c .before .args .format) .small) in omega (arith, mul-le-mul-left (c .before .args .blocks) s, c .before .pre)
 
 returns : tie.Need-returns
 returns c = ap (λ (n : ℕ). c .before .args .blocks * n) (c .step-of .ensures)
