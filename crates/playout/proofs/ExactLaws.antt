@@ -13,7 +13,7 @@ use Rattle.playout.specs.Sizes.{slots, storeSize}
 use Rattle.playout.specs.Pairs.{half, ahead}
 use Rattle.playout.specs.Copies.{Copy, side, better}
 use Rattle.playout.specs.Entries.{Entry, Held, view, views, put}
-use Rattle.playout.specs.Verdicts.{fits, judge, Counts, noCounts, counted, judgeAll}
+use Rattle.playout.specs.Verdicts.{fits, judge, Counts, noCounts, counted, tally, judgeAll}
 use Rattle.playout.specs.Lists.{SamePair, Playout, WithinStretch, Distinct, AtMost}
 use Rattle.playout.proofs.MergeLaws.{bests-like}
 use Rattle.playout.proofs.CountLaws.{Differ, no-more}
@@ -45,8 +45,8 @@ verdict-grows n Better = (omega arith, omega arith)
 verdict-grows n NoRoom = (omega arith, omega arith)
 verdict-grows n Inserted = (omega arith, omega arith)
 
-counts-grow : (h : Held) (s : List ℕ) (n : Counts) (cs : List Copy) → (n .far ≤ judgeAll h s n cs .counts .far) × (n .noRoom ≤ judgeAll h s n cs .counts .noRoom)
-unfolding judgeAll
+counts-grow : (h : Held) (s : List ℕ) (n : Counts) (cs : List Copy) → (n .far ≤ tally n (judgeAll h s cs .judgements) .far) × (n .noRoom ≤ tally n (judgeAll h s cs .judgements) .noRoom)
+unfolding judgeAll tally
 counts-grow h s n [] = (omega arith, omega arith)
 counts-grow h s n (c ∷ cs) =
     let r = counts-grow (judge h s c .held) (judge h s c .store) (counted n (judge h s c .verdict)) cs in
@@ -101,8 +101,8 @@ module _ (h : Held) (s : List ℕ) (c : Copy) (done : List Copy) (S : Sound h s)
       )
 
 -- all copies
-settled-all : (cs done : List Copy) (h : Held) (s : List ℕ) (n : Counts) → Sound h s → h .drawn ≡ false → length (h .entries) ≤ slots → ((x : Copy) → List·Memᴰ x cs ⊎ List·Memᴰ x done → IsFrame x) → WithinStretch done → Playout done (views s (h .entries)) → Stays n (judgeAll h s n cs .counts) → WithinStretch (reverseAux cs done) × AtMost slots (reverseAux cs done)
-unfolding judgeAll
+settled-all : (cs done : List Copy) (h : Held) (s : List ℕ) (n : Counts) → Sound h s → h .drawn ≡ false → length (h .entries) ≤ slots → ((x : Copy) → List·Memᴰ x cs ⊎ List·Memᴰ x done → IsFrame x) → WithinStretch done → Playout done (views s (h .entries)) → Stays n (tally n (judgeAll h s cs .judgements)) → WithinStretch (reverseAux cs done) × AtMost slots (reverseAux cs done)
+unfolding judgeAll tally
 settled-all [] done h s n S d l F W D k = (W, λ ds sub A. le-trans (at-most-played done (views s (h .entries)) D ds sub A) (omega (arith, length-map (h .entries) (view s))))
 settled-all (c ∷ cs) done h s n S d l F W D k =
     let FD : Frames (c ∷ done) = λ x m. F x (⊎-elim (λ (e : x ≡ c). inl (here e)) (λ m. inr m) (cases m)) in
@@ -128,7 +128,7 @@ in-reverse x (a ∷ l) r (inr m) = in-reverse x l (a ∷ r) (inr (there m))
 
 -- the premises hold just where no copy is far or without room
 module _ (s : List ℕ) (cs : List Copy) (l : storeSize ≤ length s) (F : Frames cs) where
-  pub settled-premises : gathered s cs .counts .far ≡ 0 → gathered s cs .counts .noRoom ≡ 0 → WithinStretch cs × AtMost slots cs
+  pub settled-premises : tally noCounts (gathered s cs .judgements) .far ≡ 0 → tally noCounts (gathered s cs .judgements) .noRoom ≡ 0 → WithinStretch cs × AtMost slots cs
   settled-premises f r =
       let k =
       settled-all cs [] fresh s noCounts (fresh-sound s l) refl (omega arith) (λ x o. F x (⊎-elim (λ (m : List·Memᴰ x cs). m) (λ m. absurd (nowhere m)) o))
@@ -138,5 +138,5 @@ module _ (s : List ℕ) (cs : List Copy) (l : storeSize ≤ length s) (F : Frame
       let back : (x : Copy) → List·Memᴰ x cs → List·Memᴰ x (reverseAux cs []) = λ x m. in-reverse x cs [] (inl m) in
       (record { base = k .0 .base; word = k .0 .word; within = λ x m. k .0 .within x (back x m) }, λ ds sub D. k .1 ds (λ d m. back d (sub d m)) D)
 
-  pub premises-exact : (WithinStretch cs × AtMost slots cs) ↔ ((gathered s cs .counts .far ≡ 0) × (gathered s cs .counts .noRoom ≡ 0))
+  pub premises-exact : (WithinStretch cs × AtMost slots cs) ↔ ((tally noCounts (gathered s cs .judgements) .far ≡ 0) × (tally noCounts (gathered s cs .judgements) .noRoom ≡ 0))
   premises-exact = (λ p. let k = premises-settled s cs l F (p .0) (p .1) in (k .1, k .2), λ q. settled-premises (q .0) (q .1))

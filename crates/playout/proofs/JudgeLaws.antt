@@ -1,6 +1,6 @@
 -- The cases of a judgement, and what a judgement leaves as it was.
-use mathlib.Core.Path.{_≡_, refl, _∙_}
-use mathlib.Core.List.{List, [], _∷_}
+use mathlib.Core.Path.{_≡_, refl, ap, _∙_}
+use mathlib.Core.List.{List, [], _∷_, _++_}
 use mathlib.Core.Bool.{Bool, true, false, cond}
 use mathlib.Core.Option.{Option, none, some}
 use Prim.Native.Nat.{ℕ, _+_, _≤_, _<_}
@@ -13,7 +13,7 @@ use Rattle.playout.specs.declared.verdict.Verdict.the-variants.{Late, Fa
 use Rattle.playout.specs.Sizes.{slots}
 use Rattle.playout.specs.Copies.{Copy, better}
 use Rattle.playout.specs.Entries.{Entry, Held, view, entryOf, sideOfEntry, held, freeSlot, always, placed}
-use Rattle.playout.specs.Verdicts.{isLate, isFar, Judged, keeps, lays, judgeHeld, judge, Counts, counted, judgeAll}
+use Rattle.playout.specs.Verdicts.{isLate, isFar, Judged, keeps, lays, judgeHeld, judge, Counts, counted, Judgement, tally, Gathered, judgeAll}
 use Rattle.playout.proofs.MergeLaws.{put-longer, put-level}
 
 -- the entry that holds the pair of a copy
@@ -95,16 +95,23 @@ counted-added n NoRoom = omega arith
 counted-added n Inserted = refl
 
 -- the entries grow by what is counted as inserted
-pub judgeAll-count : (h : Held) (s : List ℕ) (n : Counts) (cs : List Copy) → length (judgeAll h s n cs .held .entries) + n .inserted ≡ length (h .entries) + judgeAll h s n cs .counts .inserted
-unfolding judgeAll
+pub judgeAll-count : (h : Held) (s : List ℕ) (n : Counts) (cs : List Copy) → length (judgeAll h s cs .held .entries) + n .inserted ≡ length (h .entries) + tally n (judgeAll h s cs .judgements) .inserted
+unfolding judgeAll tally
 judgeAll-count h s n [] = refl
 judgeAll-count h s n (c ∷ cs) =
     omega (arith, judgeAll-count (judge h s c .held) (judge h s c .store) (counted n (judge h s c .verdict)) cs, judge-count h s c, counted-added n (judge h s c .verdict))
 
-pub judgeAll-last : (h : Held) (s : List ℕ) (n : Counts) (cs : List Copy) → (judgeAll h s n cs .held .drawn ≡ h .drawn) × (judgeAll h s n cs .held .lastTime ≡ h .lastTime) × (judgeAll h s n cs .held .lastChannel ≡ h .lastChannel)
+pub tally-append : (n : Counts) (js ks : List Judgement) → tally n (js ++ ks) ≡ tally (tally n js) ks
+unfolding tally
+tally-append n [] ks = refl
+tally-append n (j ∷ js) ks = tally-append (counted n (j .verdict)) js ks
+
+-- one list of copies after another
+pub judgeAll-append : (h : Held) (s : List ℕ) (xs ys : List Copy)
+    → let g = judgeAll h s xs in let k = judgeAll (g .held) (g .store) ys in
+    judgeAll h s (xs ++ ys) ≡ record { held = k .held; store = k .store; judgements = g .judgements ++ k .judgements }
 unfolding judgeAll
-judgeAll-last h s n [] = (refl, refl, refl)
-judgeAll-last h s n (c ∷ cs) =
-    let r = judgeAll-last (judge h s c .held) (judge h s c .store) (counted n (judge h s c .verdict)) cs in
-    let j = judge-last h s c in
-    (r .0 ∙ j .0, r .1 ∙ j .1, r .2 ∙ j .2)
+judgeAll-append h s [] ys = refl
+judgeAll-append h s (c ∷ xs) ys =
+    ap (λ (g : Gathered). record { held = g .held; store = g .store; judgements = record { copy = c; verdict = judge h s c .verdict } ∷ g .judgements })
+    (judgeAll-append (judge h s c .held) (judge h s c .store) xs ys)

@@ -15,7 +15,7 @@ use Rattle.playout.specs.Sizes.{slots, storeSize}
 use Rattle.playout.specs.Pairs.{half, ahead}
 use Rattle.playout.specs.Copies.{Copy, side, rank, betterFrame, better}
 use Rattle.playout.specs.Entries.{Entry, Held, view, views, entryOf, put, held, freeSlot}
-use Rattle.playout.specs.Verdicts.{allWithin, fits, judge, Counts, noCounts, counted, Gathered, judgeAll}
+use Rattle.playout.specs.Verdicts.{allWithin, fits, judge, Counts, noCounts, counted, tally, Gathered, judgeAll}
 use Rattle.playout.specs.Lists.{Ascending, SamePair, Playout, WithinStretch, Distinct, AtMost}
 use Rattle.playout.proofs.MergeLaws.{Cmp, cmp, Ranks, byKey, Asc, Chain, Agree, asc-chain, chain-asc, asc-one, put-longer, put-same, held-map, put-cong, Bests, bests-none, bests-like, bests-put, bests-one}
 use Rattle.playout.proofs.RankLaws.{greater-self, greater-chain, greater-turn, better-equal}
@@ -63,7 +63,7 @@ or-true : (p : Bool) → (p || true) ≡ true
 or-true true = refl
 or-true false = refl
 
-within-all : (b : ℕ) (es : List Entry) → ((e : Entry) → List·Memᴰ e es → ahead (e .time) b < half) → allWithin b es ≡ true
+pub within-all : (b : ℕ) (es : List Entry) → ((e : Entry) → List·Memᴰ e es → ahead (e .time) b < half) → allWithin b es ≡ true
 unfolding allWithin
 within-all b [] f = refl
 within-all b (h ∷ t) f = rw (lt-ltb (ahead (h .time) b) half (f h (here refl)), within-all b t (λ e m. f e (there m)))
@@ -163,10 +163,10 @@ settled-counts n Inserted z = (refl, refl, refl)
 module _ (b : ℕ) (lb : b < 2 ^ 32) (accepted : List Copy) (ok : (x : Copy) → List·Memᴰ x accepted → InStretch b x) where
   module _ (few : AtMost slots accepted) where
     abbrev Gathers : (Copy → Type 0) → List Copy → Counts → Gathered → Type 0
-    Gathers P cs n g = Best b lb (λ x. List·Memᴰ x cs ⊎ P x) (views (g .store) (g .held .entries)) × NoLoss n (g .counts)
+    Gathers P cs n g = Best b lb (λ x. List·Memᴰ x cs ⊎ P x) (views (g .store) (g .held .entries)) × NoLoss n (tally n (g .judgements))
 
-    gathers : {P : Copy → Type 0} (cs : List Copy) (h : Held) (s : List ℕ) (n : Counts) → Sound h s → h .drawn ≡ false → ((x : Copy) → List·Memᴰ x cs → List·Memᴰ x accepted) → ((x : Copy) → P x → List·Memᴰ x accepted) → Best b lb P (views s (h .entries)) → Gathers P cs n (judgeAll h s n cs)
-    unfolding judgeAll
+    gathers : {P : Copy → Type 0} (cs : List Copy) (h : Held) (s : List ℕ) (n : Counts) → Sound h s → h .drawn ≡ false → ((x : Copy) → List·Memᴰ x cs → List·Memᴰ x accepted) → ((x : Copy) → P x → List·Memᴰ x accepted) → Best b lb P (views s (h .entries)) → Gathers P cs n (judgeAll h s cs)
+    unfolding judgeAll tally
     gathers [] h s n S d all own B = (bests-like (copyPlace b) better (ranks b lb) (λ x p. inr p) (λ x q. ⊎-elim (λ m. absurd (nowhere m)) (λ p. p) q) B, (refl, refl, refl))
     gathers {P} (c ∷ cs) h s n S d all own B =
         let m = all c (here refl) in
@@ -221,7 +221,7 @@ module _ (b : ℕ) (lb : b < 2 ^ 32) (accepted : List Copy) (ok : (x : Copy) →
 -- ---- the statements
 -- copies judged from nothing held
 abbrev pub gathered : List ℕ → List Copy → Gathered
-gathered s cs = judgeAll fresh s noCounts cs
+gathered s cs = judgeAll fresh s cs
 
 pub in-stretch : (cs : List Copy) → Frames cs → (W : WithinStretch cs) → (x : Copy) → List·Memᴰ x cs → InStretch (W .base) x
 in-stretch cs F W x m = record { frame = F x m; near = W .within x m }
@@ -236,7 +236,7 @@ module _ (s : List ℕ) (cs : List Copy) (l : storeSize ≤ length s) (F : Frame
       (bests-like (copyPlace (W .base)) better (ranks (W .base) (W .word)) (λ x o. ⊎-elim (λ m. m) (λ p. absurd p) o) (λ x m. inl m) (whole .0))
 
   -- and no copy is late, far or without room
-  pub premises-settled : NoLoss noCounts (gathered s cs .counts)
+  pub premises-settled : NoLoss noCounts (tally noCounts (gathered s cs .judgements))
   premises-settled = whole .1
 
 -- the same copies, in whatever order and however often, have the same playout list

@@ -15,7 +15,7 @@ use Rattle.playout.specs.Sizes.{slots, slotSize, storeSize}
 use Rattle.playout.specs.Pairs.{half, ahead, order, isAfter}
 use Rattle.playout.specs.Copies.{Copy}
 use Rattle.playout.specs.Entries.{Entry, Held, frameOf, view, entryOf, sideOfEntry, held, freeSlot, always, placed}
-use Rattle.playout.specs.Verdicts.{isLate, isFar, allWithin, fits, lays, judge, Counts, counted, judgeAll}
+use Rattle.playout.specs.Verdicts.{isLate, isFar, allWithin, fits, lays, judge, judgeAll}
 use Rattle.playout.proofs.MergeLaws.{byKey, Asc, Chain, Agree, asc-chain, chain-asc, put-from, held-mem, put-cong, put-asc}
 use Rattle.playout.proofs.CountLaws.{differ-one}
 use Rattle.playout.proofs.RankLaws.{FrameClass}
@@ -249,17 +249,16 @@ module _ (h : Held) (s : List ℕ) (c : Copy) (S : Sound h s) (F : IsFrame c) wh
       (λ u v w q. stored-length c (h .entries) s (S .room) (F .size) (freeSlot (h .entries)) (free-clash q .0))
 
 -- ---- copies judged in turn
-pub judgeAll-sound : (h : Held) (s : List ℕ) (n : Counts) (cs : List Copy) → Sound h s → Frames cs → Sound (judgeAll h s n cs .held) (judgeAll h s n cs .store)
+pub judgeAll-sound : (h : Held) (s : List ℕ) (cs : List Copy) → Sound h s → Frames cs → Sound (judgeAll h s cs .held) (judgeAll h s cs .store)
 unfolding judgeAll
-judgeAll-sound h s n [] S F = S
-judgeAll-sound h s n (c ∷ cs) S F =
-    judgeAll-sound (judge h s c .held) (judge h s c .store) (counted n (judge h s c .verdict)) cs (judge-sound h s c S (F c (here refl))) (λ x m. F x (there m))
+judgeAll-sound h s [] S F = S
+judgeAll-sound h s (c ∷ cs) S F = judgeAll-sound (judge h s c .held) (judge h s c .store) cs (judge-sound h s c S (F c (here refl))) (λ x m. F x (there m))
 
-pub judgeAll-length : (h : Held) (s : List ℕ) (n : Counts) (cs : List Copy) → Sound h s → Frames cs → length (judgeAll h s n cs .store) ≡ length s
+pub judgeAll-length : (h : Held) (s : List ℕ) (cs : List Copy) → Sound h s → Frames cs → length (judgeAll h s cs .store) ≡ length s
 unfolding judgeAll
-judgeAll-length h s n [] S F = refl
-judgeAll-length h s n (c ∷ cs) S F =
-    judgeAll-length (judge h s c .held) (judge h s c .store) (counted n (judge h s c .verdict)) cs (judge-sound h s c S (F c (here refl))) (λ x m. F x (there m))
+judgeAll-length h s [] S F = refl
+judgeAll-length h s (c ∷ cs) S F =
+    judgeAll-length (judge h s c .held) (judge h s c .store) cs (judge-sound h s c S (F c (here refl))) (λ x m. F x (there m))
     ∙ judge-length h s c S (F c (here refl))
 
 -- ---- the first entry drawn

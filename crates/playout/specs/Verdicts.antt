@@ -78,15 +78,25 @@ counted n Better = record { late = n .late; far = n .far; repeated = n .repeated
 counted n NoRoom = record { late = n .late; far = n .far; repeated = n .repeated; better = n .better; noRoom = n .noRoom + 1; inserted = n .inserted }
 counted n Inserted = record { late = n .late; far = n .far; repeated = n .repeated; better = n .better; noRoom = n .noRoom; inserted = n .inserted + 1 }
 
--- copies judged in turn, each against what the one before left
+-- a copy and the verdict on it
+pub record Judgement : Type 0 where
+  pub copy : Copy
+  pub verdict : Verdict
+
+-- the counts after more verdicts
+unfoldable pub tally : Counts → List Judgement → Counts
+tally n [] = n
+tally n (j ∷ js) = tally (counted n (j .verdict)) js
+
+-- copies judged in turn, each against what the one before left: what is held and stored after all, and each copy with its verdict
 pub record Gathered : Type 0 where
   pub held : Held
   pub store : List ℕ
-  pub counts : Counts
+  pub judgements : List Judgement
 
-abbrev pub gatheredBy : Judged → Counts → Gathered
-gatheredBy j n = record { held = j .held; store = j .store; counts = counted n (j .verdict) }
-
-unfoldable pub judgeAll : Held → List ℕ → Counts → List Copy → Gathered
-judgeAll h s n [] = record { held = h; store = s; counts = n }
-judgeAll h s n (c ∷ cs) = let j = judge h s c in judgeAll (j .held) (j .store) (counted n (j .verdict)) cs
+unfoldable pub judgeAll : Held → List ℕ → List Copy → Gathered
+judgeAll h s [] = record { held = h; store = s; judgements = [] }
+judgeAll h s (c ∷ cs) =
+    let j = judge h s c in
+    let g = judgeAll (j .held) (j .store) cs in
+    record { held = g .held; store = g .store; judgements = record { copy = c; verdict = j .verdict } ∷ g .judgements }

@@ -11,7 +11,7 @@ use Rattle.payload.specs.Frames.{noData, sound, sid, gsmLength}
 use Rattle.payload.specs.Codes.{noCode, lengthCode, codeFor}
 use Rattle.playout.specs.Sizes.{slotSize}
 use Rattle.playout.proofs.RankLaws.{FrameClass}
-use Rattle.reorder.specs.WellFormed.{allowed}
+use Rattle.reorder.specs.Model.{allowed}
 
 length-short : (n : ℕ) → ltb (lengthCode n) noCode ≡ true → n ≤ slotSize
 unfolding lengthCode

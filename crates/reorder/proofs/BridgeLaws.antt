@@ -18,10 +18,9 @@ use Rattle.reorder.specs.declared.buffer.Buffer.{Buffer}
 use Rattle.reorder.specs.Bits.{heldIn, wordsOf}
 use Rattle.reorder.specs.Layout.{tagOf, padTo, column, encode, decode}
 use Rattle.reorder.specs.WellFormed.{wellFormed}
-use Rattle.reorder.specs.Claims.{Column, Machine}
+use Rattle.reorder.specs.Arrays.{Column, Machine}
 use Rattle.reorder.proofs.LayoutLaws.{column-length, decode-encode}
-use Rattle.reorder.proofs.FormLaws.{Facts, facts, times-word}
-use Rattle.reorder.proofs.FormBackLaws.{well-formed}
+use Rattle.reorder.proofs.WellFormedLaws.{facts, times-word, well-formed}
 use Rattle.reorder.proofs.StateLaws.{Good, good-sound}
 
 -- a well-formed buffer's model

@@ -10,12 +10,22 @@ use Rattle.rtp.specs.Ranges.{inRange}
 use Rattle.rtp.specs.Refusals.{number}
 use Rattle.rtp.specs.declared.settings.Settings.{Settings}
 use Rattle.rtp.specs.declared.refusal.Refusal.the-variants.{SettingsOutOfRange, MalformedBuffer, AreaTooShort}
-use Rattle.packet.specs.Readings.{reading}
+use Rattle.packet.specs.Readings.{Outcome, reading}
 use Rattle.playout.specs.Sizes.{slotSize, storeSize}
+use Rattle.playout.specs.Entries.{Entry}
 use Rattle.reorder.specs.declared.buffer.Buffer.{Buffer}
-use Rattle.reorder.specs.Layout.{decode, fresh}
+use Rattle.reorder.specs.Layout.{decode, model, fresh}
 use Rattle.reorder.specs.WellFormed.{wellFormed}
-use Rattle.reorder.specs.Calls.{NewOutcome, noSettings, newCall, offerCall, offerRefused, offerRead, drawCall, drawRefused, drawFirst}
+use Rattle.reorder.specs.ModelCalls.{done, judgeRead, offerTo, earliest, drawFrom}
+use Rattle.reorder.specs.Calls.{NewOutcome, noSettings, newCall, OfferOutcome, offerRefused, offerDone, offerCall, DrawOutcome, drawRefused, drawDone, drawCall}
+
+-- an offer whose packet was read, or not
+abbrev pub offerRead : Buffer → List ℕ → List ℕ → List ℕ → Outcome → OfferOutcome
+offerRead b packet rows store o = offerDone b rows store (judgeRead (decode b) packet store o)
+
+-- a draw that goes through the areas, with the entries held
+abbrev pub drawFirst : Buffer → List ℕ → List ℕ → List Entry → DrawOutcome
+drawFirst b store area es = drawDone b area (done (earliest store es))
 
 pub new-in : (st : Settings) → inRange st ≡ true → newCall st ≡ record { refusal = 0; buffer = fresh st }
 unfolding newCall
@@ -37,16 +47,16 @@ module _ (b : Buffer) (packet rows store : List ℕ) where
 
     module _ (w : wellFormed b ≡ true) where
       pub offer-rows : length rows < rowArea → offerCall b packet rows store ≡ offerRefused AreaTooShort b rows store
-      unfolding offerCall
+      unfolding offerCall offerTo
       offer-rows a = rw (h, w, lt-ltb (length rows) rowArea a)
 
       pub offer-store : rowArea ≤ length rows → length store < storeSize → offerCall b packet rows store ≡ offerRefused AreaTooShort b rows store
-      unfolding offerCall
+      unfolding offerCall offerTo
       offer-store a s = rw (h, w, le-ltb (length rows) rowArea a, lt-ltb (length store) storeSize s)
 
       pub offer-reads : rowArea ≤ length rows → storeSize ≤ length store
           → offerCall b packet rows store ≡ offerRead b packet rows store (reading (b .settings) (length rows) packet)
-      unfolding offerCall
+      unfolding offerCall offerTo
       offer-reads a s = rw (h, w, le-ltb (length rows) rowArea a, le-ltb (length store) storeSize s)
 
 module _ (b : Buffer) (store area : List ℕ) where
@@ -61,13 +71,13 @@ module _ (b : Buffer) (store area : List ℕ) where
 
     module _ (w : wellFormed b ≡ true) where
       pub draw-store : length store < storeSize → drawCall b store area ≡ drawRefused AreaTooShort b area
-      unfolding drawCall
+      unfolding drawCall drawFrom
       draw-store s = rw (h, w, lt-ltb (length store) storeSize s)
 
       pub draw-area : storeSize ≤ length store → length area < slotSize → drawCall b store area ≡ drawRefused AreaTooShort b area
-      unfolding drawCall
+      unfolding drawCall drawFrom
       draw-area s a = rw (h, w, le-ltb (length store) storeSize s, lt-ltb (length area) slotSize a)
 
       pub draw-goes : storeSize ≤ length store → slotSize ≤ length area → drawCall b store area ≡ drawFirst b store area (decode b .entries)
-      unfolding drawCall
+      unfolding drawCall drawFrom
       draw-goes s a = rw (h, w, le-ltb (length store) storeSize s, le-ltb (length area) slotSize a)

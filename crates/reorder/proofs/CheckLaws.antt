@@ -1,8 +1,8 @@
--- The tests of a well-formed buffer, as the code asks them in turn.
+-- The tests of the entries, as the code asks them in turn.
 use Prim.Native.Nat.{ℕ, zero, suc, _+_, _-_, _/_, _%_, _≤_, _<_, Ordering, Ordering·lt, Ordering·eq, Ordering·gt}
 use mathlib.Core.Path.{_≡_, refl, sym, ap, _∙_}
 use mathlib.Core.List.{List}
-use mathlib.Core.Bool.{Bool, true, false, cond, not}
+use mathlib.Core.Bool.{Bool, true, false, cond, not, _&&_}
 use mathlib.Core.Option.{Option, none, some}
 use native.Mathlib.Numerals.{add-one}
 use native.Mathlib.Omega.{arith}
@@ -15,13 +15,12 @@ use Rattle.playout.specs.declared.order.Side.{Side}
 use Rattle.playout.specs.Entries.{Entry}
 use Rattle.reorder.specs.declared.buffer.Buffer.{Buffer}
 use Rattle.reorder.specs.declared.buffer.Fixed.{Fixed}
-use Rattle.reorder.specs.Bits.{heldIn, markOf, marked, isFree, claimed, sameWords}
+use Rattle.reorder.specs.Bits.{markOf, marked, isFree, claimed, sameWords}
 use Rattle.reorder.specs.Layout.{entryAt, entriesFrom, assembled}
-use Rattle.reorder.specs.WellFormed.{allowed, ascends, entryFine, fineFrom, wellFormed}
-use Rattle.reorder.specs.Checks.{sortFine, lastFineOf, restZero, entriesFine}
-use Rattle.reorder.proofs.TurnLaws.{up, turn}
-use Rattle.rtp.proofs.TestLaws.{not-both}
-pub use Rattle.rtp.proofs.TestLaws.{both, and-then}
+use Rattle.reorder.specs.Model.{allowed}
+use Rattle.reorder.specs.Checks.{classFine, ascends, passes, allPass}
+use Rattle.reorder.proofs.PositionLaws.{up, turn}
+use Rattle.rtp.proofs.TestLaws.{both}
 
 -- a callee's answer, tested by `if !`
 pub passed : {r t : Bool} → r ≡ t → not r ≡ false → t ≡ true
@@ -55,7 +54,7 @@ module _ (ts gs ls ss ws : List ℕ) (f : Fixed) where
 
   -- the entries from the i-th on are fine, where the slots before are `seen`
   abbrev pub restFine : ℕ → ℕ → List ℕ → Bool
-  restFine n i seen = fineFrom whole (getD ts 0 0) (beforeAt whole i) seen (entriesFrom whole (n - i) i)
+  restFine n i seen = allPass whole (getD ts 0 0) (beforeAt whole i) seen (entriesFrom whole (n - i) i)
 
   abbrev pub turnAt : ℕ → Bool
   turnAt i = turn (eqb (f .drawn) 0) (f .«last_time») (f .«last_channel») ts gs i
@@ -64,16 +63,16 @@ module _ (ts gs ls ss ws : List ℕ) (f : Fixed) where
   ascends-at zero = refl
   ascends-at (suc i) = refl
 
-  abbrev sort : ℕ → Bool
-  sort i = sortFine f (getD gs i 0) (getD ls i 0)
+  abbrev class : ℕ → Bool
+  class i = classFine f (getD gs i 0) (getD ls i 0)
 
-  entry-fine : (i : ℕ) (r : Bool) → cond (entryFine whole (getD ts 0 0) (beforeAt whole i) (entryAt whole i)) r false ≡ cond (sort i) (cond (turnAt i) r false) false
+  entry-fine : (i : ℕ) (r : Bool) → cond (passes whole (getD ts 0 0) (beforeAt whole i) (entryAt whole i)) r false ≡ cond (class i) (cond (turnAt i) r false) false
   entry-fine i r =
       go (allowed (f .settings .format) (getD gs i 0 / 256) (getD ls i 0)) (ltb (getD gs i 0 % 256) (f .settings .channels))
       (cond (eqb (f .drawn) 0) true (isAfter (order (getD ts i 0) (getD gs i 0 % 256) (f .«last_time») (f .«last_channel»)))) (ltb (ahead (getD ts i 0) (getD ts 0 0)) half) (ascends-at i)
     where
       go : {u v : Bool} (a b c d : Bool) → u ≡ v
-          → cond (cond a (cond b (cond c (cond d u false) false) false) false) r false ≡ cond (cond a b false) (cond (cond c (cond d v false) false) r false) false
+          → cond (cond a (cond b (cond c (cond d u false) false) false) false) r false ≡ cond (a && b) (cond (cond c (cond d v false) false) r false) false
       go true true true true e = ap (λ (u : Bool). cond u r false) e
       go true true true false e = refl
       go true true false d e = refl
@@ -82,21 +81,21 @@ module _ (ts gs ls ss ws : List ℕ) (f : Fixed) where
 
   module _ (n i : ℕ) (seen : List ℕ) where
     pub fine-end : n ≤ i → restFine n i seen ≡ sameWords seen ws
-    unfolding fineFrom entriesFrom
+    unfolding allPass entriesFrom
     fine-end h = rw (let e : n - i ≡ 0 = omega arith in e)
 
     module _ (l : i < n) where
       fine-step : restFine n i seen
-          ≡ cond (sort i) (cond (turnAt i) (cond (isFree seen (getD ss i 0)) (restFine n (i + 1) (marked seen (getD ss i 0))) false) false) false
-      unfolding fineFrom entriesFrom
+          ≡ cond (class i) (cond (turnAt i) (cond (isFree seen (getD ss i 0)) (restFine n (i + 1) (marked seen (getD ss i 0))) false) false) false
+      unfolding allPass entriesFrom
       fine-step =
           let e : n - i ≡ suc (n - suc i) = omega arith in
           rw (e, add-one i) (entry-fine i (cond (isFree seen (getD ss i 0)) (restFine n (suc i) (marked seen (getD ss i 0))) false))
 
-      pub fine-sort : sort i ≡ false → restFine n i seen ≡ false
-      fine-sort p = fine-step ∙ otherwise _ _ p
+      pub fine-class : class i ≡ false → restFine n i seen ≡ false
+      fine-class p = fine-step ∙ otherwise _ _ p
 
-      module _ (p : sort i ≡ true) where
+      module _ (p : class i ≡ true) where
         pub fine-turn : turnAt i ≡ false → restFine n i seen ≡ false
         fine-turn q = fine-step ∙ when _ _ p ∙ otherwise _ _ q
 
@@ -106,22 +105,6 @@ module _ (ts gs ls ss ws : List ℕ) (f : Fixed) where
 
           pub fine-more : isFree seen (getD ss i 0) ≡ true → restFine n i seen ≡ restFine n (i + 1) (marked seen (getD ss i 0))
           fine-more r = fine-step ∙ when _ _ p ∙ when _ _ q ∙ when _ _ r
-
-  -- the three tests of a buffer
-  module _ (n : ℕ) (held : n ≡ heldIn ws) where
-    well-formed-is : wellFormed whole ≡ cond (lastFineOf f) (cond (restZero ts gs ls ss n) (entriesFine ts gs ls ss ws f n) false) false
-    unfolding wellFormed
-    well-formed-is = ap (λ (m : ℕ). cond (lastFineOf f) (cond (restZero ts gs ls ss m) (entriesFine ts gs ls ss ws f m) false) false) (sym held)
-
-    pub rest-not : lastFineOf f ≡ true → restZero ts gs ls ss n ≡ false → wellFormed whole ≡ false
-    rest-not p q = well-formed-is ∙ when _ _ p ∙ otherwise _ _ q
-
-    pub formed-entries : lastFineOf f ≡ true → restZero ts gs ls ss n ≡ true → wellFormed whole ≡ entriesFine ts gs ls ss ws f n
-    formed-entries p q = well-formed-is ∙ when _ _ p ∙ when _ _ q
-
-  pub last-not : lastFineOf f ≡ false → wellFormed whole ≡ false
-  unfolding wellFormed
-  last-not p = otherwise _ _ p
 
 -- the side on which a pair lies, as the code matches it
 abbrev pub isAfterSide : Side → Bool

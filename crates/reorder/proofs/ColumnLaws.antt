@@ -15,9 +15,8 @@ use Rattle.rtp.proofs.TestLaws.{by-test}
 use Rattle.playout.specs.Pairs.{half, ahead, order, sideOf}
 use Rattle.playout.specs.declared.order.Side.{Side}
 use Rattle.reorder.specs.declared.columns.Place.{Place}
-use Rattle.reorder.specs.Columns.{insertAt, removeFirst, placeAt, placeFrom, Parted, withinFrom}
+use Rattle.reorder.specs.Columns.{insertAt, removeFirst, zeros, placeAt, placeFrom, Parted, withinFrom}
 use lib.Bits.{bitOr, or-add-and, and-le-l, and-le-r}
-use Rattle.reorder.specs.WellFormed.{zeros}
 
 -- Insertion: v and k - 1 of what follows are still to be stored from place i on, before the rest from place m on
 

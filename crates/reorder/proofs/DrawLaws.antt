@@ -14,10 +14,10 @@ use Rattle.reorder.specs.Bits.{wordsOf, unmarked}
 use Rattle.reorder.specs.Columns.{removeFirst}
 use Rattle.reorder.specs.Layout.{tagOf, column, entryAt, entriesFrom, decode}
 use Rattle.reorder.specs.Judging.{Drawable}
-use Rattle.reorder.specs.Calls.{drawFirst}
+use Rattle.reorder.proofs.CallLaws.{drawFirst}
 use Rattle.reorder.proofs.WordLaws.{slotOf, slotsOf, words-first}
 use Rattle.reorder.proofs.LayoutLaws.{column-rest, words-remove}
-use Rattle.reorder.proofs.FormLaws.{facts, decode-length, words-held, encode-decode}
+use Rattle.reorder.proofs.WellFormedLaws.{facts, decode-length, words-held, encode-decode}
 use Rattle.reorder.proofs.AllowedLaws.{allowed-frame}
 
 -- bytes laid at the front

@@ -6,15 +6,17 @@ use mathlib.Core.Bool.{Bool, true, false}
 use native.Mathlib.Nat.{not-suc-le-zero, le-of-suc-le-suc, add-zero, add-suc, suc-add, zero-add}
 use native.Mathlib.Omega.{arith}
 use lib.Dec.{eqb}
+use borrow.Author.Tests.{ne-eqb}
 use lib.ListN.{length, getD, take, drop, set, length-map, List·getD-map}
 use lib.Seq.{map-set-same}
 use Rattle.rtp.specs.declared.settings.Settings.{Settings}
+use Rattle.rtp.proofs.TestLaws.{not-both}
 use Rattle.playout.specs.Sizes.{slots}
 use Rattle.playout.specs.Entries.{Entry, Held}
 use Rattle.reorder.specs.declared.buffer.Buffer.{Buffer}
 use Rattle.reorder.specs.Bits.{wordAt, wordsOf, marked, unmarked}
 use Rattle.reorder.specs.Columns.{insertAt, removeFirst}
-use Rattle.reorder.specs.Layout.{tagOf, padTo, column, flagOf, encode, entryAt, entriesFrom, decode, fresh}
+use Rattle.reorder.specs.Layout.{tagOf, padTo, column, flagOf, encode, entryAt, entriesFrom, decode, isFlag, fresh}
 use Rattle.reorder.proofs.ColumnLaws.{inserting, insert-start, inserted, map-inserted}
 use Rattle.reorder.proofs.WordLaws.{slotOf, slotsOf, SlotFacts, held-slots, words-inserted, words-rest}
 
@@ -145,6 +147,12 @@ entries-list b [] i p = refl
 entries-list b (e ∷ es) i p =
     λ k. (ap (entryAt b) (sym (add-zero i)) ∙ p 0 (suc-le-suc zero-le)) k
     ∷ entries-list b es (suc i) (λ j h. ap (entryAt b) (suc-add i j ∙ sym (add-suc i j)) ∙ p (suc j) (suc-le-suc h)) k
+
+-- a flag is 0 or 1
+pub by-flag : (P : ℕ → Type 0) → P 0 → P 1 → (d : ℕ) → isFlag d ≡ true → P d
+by-flag P p q zero h = p
+by-flag P p q (suc zero) h = q
+by-flag P p q (suc (suc d)) h = not-both false (rw (ne-eqb (suc (suc d)) 0 (omega arith), ne-eqb (suc (suc d)) 1 (omega arith)) at h) refl
 
 flag-back : (d : Bool) → eqb (flagOf d) 1 ≡ d
 flag-back true = refl

@@ -13,7 +13,7 @@ use denote.Struct.Declared.{row}
 use denote.Shadow.{shadow}
 use Rattle.playout.specs.Sizes.{slots}
 use Rattle.reorder.specs.declared.buffer.Buffer.{Buffer}
-use Rattle.reorder.specs.Claims.{Column, Machine}
+use Rattle.reorder.specs.Arrays.{Column, Machine}
 use Rattle.reorder.proofs.buffer.Buffer.{the-type}
 
 each-word : (xs : List ℕ) (us : List Val) → shadow (each ℕ (UInt w32 .own) (map (λ (v : ℕ). v) xs) us) → (i : ℕ) → getD xs i 0 < 2 ^ 32

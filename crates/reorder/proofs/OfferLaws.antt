@@ -21,16 +21,16 @@ use Rattle.packet.specs.declared.reading.Reading.{Reading}
 use Rattle.packet.specs.Readings.{Outcome, refused, readAs, reading, Numbers, refusedNumbers, readingNumbers, outcomeNumbers, outcomeWords}
 use Rattle.packet.proofs.RowFactLaws.{rows-fine}
 use Rattle.playout.specs.Sizes.{storeSize}
-use Rattle.playout.specs.Verdicts.{noCounts, Gathered, judgeAll}
+use Rattle.playout.specs.Verdicts.{noCounts, tally, Gathered, judgeAll}
 use Rattle.reorder.specs.declared.buffer.Buffer.{Buffer}
 use Rattle.reorder.specs.declared.calls.Tally.{Tally}
 use Rattle.reorder.specs.Layout.{encode, decode}
 use Rattle.reorder.specs.WellFormed.{wellFormed}
 use Rattle.reorder.specs.Rows.{copiesOf}
-use Rattle.reorder.specs.Claims.{Machine}
+use Rattle.reorder.specs.Arrays.{Machine}
 use Rattle.reorder.specs.Judging.{countsOf, RowsJudgeable, RowsJudged}
-use Rattle.reorder.specs.Calls.{countNumbers, offerRefused, offerRead, offerCall}
-use Rattle.reorder.proofs.CallLaws.{offer-reads}
+use Rattle.reorder.specs.Calls.{countNumbers, offerRefused, offerCall}
+use Rattle.reorder.proofs.CallLaws.{offerRead, offer-reads}
 use Rattle.reorder.proofs.BridgeLaws.{few-channels}
 use Rattle.reorder.proofs.CopyLaws.{rows-allowed}
 
@@ -111,11 +111,12 @@ module _ (b : Buffer) (packet rows store : List ℕ) (h : inRange (b .settings) 
     pub offer-gives : (b' : Buffer) (t' : Tally) (store' : List ℕ) → RowsJudged b b' packet (rowsIn (take (rowWidth * p .rows) rows')) t t' store store'
         → record { answer = countNumbers 0 (countsOf t'); buffer = b'; rows = rows'; store = store' } ≡ offerCall b packet rows store
     offer-gives b' t' store' j =
-        let g : judgeAll (decode b) store (countsOf t) (copiesOf packet (rowsIn (take (rowWidth * p .rows) rows'))) ≡ judgeAll (decode b) store noCounts (copiesOf packet rs) =
-        ap₂ (λ (u : Tally) (l : List Row). judgeAll (decode b) store (countsOf u) (copiesOf packet l)) zeros rows-back in
-        let c : countsOf t' ≡ judgeAll (decode b) store noCounts (copiesOf packet rs) .counts = j .counts ∙ ap (λ (x : Gathered). x .counts) g in
-        let u : b' ≡ encode (b .settings) (judgeAll (decode b) store noCounts (copiesOf packet rs) .held) = j .buffer ∙ ap (λ (x : Gathered). encode (b .settings) (x .held)) g in
-        let s : store' ≡ judgeAll (decode b) store noCounts (copiesOf packet rs) .store = j .store-left ∙ ap (λ (x : Gathered). x .store) g in
+        let g : judgeAll (decode b) store (copiesOf packet (rowsIn (take (rowWidth * p .rows) rows'))) ≡ judgeAll (decode b) store (copiesOf packet rs) =
+        ap (λ (l : List Row). judgeAll (decode b) store (copiesOf packet l)) rows-back in
+        let c : countsOf t' ≡ tally noCounts (judgeAll (decode b) store (copiesOf packet rs) .judgements) =
+        j .counts ∙ ap₂ (λ (u : Tally) (x : Gathered). tally (countsOf u) (x .judgements)) zeros g in
+        let u : b' ≡ encode (b .settings) (judgeAll (decode b) store (copiesOf packet rs) .held) = j .buffer ∙ ap (λ (x : Gathered). encode (b .settings) (x .held)) g in
+        let s : store' ≡ judgeAll (decode b) store (copiesOf packet rs) .store = j .store-left ∙ ap (λ (x : Gathered). x .store) g in
         let z : record { answer = countNumbers 0 (countsOf t'); buffer = b'; rows = rows'; store = store' } ≡ offerRead b packet rows store (readAs (is .head) rs) =
         λ i. record { answer = countNumbers 0 (c i); buffer = u i; rows = rows-are i; store = s i } in
         z ∙ sym (offer-reads b packet rows store h w area room ∙ ap (offerRead b packet rows store) (is .same))

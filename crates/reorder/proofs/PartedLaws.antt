@@ -19,7 +19,7 @@ use Rattle.reorder.specs.Columns.{Parted}
 use Rattle.reorder.specs.Layout.{entryAt, decode}
 use Rattle.reorder.specs.Judging.{copyIn, Judgeable}
 use Rattle.reorder.proofs.LayoutLaws.{noEntry, at-member}
-use Rattle.reorder.proofs.FormLaws.{decode-length}
+use Rattle.reorder.proofs.WellFormedLaws.{decode-length}
 use Rattle.reorder.proofs.StateLaws.{good-sound, fit-frame}
 use Rattle.reorder.proofs.BridgeLaws.{few-channels, buffer-good}
 use Rattle.reorder.proofs.StepLaws.{entries-at}

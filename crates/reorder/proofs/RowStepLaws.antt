@@ -17,18 +17,19 @@ use Rattle.playout.specs.declared.verdict.Verdict.the-variants.{Late, Far, Repe
 use Rattle.playout.specs.Sizes.{storeSize}
 use Rattle.playout.specs.Copies.{Copy}
 use Rattle.playout.specs.Entries.{Held}
-use Rattle.playout.specs.Verdicts.{Counts, counted, Gathered, judge, judgeAll}
+use Rattle.playout.specs.Verdicts.{Counts, counted, tally, Judgement, Gathered, judge, judgeAll}
 use Rattle.reorder.specs.declared.buffer.Buffer.{Buffer}
 use Rattle.reorder.specs.declared.calls.Tally.{Tally}
 use Rattle.reorder.specs.declared.judging.FrameHead.{FrameHead}
 use Rattle.reorder.specs.Layout.{encode, decode}
-use Rattle.reorder.specs.WellFormed.{allowed, wellFormed}
+use Rattle.reorder.specs.Model.{allowed}
+use Rattle.reorder.specs.WellFormed.{wellFormed}
 use Rattle.reorder.specs.Rows.{copyOf, copiesOf}
-use Rattle.reorder.specs.Claims.{Machine}
+use Rattle.reorder.specs.Arrays.{Machine}
 use Rattle.reorder.specs.Judging.{copyIn, Judgeable, JudgedAs, countsOf, RowsAllowed, RowsJudgeable, RowsJudged}
 use Rattle.reorder.proofs.StateLaws.{Good, judge-good}
 use Rattle.reorder.proofs.BridgeLaws.{few-channels, buffer-good, good-machine, good-fine, good-back}
-use Rattle.reorder.proofs.FormLaws.{encode-decode}
+use Rattle.reorder.proofs.WellFormedLaws.{encode-decode}
 use Rattle.reorder.proofs.CopyLaws.{frame-size}
 
 -- the row at the front of an area, and the area after it
@@ -55,12 +56,12 @@ total-counted n Inserted = omega arith
 module _ (b : Buffer) (packet : List ℕ) (t : Tally) (store : List ℕ) where
   -- no row is left
   pub rows-over : (rs : List Row) → RowsJudgeable b packet rs t store → rs ≡ [] → RowsJudged b b packet rs t t store store
-  unfolding judgeAll copiesOf
+  unfolding judgeAll tally copiesOf
   rows-over rs p e =
-      let q : judgeAll (decode b) store (countsOf t) (copiesOf packet rs) ≡ record { held = decode b; store = store; counts = countsOf t } =
-      ap (λ (l : List Row). judgeAll (decode b) store (countsOf t) (copiesOf packet l)) e in
+      let q : judgeAll (decode b) store (copiesOf packet rs) ≡ record { held = decode b; store = store; judgements = [] } =
+      ap (λ (l : List Row). judgeAll (decode b) store (copiesOf packet l)) e in
       record {
-        counts = sym (ap (λ (g : Gathered). g .counts) q);
+        counts = sym (ap (λ (g : Gathered). tally (countsOf t) (g .judgements)) q);
         buffer = sym (ap (λ (g : Gathered). encode (b .settings) (g .held)) q ∙ encode-decode b (p .machine) (p .fine));
         store-left = sym (ap (λ (g : Gathered). g .store) q);
       }
@@ -81,9 +82,9 @@ module _ (b : Buffer) (packet : List ℕ) (t : Tally) (store : List ℕ) where
         let q : copiesOf packet rs ≡ copiesOf packet (r ∷ rs) =
         sym (ap (λ (v : Bool). cond v (copiesOf packet rs) (copyOf packet r ∷ copiesOf packet rs)) (eq-eqb (r .class) noData z)) in
         record {
-          counts = j .counts ∙ ap (λ (l : List Copy). judgeAll (decode b) store (countsOf t) l .counts) q;
-          buffer = j .buffer ∙ ap (λ (l : List Copy). encode (b .settings) (judgeAll (decode b) store (countsOf t) l .held)) q;
-          store-left = j .store-left ∙ ap (λ (l : List Copy). judgeAll (decode b) store (countsOf t) l .store) q;
+          counts = j .counts ∙ ap (λ (l : List Copy). tally (countsOf t) (judgeAll (decode b) store l .judgements)) q;
+          buffer = j .buffer ∙ ap (λ (l : List Copy). encode (b .settings) (judgeAll (decode b) store l .held)) q;
+          store-left = j .store-left ∙ ap (λ (l : List Copy). judgeAll (decode b) store l .store) q;
         }
 
     -- a row of a frame
@@ -121,19 +122,19 @@ module _ (b : Buffer) (packet : List ℕ) (t : Tally) (store : List ℕ) where
         }
 
         pub next-gives : (b'' : Buffer) (t'' : Tally) (store'' : List ℕ) → RowsJudged b' b'' packet rs t' t'' store' store'' → RowsJudged b b'' packet (r ∷ rs) t t'' store store''
-        unfolding copiesOf judgeAll
+        unfolding copiesOf judgeAll tally
         next-gives b'' t'' store'' k =
             let h : decode b' ≡ next = ap decode (j .buffer) ∙ good-back (b .settings) next _ good in
             let n : countsOf t' ≡ counted (countsOf t) (judge (decode b) store (copyIn head frame) .verdict) = more ∙ ap (counted (countsOf t)) (j .verdict) in
-            let one : judgeAll (decode b') store' (countsOf t') (copiesOf packet rs) ≡ judgeAll (decode b) store (countsOf t) (copyIn head frame ∷ copiesOf packet rs) =
-            λ i. judgeAll (h i) (j .store-left i) (n i) (copiesOf packet rs) in
+            let one : judgeAll (decode b') store' (copiesOf packet rs) ≡ judgeAll next (judge (decode b) store (copyIn head frame) .store) (copiesOf packet rs) =
+            λ i. judgeAll (h i) (j .store-left i) (copiesOf packet rs) in
             let cs : copyIn head frame ∷ copiesOf packet rs ≡ copiesOf packet (r ∷ rs) =
             ap (λ (x : List ℕ). copyIn head x ∷ copiesOf packet rs) cut
             ∙ sym (ap (λ (v : Bool). cond v (copiesOf packet rs) (copyOf packet r ∷ copiesOf packet rs)) (ne-eqb (r .class) noData z)) in
-            let q : judgeAll (decode b') store' (countsOf t') (copiesOf packet rs) ≡ judgeAll (decode b) store (countsOf t) (copiesOf packet (r ∷ rs)) =
-            one ∙ ap (judgeAll (decode b) store (countsOf t)) cs in
+            let all : judgeAll (decode b) store (copyIn head frame ∷ copiesOf packet rs) ≡ judgeAll (decode b) store (copiesOf packet (r ∷ rs)) =
+            ap (judgeAll (decode b) store) cs in
             record {
-              counts = k .counts ∙ ap (λ (g : Gathered). g .counts) q;
-              buffer = k .buffer ∙ (λ i. encode (j .buffer i .settings) (q i .held));
-              store-left = k .store-left ∙ ap (λ (g : Gathered). g .store) q;
+              counts = k .counts ∙ (λ i. tally (n i) (one i .judgements)) ∙ ap (λ (g : Gathered). tally (countsOf t) (g .judgements)) all;
+              buffer = k .buffer ∙ (λ i. encode (j .buffer i .settings) (one i .held)) ∙ ap (λ (g : Gathered). encode (b .settings) (g .held)) all;
+              store-left = k .store-left ∙ ap (λ (g : Gathered). g .store) one ∙ ap (λ (g : Gathered). g .store) all;
             }

@@ -13,13 +13,13 @@ use Rattle.rtp.proofs.TestLaws.{not-both}
 use Rattle.playout.specs.Sizes.{slots, slotSize, storeSize}
 use Rattle.playout.specs.Copies.{Copy}
 use Rattle.playout.specs.Entries.{Entry, Held, view, entryOf, sideOfEntry, put, held, always, placed, freeSlot}
-use Rattle.playout.specs.Verdicts.{Judged, judge, Counts, counted, Gathered, judgeAll}
+use Rattle.playout.specs.Verdicts.{Judged, judge, judgeAll}
 use Rattle.playout.proofs.MergeLaws.{put-from}
 use Rattle.playout.proofs.JudgeLaws.{judge-cases, judge-last, judge-room}
 use Rattle.playout.proofs.SoundLaws.{IsFrame, Frames, IsEntry, Sound, fresh, judge-sound, judge-length, drawnFirst, draw-sound}
-use Rattle.reorder.specs.WellFormed.{allowed}
+use Rattle.reorder.specs.Model.{allowed}
 use Rattle.reorder.proofs.WordLaws.{SlotFacts}
-use Rattle.reorder.proofs.FormLaws.{EntryFacts, Facts}
+use Rattle.reorder.proofs.ModelLaws.{EntryFacts, Facts}
 use Rattle.reorder.proofs.AllowedLaws.{allowed-frame}
 
 -- the buffer's model, with its store, under settings in range
@@ -101,11 +101,10 @@ unfoldable pub Fits : Settings → List Copy → Type 0
 Fits st [] = Unit {0}
 Fits st (c ∷ cs) = Fit st c × Fits st cs
 
-pub judgeAll-good : (st : Settings) (cs : List Copy) (h : Held) (s : List ℕ) (n : Counts) → Good st h s → Fits st cs → Good st (judgeAll h s n cs .held) (judgeAll h s n cs .store)
+pub judgeAll-good : (st : Settings) (cs : List Copy) (h : Held) (s : List ℕ) → Good st h s → Fits st cs → Good st (judgeAll h s cs .held) (judgeAll h s cs .store)
 unfolding judgeAll Fits
-judgeAll-good st [] h s n g f = g
-judgeAll-good st (c ∷ cs) h s n g f =
-    judgeAll-good st cs (judge h s c .held) (judge h s c .store) (counted n (judge h s c .verdict)) (judge-good st h s c g (f .0)) (f .1)
+judgeAll-good st [] h s g f = g
+judgeAll-good st (c ∷ cs) h s g f = judgeAll-good st cs (judge h s c .held) (judge h s c .store) (judge-good st h s c g (f .0)) (f .1)
 
 -- the first entry is drawn
 pub draw-good : (st : Settings) (h : Held) (s : List ℕ) (e : Entry) (es : List Entry) → h .entries ≡ e ∷ es → Good st h s → Good st (drawnFirst e es) s

@@ -24,14 +24,14 @@ use Rattle.reorder.specs.Bits.{heldIn, wordsOf, marked, lowestFree}
 use Rattle.reorder.specs.Columns.{insertAt, placeFrom, fitsFrom}
 use Rattle.reorder.specs.Layout.{tagOf, column, flagOf, encode, entryAt, entriesFrom, decode}
 use Rattle.reorder.specs.WellFormed.{wellFormed}
-use Rattle.reorder.specs.Claims.{Machine}
+use Rattle.reorder.specs.Arrays.{Machine}
 use Rattle.reorder.specs.Judging.{copyIn, tagIn, HeldAt, beats, Replaced, Laid, JudgedAs}
 use Rattle.reorder.proofs.ColumnLaws.{inserted}
 use Rattle.reorder.proofs.WordLaws.{slotOf, slotsOf, free-is}
 use Rattle.reorder.proofs.FreeLaws.{free-when-room}
 use Rattle.reorder.proofs.LayoutLaws.{noEntry, at-member, column-insert, column-set, column-same, words-insert, words-set}
 use Rattle.reorder.proofs.PlaceLaws.{AtPlace, place-at, fits-is}
-use Rattle.reorder.proofs.FormLaws.{facts, decode-length, words-held, encode-decode}
+use Rattle.reorder.proofs.WellFormedLaws.{facts, decode-length, words-held, encode-decode}
 use Rattle.reorder.proofs.AllowedLaws.{allowed-frame}
 
 -- the entry at a place of the list is that at the place of the columns

@@ -161,7 +161,7 @@ pub distinct-none : Distinct []
 unfolding countIn
 distinct-none = record { once = λ x. zero-le; within = λ x h. absurd (not-suc-le-zero h) }
 
-distinct-tail : (s : ℕ) (ss : List ℕ) → Distinct (s ∷ ss) → Distinct ss
+pub distinct-tail : (s : ℕ) (ss : List ℕ) → Distinct (s ∷ ss) → Distinct ss
 distinct-tail s ss d = record { once = λ x. omega (arith, d .once x, count-tail x s ss); within = λ x h. d .within x (omega (arith, count-tail x s ss)) }
 
 pub distinct-cons : (s : ℕ) (ss : List ℕ) → Distinct ss → s < slots → countIn s ss ≡ 0 → Distinct (s ∷ ss)
@@ -269,7 +269,7 @@ held-slots es o = held-count (slotsOf es) (own-distinct es o) ∙ length-map es 
 
 -- The lowest free slot
 
-taken-count : (k : ℕ) (es : List Entry) → taken k es ≡ not (eqb (countIn k (slotsOf es)) 0)
+pub taken-count : (k : ℕ) (es : List Entry) → taken k es ≡ not (eqb (countIn k (slotsOf es)) 0)
 unfolding taken countIn
 taken-count k [] = refl
 taken-count k (e ∷ es) = go (eqb k (e .slot)) (countIn k (slotsOf es)) (taken-count k es)

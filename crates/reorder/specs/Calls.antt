@@ -1,28 +1,24 @@
--- Document 01, "The take": the three calls. Each definition is the whole meaning of a call, refusals included: answer, buffer and every lent area.
+-- Document 01, "The take": the three calls, between a buffer and its model. Each definition is the whole meaning of a call, refusals included: answer, buffer and every lent area.
 use Prim.Native.Nat.{ℕ}
-use mathlib.Core.List.{List, [], _∷_}
-use mathlib.Core.Bool.{Bool, true, false, cond}
-use lib.ListN.{length, replicate}
-use lib.Dec.{ltb}
-use Rattle.rtp.specs.Sizes.{rowArea}
+use mathlib.Core.List.{List}
+use mathlib.Core.Bool.{cond}
+use mathlib.Core.Option.{Option, none, some}
+use lib.ListN.{length}
 use Rattle.rtp.specs.Ranges.{inRange}
 use Rattle.rtp.specs.Refusals.{number}
 use Rattle.rtp.specs.Areas.{over}
 use Rattle.rtp.specs.declared.settings.Settings.{Settings}
 use Rattle.rtp.specs.declared.refusal.Refusal.{Refusal}
-use Rattle.rtp.specs.declared.refusal.Refusal.the-variants.{SettingsOutOfRange, MalformedBuffer, AreaTooShort}
+use Rattle.rtp.specs.declared.refusal.Refusal.the-variants.{SettingsOutOfRange, MalformedBuffer}
 use Rattle.payload.specs.Rows.{words}
-use Rattle.packet.specs.Readings.{Outcome, refused, readAs, reading}
-use Rattle.playout.specs.Sizes.{slotSize, storeSize}
-use Rattle.playout.specs.Entries.{Entry, Held, frameOf}
-use Rattle.playout.specs.Verdicts.{Counts, noCounts, Gathered, judgeAll}
+use Rattle.playout.specs.Verdicts.{Counts, noCounts, tally}
 use Rattle.reorder.specs.declared.buffer.Buffer.{Buffer}
 use Rattle.reorder.specs.declared.calls.NewAnswer.{NewAnswer}
 use Rattle.reorder.specs.declared.calls.OfferAnswer.{OfferAnswer}
 use Rattle.reorder.specs.declared.calls.DrawAnswer.{DrawAnswer}
-use Rattle.reorder.specs.Layout.{encode, decode, fresh}
+use Rattle.reorder.specs.Layout.{encode, model, fresh}
 use Rattle.reorder.specs.WellFormed.{wellFormed}
-use Rattle.reorder.specs.Rows.{copiesOf}
+use Rattle.reorder.specs.ModelCalls.{Result, refused, done, Offered, offerTo, HandedOut, drawFrom}
 
 -- New
 
@@ -81,22 +77,21 @@ pub record OfferOutcome : Type 0 where
 abbrev pub offerRefused : Refusal → Buffer → List ℕ → List ℕ → OfferOutcome
 offerRefused r b rows store = record { answer = countNumbers (number r) noCounts; buffer = b; rows = rows; store = store }
 
-abbrev pub offerJudged : Settings → Gathered → List ℕ → OfferOutcome
-offerJudged st g rows = record { answer = countNumbers 0 (g .counts); buffer = encode st (g .held); rows = rows; store = g .store }
+-- what an offer does to the model, as buffer and areas
+abbrev pub offerDone : Buffer → List ℕ → List ℕ → Result Offered → OfferOutcome
+offerDone b rows store (refused r) = offerRefused r b rows store
+offerDone b rows store (done o) = record {
+  answer = countNumbers 0 (tally noCounts (o .gathered .judgements));
+  buffer = encode (b .settings) (o .gathered .held);
+  rows = over (words (o .rows)) rows;
+  store = o .gathered .store;
+}
 
--- a packet that was read, or not: its rows are judged in order
-abbrev pub offerRead : Buffer → List ℕ → List ℕ → List ℕ → Outcome → OfferOutcome
-offerRead b packet rows store (refused r) = offerRefused r b rows store
-offerRead b packet rows store (readAs h rs) = offerJudged (b .settings) (judgeAll (decode b) store noCounts (copiesOf packet rs)) (over (words rs) rows)
-
--- an offer of a packet: 11, 15, 12, then reading's own refusals
+-- an offer of a packet: 11, 15, then what it does to the model
 unfoldable pub offerCall : Buffer → List ℕ → List ℕ → List ℕ → OfferOutcome
 offerCall b packet rows store =
     cond (inRange (b .settings))
-    (cond (wellFormed b)
-    (cond (ltb (length rows) rowArea) (offerRefused AreaTooShort b rows store)
-    (cond (ltb (length store) storeSize) (offerRefused AreaTooShort b rows store)
-    (offerRead b packet rows store (reading (b .settings) (length rows) packet))))
+    (cond (wellFormed b) (offerDone b rows store (offerTo (model b) packet (length rows) store))
     (offerRefused MalformedBuffer b rows store))
     (offerRefused SettingsOutOfRange b rows store)
 
@@ -128,22 +123,20 @@ pub record DrawOutcome : Type 0 where
 abbrev pub drawRefused : Refusal → Buffer → List ℕ → DrawOutcome
 drawRefused r b area = record { answer = noFrame (number r) 0; buffer = b; area = area }
 
--- the first entry is handed out, its slot is free, and its pair is the last drawn
-abbrev pub drawFirst : Buffer → List ℕ → List ℕ → List Entry → DrawOutcome
-drawFirst b store area [] = record { answer = noFrame 0 1; buffer = b; area = area }
-drawFirst b store area (e ∷ es) = record {
-  answer = record { refusal = 0; empty = 0; time = e .time; channel = e .channel; class = e .class; length = e .length };
-  buffer = encode (b .settings) (record { entries = es; drawn = true; lastTime = e .time; lastChannel = e .channel });
-  area = over (frameOf store e) area;
+-- what a draw does to the model, as buffer and area; an empty buffer stays as it stood
+abbrev pub drawDone : Buffer → List ℕ → Result (Option HandedOut) → DrawOutcome
+drawDone b area (refused r) = drawRefused r b area
+drawDone b area (done none) = record { answer = noFrame 0 1; buffer = b; area = area }
+drawDone b area (done (some d)) = record {
+  answer = record { refusal = 0; empty = 0; time = d .entry .time; channel = d .entry .channel; class = d .entry .class; length = d .entry .length };
+  buffer = encode (b .settings) (d .held);
+  area = over (d .bytes) area;
 }
 
--- a draw into an area: 11, 15, 12; an area is asked for before the buffer is found empty
+-- a draw into an area: 11, 15, then what it does to the model
 unfoldable pub drawCall : Buffer → List ℕ → List ℕ → DrawOutcome
 drawCall b store area =
     cond (inRange (b .settings))
-    (cond (wellFormed b)
-    (cond (ltb (length store) storeSize) (drawRefused AreaTooShort b area)
-    (cond (ltb (length area) slotSize) (drawRefused AreaTooShort b area)
-    (drawFirst b store area (decode b .entries))))
+    (cond (wellFormed b) (drawDone b area (drawFrom (model b) store (length area)))
     (drawRefused MalformedBuffer b area))
     (drawRefused SettingsOutOfRange b area)

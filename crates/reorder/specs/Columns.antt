@@ -17,6 +17,11 @@ insertAt xs n i v = take i xs ++ (v ∷ take (n - i) (drop i xs)) ++ drop (n + 1
 unfoldable pub removeFirst : List ℕ → ℕ → List ℕ
 removeFirst xs n = take (n - 1) (drop 1 xs) ++ (0 ∷ drop n xs)
 
+-- all zero
+unfoldable pub zeros : List ℕ → Bool
+zeros [] = true
+zeros (x ∷ xs) = cond (eqb x 0) (zeros xs) false
+
 -- where the pair (t, c) is held or belongs among k entries from the i-th on: at the first that is not before it
 abbrev pub placeAt : Side → ℕ → Place → Place
 placeAt Side.Before i r = Place.InsertAt i

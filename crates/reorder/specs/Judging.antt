@@ -17,7 +17,7 @@ use Rattle.reorder.specs.declared.buffer.Buffer.{Buffer}
 use Rattle.reorder.specs.declared.buffer.Fixed.{Fixed}
 use Rattle.payload.specs.Frames.{noData}
 use Rattle.payload.specs.Rows.{Row}
-use Rattle.playout.specs.Verdicts.{Gathered, judgeAll}
+use Rattle.playout.specs.Verdicts.{tally, judgeAll}
 use Rattle.rtp.specs.declared.settings.Settings.{Settings}
 use Rattle.reorder.specs.declared.calls.Tally.{Tally}
 use Rattle.reorder.specs.Rows.{copiesOf}
@@ -25,8 +25,9 @@ use Rattle.reorder.specs.declared.judging.FrameHead.{FrameHead}
 use Rattle.reorder.specs.Bits.{heldIn, lowestFree, marked}
 use Rattle.reorder.specs.Columns.{insertAt}
 use Rattle.reorder.specs.Layout.{encode, decode}
-use Rattle.reorder.specs.WellFormed.{allowed, wellFormed}
-use Rattle.reorder.specs.Claims.{Machine}
+use Rattle.reorder.specs.Model.{allowed}
+use Rattle.reorder.specs.WellFormed.{wellFormed}
+use Rattle.reorder.specs.Arrays.{Machine}
 
 abbrev pub isLateOf : Fixed → FrameHead → Bool
 isLateOf f h = cond (eqb (f .drawn) 1) (not (isAfter (order (h .time) (h .channel) (f .«last_time») (f .«last_channel»)))) false
@@ -123,9 +124,9 @@ pub record RowsJudgeable (b : Buffer) (packet : List ℕ) (rs : List Row) (t : T
   pub room : storeSize ≤ length store
 
 pub record RowsJudged (b b' : Buffer) (packet : List ℕ) (rs : List Row) (t t' : Tally) (store store' : List ℕ) : Type 0 where
-  pub counts : countsOf t' ≡ judgeAll (decode b) store (countsOf t) (copiesOf packet rs) .counts
-  pub buffer : b' ≡ encode (b .settings) (judgeAll (decode b) store (countsOf t) (copiesOf packet rs) .held)
-  pub store-left : store' ≡ judgeAll (decode b) store (countsOf t) (copiesOf packet rs) .store
+  pub counts : countsOf t' ≡ tally (countsOf t) (judgeAll (decode b) store (copiesOf packet rs) .judgements)
+  pub buffer : b' ≡ encode (b .settings) (judgeAll (decode b) store (copiesOf packet rs) .held)
+  pub store-left : store' ≡ judgeAll (decode b) store (copiesOf packet rs) .store
 
 -- Drawing
 

@@ -1,15 +1,17 @@
 -- The reorder buffer (document 01: the take) as the code lays it out, and the model that it stands for. `encode` and `decode` alone know the layout.
 use Prim.Native.Nat.{ℕ, zero, suc, _+_, _*_, _/_, _%_}
 use mathlib.Core.List.{List, [], _∷_, map}
-use mathlib.Core.Bool.{Bool, true, false, cond}
-use lib.ListN.{getD, replicate}
+use mathlib.Core.Bool.{Bool, true, false, cond, _&&_, _||_}
+use lib.ListN.{getD, drop, replicate}
 use lib.Dec.{eqb}
 use Rattle.rtp.specs.declared.settings.Settings.{Settings}
 use Rattle.playout.specs.Sizes.{slots}
 use Rattle.playout.specs.Entries.{Entry, Held}
 use Rattle.reorder.specs.declared.buffer.Buffer.{Buffer}
 use Rattle.reorder.specs.declared.buffer.Fixed.{Fixed}
-use Rattle.reorder.specs.Bits.{heldIn, wordsOf}
+use Rattle.reorder.specs.Bits.{heldIn, wordsOf, sameWords}
+use Rattle.reorder.specs.Columns.{zeros}
+use Rattle.reorder.specs.Model.{Model}
 
 -- an entry's class and channel in one word, as in a row
 abbrev pub tagOf : Entry → ℕ
@@ -58,6 +60,26 @@ entriesFrom b (suc k) i = entryAt b i ∷ entriesFrom b k (suc i)
 -- the model of a buffer: as many entries as slots are marked
 abbrev pub decode : Buffer → Held
 decode b = record { entries = entriesFrom b (heldIn (b .occupied)) 0; drawn = eqb (b .drawn) 1; lastTime = b .«last_time»; lastChannel = b .«last_channel» }
+
+abbrev pub model : Buffer → Model
+model b = record { settings = b .settings; held = decode b }
+
+-- The test of the layout
+
+-- a pair was drawn, or not
+abbrev pub isFlag : ℕ → Bool
+isFlag n = eqb n 0 || eqb n 1
+
+-- unused entries, those from the n-th on, are zero
+abbrev pub unusedZero : List ℕ → List ℕ → List ℕ → List ℕ → ℕ → Bool
+unusedZero times tags lengths slots' n = zeros (drop n times) && zeros (drop n tags) && zeros (drop n lengths) && zeros (drop n slots')
+
+-- exactly the entries' slots are marked
+abbrev pub marksKept : Buffer → Bool
+marksKept b = sameWords (wordsOf (map (λ e. e .slot) (decode b .entries))) (b .occupied)
+
+abbrev pub laidOut : Buffer → Bool
+laidOut b = isFlag (b .drawn) && unusedZero (b .times) (b .tags) (b .lengths) (b .slots) (heldIn (b .occupied)) && marksKept b
 
 -- no entry, no slot marked, no pair drawn
 abbrev pub fresh : Settings → Buffer

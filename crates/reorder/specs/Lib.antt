@@ -1,10 +1,11 @@
 pub mod Bits
 pub mod Columns
+pub mod Model
+pub mod Arrays
 pub mod Layout
 pub mod WellFormed
 pub mod Rows
+pub mod ModelCalls
 pub mod Checks
 pub mod Judging
 pub mod Calls
-pub mod Claims
-pub mod CheckedTable

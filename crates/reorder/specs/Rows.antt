@@ -6,6 +6,7 @@ use lib.ListN.{length, take, drop}
 use lib.Dec.{eqb}
 use Rattle.payload.specs.Frames.{noData}
 use Rattle.payload.specs.Rows.{Row}
+use Rattle.packet.specs.Readings.{Outcome, refused, readAs}
 use Rattle.playout.specs.Copies.{Copy}
 
 -- the copy of a row: its frame's bytes are those of the packet
@@ -16,3 +17,8 @@ copyOf packet r = record { time = r .time; channel = r .channel; class = r .clas
 unfoldable pub copiesOf : List ℕ → List Row → List Copy
 copiesOf packet [] = []
 copiesOf packet (r ∷ rs) = cond (eqb (r .class) noData) (copiesOf packet rs) (copyOf packet r ∷ copiesOf packet rs)
+
+-- the copies of a packet that is read
+abbrev pub readCopies : List ℕ → Outcome → List Copy
+readCopies packet (refused r) = []
+readCopies packet (readAs h rs) = copiesOf packet rs

@@ -18,8 +18,9 @@ use rtp::sizes::ROW_WIDTH;
 ghost use mathlib.Core.Path.{_≡_};
 ghost use mathlib.Core.Bool.{true};
 ghost use Rattle.rtp.specs.Ranges.{inRange};
-ghost use Rattle.reorder.specs.Calls.{newNumber, newCall, offerNumbers, offerCall, drawNumbers, drawFirst, drawCall};
 ghost use Rattle.reorder.specs.Layout.{decode};
+ghost use Rattle.reorder.specs.ModelCalls.{done, earliest};
+ghost use Rattle.reorder.specs.Calls.{newNumber, newCall, offerNumbers, offerCall, drawNumbers, drawDone, drawCall};
 ghost use Rattle.reorder.specs.Judging.{Drawable};
 
 pub enum NewAnswer {
@@ -188,7 +189,7 @@ fn refuse_draw(refusal: Refusal, buffer: Buffer) -> Drawn
 // The first of n entries handed out: its frame to the front of the area, its slot free, its pair the last drawn.
 fn draw_first(mut buffer: Buffer, n: usize, store: &[u8], area: &mut [u8]) -> Drawn
     requires { ⌜ Drawable buffer n (now (store)) (now area) ⌝ }
-    ensures { λ r. ⌜ record { answer = drawNumbers (r .answer); buffer = r .buffer; area = now (area .exit) } ≡ drawFirst buffer (now (store .entry)) (now (area .entry)) (decode buffer .entries) ⌝ }
+    ensures { λ r. ⌜ record { answer = drawNumbers (r .answer); buffer = r .buffer; area = now (area .exit) } ≡ drawDone buffer (now (area .entry)) (done (earliest (now (store .entry)) (decode buffer .entries))) ⌝ }
 {
     let time = buffer.times[0];
     let tag = buffer.tags[0];

@@ -6,8 +6,7 @@ ghost use mathlib.Core.Path.{_≡_};
 ghost use Prim.Native.Nat.{_≤_, _<_};
 ghost use lib.ListN.{drop};
 ghost use Rattle.playout.specs.Sizes.{slots};
-ghost use Rattle.reorder.specs.Columns.{insertAt, removeFirst, placeFrom, Parted, fitsFrom, withinFrom};
-ghost use Rattle.reorder.specs.WellFormed.{zeros};
+ghost use Rattle.reorder.specs.Columns.{insertAt, removeFirst, zeros, placeFrom, Parted, fitsFrom, withinFrom};
 
 // Where a pair is held, or belongs.
 pub enum Place {

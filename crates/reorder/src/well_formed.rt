@@ -12,9 +12,10 @@ ghost use mathlib.Core.Bool.{true};
 ghost use Prim.Native.Nat.{_^_, _≤_, _<_};
 ghost use Rattle.playout.specs.Sizes.{slots as slotCount};
 ghost use Rattle.playout.specs.Pairs.{isAfter, order};
-ghost use Rattle.reorder.specs.Layout.{assembled};
-ghost use Rattle.reorder.specs.WellFormed.{allowed, wellFormed};
-ghost use Rattle.reorder.specs.Checks.{lastFineOf, sortFine, baseOf, startOf, positionOf, restZero, entriesFine};
+ghost use Rattle.reorder.specs.Layout.{unusedZero, assembled};
+ghost use Rattle.reorder.specs.Model.{allowed};
+ghost use Rattle.reorder.specs.WellFormed.{wellFormed};
+ghost use Rattle.reorder.specs.Checks.{lastKept, classFine, baseOf, startOf, positionOf, entriesPass};
 
 // The positions of a stretch under half the range of time.
 const STRETCH: u64 = 256 * (order::HALF as u64);
@@ -40,9 +41,9 @@ fn is_allowed(format: u8, class: u32, length: u32) -> bool
     codes::code_for(format, class, length) < NO_CODE
 }
 
-// Whether the last pair is kept as zeros, or is in range.
-fn last_fine(fixed: Fixed) -> bool
-    ensures { λ r. ⌜ (r ≡ lastFineOf fixed) × (r ≡ true → fixed .«last_channel» < 256) ⌝ }
+// Whether the flag is one, and the last pair is kept as zeros or is in range.
+fn last_kept(fixed: Fixed) -> bool
+    ensures { λ r. ⌜ (r ≡ lastKept fixed) × (r ≡ true → fixed .«last_channel» < 256) ⌝ }
 {
     if fixed.drawn == 0 {
         if fixed.last_time == 0 {
@@ -57,8 +58,8 @@ fn last_fine(fixed: Fixed) -> bool
 }
 
 // Whether an entry's class, length and channel are such as these settings allow.
-fn sort_fine(fixed: Fixed, tag: u32, length: u32) -> bool
-    ensures { λ r. ⌜ r ≡ sortFine fixed tag length ⌝ }
+fn class_fine(fixed: Fixed, tag: u32, length: u32) -> bool
+    ensures { λ r. ⌜ r ≡ classFine fixed tag length ⌝ }
 {
     if !is_allowed(fixed.settings.format, tag / 256, length) {
         return false;
@@ -94,8 +95,8 @@ fn position(base: u32, time: u32, channel: u32) -> u64
     256 * (order::ticks_ahead(time, base) as u64) + (channel as u64)
 }
 
-// Whether the first n entries are fine, and their slots exactly those marked.
-fn entries_fine(
+// Whether the first n entries pass the tests in turn, and their slots are exactly those marked.
+fn entries_pass(
     times: &[u32; SLOTS],
     tags: &[u32; SLOTS],
     lengths: &[u32; SLOTS],
@@ -105,7 +106,7 @@ fn entries_fine(
     n: usize,
 ) -> bool
     requires { ⌜ (n ≤ slotCount) × (fixed .«last_channel» < 256) ⌝ }
-    ensures { λ r. ⌜ r ≡ entriesFine (now (times .entry)) (now (tags .entry)) (now (lengths .entry)) (now (slots .entry)) occupied fixed n ⌝ }
+    ensures { λ r. ⌜ r ≡ entriesPass (now (times .entry)) (now (tags .entry)) (now (lengths .entry)) (now (slots .entry)) occupied fixed n ⌝ }
 {
     let held: &[u32] = slots;
     let base = base_of(fixed, times[0]);
@@ -113,7 +114,7 @@ fn entries_fine(
     let mut seen = [0u64; 3];
     let mut i = 0;
     while i < n {
-        if !sort_fine(fixed, tags[i], lengths[i]) {
+        if !class_fine(fixed, tags[i], lengths[i]) {
             return false;
         }
         let at = position(base, times[i], tags[i] % 256);
@@ -134,7 +135,7 @@ fn entries_fine(
 }
 
 // Whether the entries from the n-th on are zero.
-fn rest_zero(
+fn unused_zero(
     times: &[u32; SLOTS],
     tags: &[u32; SLOTS],
     lengths: &[u32; SLOTS],
@@ -142,7 +143,7 @@ fn rest_zero(
     n: usize,
 ) -> bool
     requires { ⌜ n ≤ slotCount ⌝ }
-    ensures { λ r. ⌜ r ≡ restZero (now (times .entry)) (now (tags .entry)) (now (lengths .entry)) (now (slots .entry)) n ⌝ }
+    ensures { λ r. ⌜ r ≡ unusedZero (now (times .entry)) (now (tags .entry)) (now (lengths .entry)) (now (slots .entry)) n ⌝ }
 {
     if !columns::zero_from(times, n) {
         return false;
@@ -167,12 +168,12 @@ pub(crate) fn well_formed(
 ) -> bool
     ensures { λ r. ⌜ r ≡ wellFormed (assembled (now (times .entry)) (now (tags .entry)) (now (lengths .entry)) (now (slots .entry)) occupied fixed) ⌝ }
 {
-    if !last_fine(fixed) {
+    if !last_kept(fixed) {
         return false;
     }
     let n = bits::held_in(occupied);
-    if !rest_zero(times, tags, lengths, slots, n) {
+    if !unused_zero(times, tags, lengths, slots, n) {
         return false;
     }
-    entries_fine(times, tags, lengths, slots, occupied, fixed, n)
+    entries_pass(times, tags, lengths, slots, occupied, fixed, n)
 }

@@ -7,11 +7,11 @@ use denote.Ref.{now}
 use Rattle.reorder.specs.declared.calls.Drawn.{Drawn}
 use Rattle.reorder.specs.Bits.{heldIn}
 use Rattle.reorder.specs.WellFormed.{wellFormed}
-use Rattle.reorder.specs.Claims.{Machine}
+use Rattle.reorder.specs.Arrays.{Machine}
 use Rattle.reorder.proofs.MachineLaws.{owned-machine}
 use Rattle.reorder.specs.Layout.{entriesFrom}
-use Rattle.reorder.specs.Calls.{DrawOutcome, drawNumbers, drawFirst}
-use Rattle.reorder.proofs.CallLaws.{draw-malformed, draw-store, draw-area, draw-goes}
+use Rattle.reorder.specs.Calls.{DrawOutcome, drawNumbers}
+use Rattle.reorder.proofs.CallLaws.{drawFirst, draw-malformed, draw-store, draw-area, draw-goes}
 use borrow.Author.Needs.{needs}
 use Rattle.reorder.proofs.calls.draw_checked.Statement.{statement}
 use Rattle.reorder.proofs.calls.draw_checked.Tie as tie

@@ -14,7 +14,7 @@ use Rattle.packet.specs.Readings.{reading, readingNumbers, outcomeNumbers}
 use Rattle.packet.specs.declared.reading.Reading.{Reading}
 use Rattle.reorder.specs.declared.calls.Offered.{Offered}
 use Rattle.reorder.specs.WellFormed.{wellFormed}
-use Rattle.reorder.specs.Claims.{Machine}
+use Rattle.reorder.specs.Arrays.{Machine}
 use Rattle.reorder.specs.Calls.{OfferOutcome, offerNumbers}
 use Rattle.reorder.proofs.CallLaws.{offer-malformed, offer-rows, offer-store, offer-reads}
 use Rattle.reorder.proofs.MachineLaws.{owned-machine}

@@ -4,7 +4,7 @@ use mathlib.Core.Bool.{cond, false}
 use lib.Dec.{eqb}
 use lib.ListN.{length, drop}
 use Rattle.playout.specs.Sizes.{slots}
-use Rattle.reorder.specs.WellFormed.{zeros}
+use Rattle.reorder.specs.Columns.{zeros}
 use Rattle.reorder.proofs.ColumnLaws.{zeros-end, zeros-more}
 use borrow.Author.Needs.{needs}
 use native.Mathlib.Omega.{arith}

@@ -5,7 +5,7 @@ use Rattle.playout.specs.Pairs.{ahead, after, order}
 use Rattle.playout.specs.Copies.{greater, rank, betterFrame}
 use Rattle.playout.specs.Entries.{view, entryOf, held}
 use Rattle.playout.specs.Verdicts.{allWithin, fits, judgeHeld, judge}
-use Rattle.reorder.specs.CheckedTable.{WholeTable}
+use Rattle.delivery.specs.CheckedTable.{WholeTable}
 
 pub whole-table : WholeTable
 unfolding ahead after order greater rank betterFrame view entryOf held allWithin fits judgeHeld judge

@@ -6,23 +6,23 @@ use native.Mathlib.Nat.{sub-zero}
 use native.Mathlib.Numerals.{add-one}
 use native.Mathlib.Omega.{arith}
 use borrow.Author.Needs.{needs}
-use Rattle.reorder.specs.Checks.{baseOf, positionOf, entriesFine}
-use Rattle.reorder.proofs.TurnLaws.{Told, turn-early, turn-far, turn-fine, told-next}
-use Rattle.reorder.proofs.CheckLaws.{passed, failed, claimed-free, restFine, fine-end, fine-sort, fine-turn, fine-taken, fine-more}
-use Rattle.reorder.proofs.well_formed.entries_fine.Statement.{statement}
-use Rattle.reorder.proofs.well_formed.entries_fine.Tie as tie
-use Rattle.reorder.proofs.well_formed.entries_fine.Reads as reads
-use Rattle.reorder.proofs.well_formed.entries_fine.Lts as lts
+use Rattle.reorder.specs.Checks.{baseOf, positionOf, entriesPass}
+use Rattle.reorder.proofs.PositionLaws.{Told, turn-early, turn-far, turn-fine, told-next}
+use Rattle.reorder.proofs.CheckLaws.{passed, failed, claimed-free, restFine, fine-end, fine-class, fine-turn, fine-taken, fine-more}
+use Rattle.reorder.proofs.well_formed.entries_pass.Statement.{statement}
+use Rattle.reorder.proofs.well_formed.entries_pass.Tie as tie
+use Rattle.reorder.proofs.well_formed.entries_pass.Reads as reads
+use Rattle.reorder.proofs.well_formed.entries_pass.Lts as lts
 use Rattle.reorder.proofs.bits.claim.Reads as claim-reads
 use Rattle.reorder.proofs.bits.same_words.Reads as same-words-reads
 use Rattle.reorder.proofs.well_formed.base_of.Reads as base-of-reads
 use Rattle.reorder.proofs.well_formed.position.Reads as position-reads
-use Rattle.reorder.proofs.well_formed.sort_fine.Reads as sort-fine-reads
+use Rattle.reorder.proofs.well_formed.class_fine.Reads as class-fine-reads
 use Rattle.reorder.proofs.well_formed.start_of.Reads as start-of-reads
 
 abbrev Inv-loop : tie.InvT-loop
 Inv-loop times tags lengths slots occupied fixed n held base least₀ seen₀ i₀ least seen i =
-    (i ≤ n) × (restFine times tags lengths slots occupied fixed n i seen ≡ entriesFine times tags lengths slots occupied fixed n)
+    (i ≤ n) × (restFine times tags lengths slots occupied fixed n i seen ≡ entriesPass times tags lengths slots occupied fixed n)
     × Told (eqb (fixed .drawn) 0) (fixed .«last_time») (fixed .«last_channel») times tags i least
 
 abbrev μ-loop : tie.MeasureT-loop
@@ -40,25 +40,25 @@ start-of-requires c κs = search needs
 loop-holds : tie.Need-loop-holds Inv-loop μ-loop
 loop-holds c = (search needs, rw sub-zero, c .start-of .ensures)
 
-mul-sort-fine : tie.Need-mul-sort-fine Inv-loop μ-loop
-mul-sort-fine c = search needs
+mul-class-fine : tie.Need-mul-class-fine Inv-loop μ-loop
+mul-class-fine c = search needs
 
-element-copy-out-sort-fine : tie.Need-element-copy-out-sort-fine Inv-loop μ-loop
-element-copy-out-sort-fine c = search needs
+element-copy-out-class-fine : tie.Need-element-copy-out-class-fine Inv-loop μ-loop
+element-copy-out-class-fine c = search needs
 
-mul-sort-fine-2 : tie.Need-mul-sort-fine-2 Inv-loop μ-loop
-mul-sort-fine-2 c = search needs
+mul-class-fine-2 : tie.Need-mul-class-fine-2 Inv-loop μ-loop
+mul-class-fine-2 c = search needs
 
-element-copy-out-sort-fine-2 : tie.Need-element-copy-out-sort-fine-2 Inv-loop μ-loop
-element-copy-out-sort-fine-2 c = search needs
+element-copy-out-class-fine-2 : tie.Need-element-copy-out-class-fine-2 Inv-loop μ-loop
+element-copy-out-class-fine-2 c = search needs
 
-sort-fine-requires : tie.Need-sort-fine-requires Inv-loop μ-loop
-sort-fine-requires c κs = search needs
+class-fine-requires : tie.Need-class-fine-requires Inv-loop μ-loop
+class-fine-requires c κs = search needs
 
 returns : tie.Need-returns Inv-loop μ-loop
 returns c =
     let l = c .before .before .before .before .before .loop in
-    sym (fine-sort _ _ _ _ _ _ _ (l .i) (l .seen) (omega arith) (failed (c .before .sort-fine .ensures) (c .if1 .taken))) ∙ l .inv .1
+    sym (fine-class _ _ _ _ _ _ _ (l .i) (l .seen) (omega arith) (failed (c .before .class-fine .ensures) (c .if1 .taken))) ∙ l .inv .1
 
 mul-position : tie.Need-mul-position Inv-loop μ-loop
 mul-position c = search needs
@@ -84,7 +84,7 @@ returns-2 c =
     let bo = c .before .before .before .before .before .before .before .before .before .before .before .base-of .ensures in
     let lb : baseOf f (getD (a .times .now) 0 0) < 2 ^ 32 = subst (λ (b : ℕ). b < 2 ^ 32) bo (c .before .position .ensures .1) in
     let p : c .before .position .result ≡ positionOf (baseOf f (getD (a .times .now) 0 0)) (getD (a .times .now) (l .i) 0) (getD (a .tags .now) (l .i) 0 % 256) = c .before .position .ensures .0 ∙ ap (λ (b : ℕ). positionOf b (getD (a .times .now) (l .i) 0) (getD (a .tags .now) (l .i) 0 % 256)) bo in
-    sym (fine-turn _ _ _ _ _ _ _ (l .i) (l .seen) (omega arith) (passed (c .before .before .before .before .before .sort-fine .ensures) (c .before .before .before .before .if1 .left))
+    sym (fine-turn _ _ _ _ _ _ _ (l .i) (l .seen) (omega arith) (passed (c .before .before .before .before .before .class-fine .ensures) (c .before .before .before .before .if1 .left))
     (turn-early (eqb (f .drawn) 0) (f .«last_time») (f .«last_channel») (a .times .now) (a .tags .now) (s .pre .1) lb (l .i) (l .least) (c .before .position .result) (l .inv .2) (c .before .position .ensures .2) p (c .if2 .taken))) ∙ l .inv .1
 
 returns-3 : tie.Need-returns-3 Inv-loop μ-loop
@@ -96,7 +96,7 @@ returns-3 c =
     let bo = c .before .before .before .before .before .before .before .before .before .before .before .before .base-of .ensures in
     let lb : baseOf f (getD (a .times .now) 0 0) < 2 ^ 32 = subst (λ (b : ℕ). b < 2 ^ 32) bo (c .before .before .position .ensures .1) in
     let p : c .before .before .position .result ≡ positionOf (baseOf f (getD (a .times .now) 0 0)) (getD (a .times .now) (l .i) 0) (getD (a .tags .now) (l .i) 0 % 256) = c .before .before .position .ensures .0 ∙ ap (λ (b : ℕ). positionOf b (getD (a .times .now) (l .i) 0) (getD (a .tags .now) (l .i) 0 % 256)) bo in
-    sym (fine-turn _ _ _ _ _ _ _ (l .i) (l .seen) (omega arith) (passed (c .before .before .before .before .before .before .sort-fine .ensures) (c .before .before .before .before .before .if1 .left))
+    sym (fine-turn _ _ _ _ _ _ _ (l .i) (l .seen) (omega arith) (passed (c .before .before .before .before .before .before .class-fine .ensures) (c .before .before .before .before .before .if1 .left))
     (turn-far (eqb (f .drawn) 0) (f .«last_time») (f .«last_channel») (a .times .now) (a .tags .now) (s .pre .1) lb (l .i) (l .least) (c .before .before .position .result) (l .inv .2) (c .before .before .position .ensures .2) p (omega (arith, c .if3 .taken)))) ∙ l .inv .1
 
 add-least : tie.Need-add-least Inv-loop μ-loop
@@ -124,7 +124,7 @@ returns-4 c =
     let lb : baseOf f (getD (a .times .now) 0 0) < 2 ^ 32 = subst (λ (b : ℕ). b < 2 ^ 32) bo (c .before .before .before .before .before .before .position .ensures .1) in
     let p : c .before .before .before .before .before .before .position .result ≡ positionOf (baseOf f (getD (a .times .now) 0 0)) (getD (a .times .now) (l .i) 0) (getD (a .tags .now) (l .i) 0 % 256) = c .before .before .before .before .before .before .position .ensures .0 ∙ ap (λ (b : ℕ). positionOf b (getD (a .times .now) (l .i) 0) (getD (a .tags .now) (l .i) 0 % 256)) bo in
     let h = c .before .before .before .before in
-    sym (fine-taken _ _ _ _ _ _ _ (l .i) (l .seen) (omega arith) (passed (c .before .before .before .before .before .before .before .before .before .before .sort-fine .ensures) (c .before .before .before .before .before .before .before .before .before .if1 .left))
+    sym (fine-taken _ _ _ _ _ _ _ (l .i) (l .seen) (omega arith) (passed (c .before .before .before .before .before .before .before .before .before .before .class-fine .ensures) (c .before .before .before .before .before .before .before .before .before .if1 .left))
     (turn-fine (eqb (f .drawn) 0) (f .«last_time») (f .«last_channel») (a .times .now) (a .tags .now) (s .pre .1) lb (l .i) (l .least) (c .before .before .before .before .before .before .position .result) (l .inv .2) (c .before .before .before .before .before .before .position .ensures .2) p (h .before .if2 .left) (omega (arith, h .if3 .left))) (failed (c .before .claim .ensures .0) (c .if4 .taken))) ∙ l .inv .1
 
 add-i : tie.Need-add-i Inv-loop μ-loop
@@ -146,7 +146,7 @@ loop-again c =
     let g = passed (c .before .claim .ensures .0) (c .if4 .left) in (
       omega arith,
       ap (restFine (a .times .now) (a .tags .now) (a .lengths .now) (a .slots .now) (a .occupied) (a .fixed) (a .n) (l .i + 1)) (c .before .claim .ensures .1 ∙ claimed-free (l .seen) _ g)
-          ∙ sym (fine-more _ _ _ _ _ _ _ (l .i) (l .seen) (omega arith) (passed (c .before .before .before .before .before .before .before .before .before .before .sort-fine .ensures) (c .before .before .before .before .before .before .before .before .before .if1 .left))
+          ∙ sym (fine-more _ _ _ _ _ _ _ (l .i) (l .seen) (omega arith) (passed (c .before .before .before .before .before .before .before .before .before .before .class-fine .ensures) (c .before .before .before .before .before .before .before .before .before .if1 .left))
           (turn-fine (eqb (f .drawn) 0) (f .«last_time») (f .«last_channel») (a .times .now) (a .tags .now) (s .pre .1) lb (l .i) (l .least) (c .before .before .before .before .before .before .position .result) (l .inv .2) (c .before .before .before .before .before .before .position .ensures .2) p (h .before .if2 .left) (omega (arith, h .if3 .left))) g) ∙ l .inv .1,
       rw (add-one (l .i)) (told-next (eqb (f .drawn) 0) (f .«last_time») (f .«last_channel») (a .times .now) (a .tags .now) (s .pre .1) lb (l .i) (l .least) (c .before .before .before .before .before .before .position .result) (l .inv .2) (c .before .before .before .before .before .before .position .ensures .2) p (h .before .if2 .left) (omega (arith, h .if3 .left))),
     )
@@ -159,8 +159,8 @@ returns-5 c =
     let l = c .before .before .loop in
     c .same-words .ensures ∙ sym (fine-end _ _ _ _ _ _ _ (l .i) (l .seen) (c .before .loop-test .left)) ∙ l .inv .1
 
-pub entries-fine-spec : {M : Type 1} → statement M
-entries-fine-spec =
+pub entries-pass-spec : {M : Type 1} → statement M
+entries-pass-spec =
     tie.close
     (tie.spec
     Inv-loop
@@ -169,11 +169,11 @@ entries-fine-spec =
     base-of-requires
     start-of-requires
     loop-holds
-    mul-sort-fine
-    element-copy-out-sort-fine
-    mul-sort-fine-2
-    element-copy-out-sort-fine-2
-    sort-fine-requires
+    mul-class-fine
+    element-copy-out-class-fine
+    mul-class-fine-2
+    element-copy-out-class-fine-2
+    class-fine-requires
     returns
     mul-position
     element-copy-out-position

@@ -1,9 +1,9 @@
 use borrow.Author.Tests.{not-true, not-false}
 use borrow.Author.Needs.{needs}
-use Rattle.reorder.proofs.well_formed.rest_zero.Statement.{statement}
-use Rattle.reorder.proofs.well_formed.rest_zero.Tie as tie
-use Rattle.reorder.proofs.well_formed.rest_zero.Reads as reads
-use Rattle.reorder.proofs.well_formed.rest_zero.Lts as lts
+use Rattle.reorder.proofs.well_formed.unused_zero.Statement.{statement}
+use Rattle.reorder.proofs.well_formed.unused_zero.Tie as tie
+use Rattle.reorder.proofs.well_formed.unused_zero.Reads as reads
+use Rattle.reorder.proofs.well_formed.unused_zero.Lts as lts
 use Rattle.reorder.proofs.columns.zero_from.Reads as zero-from-reads
 
 zero-from-requires : tie.Need-zero-from-requires
@@ -30,8 +30,8 @@ zero-from-requires-4 c κs = search needs
 returns-4 : tie.Need-returns-4
 returns-4 c = rw (← (c .before .before .before .before .before .before .zero-from .ensures), not-false (c .before .before .before .before .before .before .zero-from .result) (c .before .before .before .before .before .if1 .left), ← (c .before .before .before .before .zero-from2 .ensures), not-false (c .before .before .before .before .zero-from2 .result) (c .before .before .before .if2 .left), ← (c .before .before .zero-from3 .ensures), not-false (c .before .before .zero-from3 .result) (c .before .if3 .left)) (c .zero-from4 .ensures)
 
-pub rest-zero-spec : {M : Type 1} → statement M
-rest-zero-spec =
+pub unused-zero-spec : {M : Type 1} → statement M
+unused-zero-spec =
     tie.close
     (tie.spec
     zero-from-requires

@@ -21,10 +21,10 @@ three false b c h = not-both false h refl
 all-three : (a b c : Bool) → a ≡ true → b ≡ true → c ≡ true → cond a (cond b c false) false ≡ true
 all-three a b c p q r = rw (p, q, r)
 
-gt-of : (o : Ordering) → isAfter o ≡ true → o ≡ Ordering·gt
-gt-of Ordering·lt h = not-both false h refl
-gt-of Ordering·eq h = not-both false h refl
-gt-of Ordering·gt h = refl
+pub after-gt : (o : Ordering) → isAfter o ≡ true → o ≡ Ordering·gt
+after-gt Ordering·lt h = not-both false h refl
+after-gt Ordering·eq h = not-both false h refl
+after-gt Ordering·gt h = refl
 
 -- a position is a place
 place-is : (b t c : ℕ) → positionOf b t c ≡ place b t c
@@ -58,11 +58,11 @@ since d L e t c = cond d true (isAfter (order t c L e))
 module _ (L e : ℕ) (octet : e < 256) (first t c : ℕ) where
   since-near : (d : Bool) → since d L e t c ≡ true → ltb (ahead t first) half ≡ true → t < 2 ^ 32 → c < 256 → Near (cond d first L) t c
   since-near true h s w o = record { word = w; octet = o; near = ltb-true (ahead t first) half s }
-  since-near false h s w o = after-near t c L e w o (gt-of (order t c L e) h)
+  since-near false h s w o = after-near t c L e w o (after-gt (order t c L e) h)
 
   since-past : (d : Bool) → cond d first L < 2 ^ 32 → Near (cond d first L) t c → since d L e t c ≡ true → cond d 0 (e + 1) ≤ place (cond d first L) t c
   since-past true l u h = omega arith
-  since-past false l u h = omega (arith, self-place L e l, after-place L l u (self L e l octet) (gt-of (order t c L e) h))
+  since-past false l u h = omega (arith, self-place L e l, after-place L l u (self L e l octet) (after-gt (order t c L e) h))
 
   since-at : (d : Bool) → cond d first L < 2 ^ 32 → Near (cond d first L) t c → cond d 0 (e + 1) ≤ place (cond d first L) t c → since d L e t c ≡ true
   since-at true l u h = refl
@@ -124,7 +124,7 @@ module _ (d : Bool) (L e : ℕ) (ts gs : List ℕ) where
     turn-gives (suc i) least k w h =
         let q = three _ _ _ h in
         let u = since-near L e octet (time 0) (time (suc i)) (chan (suc i)) d (q .0) (q .1) w (chan-octet (suc i)) in
-        (omega (arith, k .is, after-place base lb u (k .near) (gt-of _ (q .2))), below _ _ _ u)
+        (omega (arith, k .is, after-place base lb u (k .near) (after-gt _ (q .2))), below _ _ _ u)
 
     told-more : (i least : ℕ) → Told i least → Near base (time i) (chan i) → least ≤ spot i → Later i (spot i + 1)
     told-more zero least k u h = record { is = refl; near = u; first = u; from = omega arith; past = omega (arith, k) }

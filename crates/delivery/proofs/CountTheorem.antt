@@ -1,0 +1,53 @@
+-- The count: the proof of the claim.
+use mathlib.Core.Path.{_≡_, refl, ap, sym, _∙_, subst}
+use mathlib.Core.List.{List, [], _∷_, _++_}
+use mathlib.Core.Bool.{Bool, true, false, cond}
+use Prim.Native.Nat.{ℕ, _+_}
+use native.Mathlib.Omega.{arith}
+use lib.ListN.{length}
+use Rattle.rtp.specs.Ranges.{inRange}
+use Rattle.rtp.specs.declared.settings.Settings.{Settings}
+use Rattle.rtp.specs.Areas.{over}
+use Rattle.payload.specs.Rows.{words}
+use Rattle.playout.specs.Entries.{Entry, Held}
+use Rattle.playout.specs.Verdicts.{Counts, noCounts, Judgement, tally, judgeAll}
+use Rattle.playout.proofs.JudgeLaws.{judgeAll-count, tally-append}
+use Rattle.playout.proofs.SoundLaws.{fresh, drawnFirst}
+use Rattle.reorder.specs.Layout.{encode}
+use Rattle.reorder.specs.Rows.{copiesOf}
+use Rattle.reorder.proofs.BridgeLaws.{good-back}
+use Rattle.delivery.specs.Runs.{State, lent, Offer, Call, offer, draw, Yield, Step, Run, run, judged, served, frames}
+use Rattle.delivery.specs.Claims.{framesHeld, Count}
+use Rattle.delivery.proofs.StepLaws.{spare, Fine, at, fresh-fine, begun-at, offer-cases, judged-fine, draw-cases, drawn-fine}
+
+-- from n counted and k held: what is inserted comes to what is drawn and held after
+abbrev Even : Counts → ℕ → List Yield → State → Type 0
+Even n k ys s = k + tally n (judged ys) .inserted ≡ n .inserted + (length (frames (served ys)) + framesHeld (s .buffer))
+
+module _ (st : Settings) (range : inRange st ≡ true) where
+  held-back : (h : Held) → Fine st h → framesHeld (encode st h) ≡ length (h .entries)
+  held-back h g = ap (λ (k : Held). length (k .entries)) (good-back st h (spare .0) g)
+
+  counts : (cs : List Call) (h : Held) → Fine st h → (s rows : List ℕ) (n : Counts)
+      → Even n (length (h .entries)) (run (at st h s rows) cs .yields) (run (at st h s rows) cs .state)
+  unfolding run judged served frames tally
+  counts [] h g s rows n = omega (arith, held-back h g)
+  counts (offer o ∷ cs) h g s rows n =
+      let l = lent rows (o .area) in
+      offer-cases st range h g s rows o (λ (d : Step). Even n (length (h .entries)) (d .yield ∷ run (d .state) cs .yields) (run (d .state) cs .state))
+      (λ q e. counts cs h g s l n)
+      (λ rs r e.
+      let j = judgeAll h s (copiesOf (o .packet) rs) in
+      let m = tally n (j .judgements) in
+      let R = run (at st (j .held) (j .store) (over (words rs) l)) cs in
+      let c = counts cs (j .held) (judged-fine st h s l range g (o .packet) rs r) (j .store) (over (words rs) l) m in
+      let a : tally n (j .judgements ++ judged (R .yields)) .inserted ≡ tally m (judged (R .yields)) .inserted = ap (λ (x : Counts). x .inserted) (tally-append n (j .judgements) (judged (R .yields))) in
+      omega (arith, a, c, judgeAll-count h s n (copiesOf (o .packet) rs)))
+  counts (draw area ∷ cs) h g s rows n =
+      draw-cases st range h g s rows area (λ (d : Step). Even n (length (h .entries)) (d .yield ∷ run (d .state) cs .yields) (run (d .state) cs .state))
+      (λ e. counts cs h g s rows n)
+      (λ e q. counts cs h g s rows n)
+      (λ e room x es q. omega (arith, counts cs (drawnFirst x es) (drawn-fine st range h g s rows x es q) s rows n, ap (λ (k : List Entry). length k) q))
+
+pub count : Count
+count st store rows cs range = rw (begun-at st range store rows) (omega (arith, counts st range cs fresh (fresh-fine st) store rows noCounts))

@@ -1,0 +1,81 @@
+-- Demand 3: the proof of the claim.
+use mathlib.Core.Path.{_≡_, refl, ap, sym, _∙_, subst}
+use mathlib.Core.List.{List, [], _∷_, _++_, map, List·Memᴰ, List·Memᴰ·not-nil as nowhere}
+use mathlib.Core.Bool.{Bool, true, false}
+use Prim.Native.Nat.{ℕ, _≤_, _<_}
+use lib.ListN.{length}
+use lib.Dec.{ltb}
+use borrow.Author.Tests.{ltb-true, ltb-false}
+use Rattle.rtp.specs.Ranges.{inRange}
+use Rattle.rtp.specs.declared.settings.Settings.{Settings}
+use Rattle.rtp.proofs.TestLaws.{by-test}
+use Rattle.playout.specs.Sizes.{slots, storeSize}
+use Rattle.playout.specs.Copies.{Copy}
+use Rattle.playout.specs.Entries.{Held, views}
+use Rattle.playout.specs.Verdicts.{Gathered, judgeAll}
+use Rattle.playout.specs.Lists.{Playout, WithinStretch, AtMost}
+use Rattle.playout.proofs.SoundLaws.{fresh}
+use Rattle.playout.proofs.PlayoutLaws.{gathered, playout-of, playout-unique}
+use Rattle.delivery.specs.Runs.{State, Offer, Call, offer, draw, run, refusalOf, served}
+use Rattle.delivery.specs.Claims.{refusals, accepted, copiesIn, SamePackets, inTurn, delivery, Demand3, Demand}
+use Rattle.delivery.proofs.StepLaws.{spare, at, fresh-fine, begun-at}
+use Rattle.delivery.proofs.RunLaws.{run-refusals}
+use Rattle.delivery.proofs.AcceptedLaws.{accepted-none, copies-frames, copies-among}
+use Rattle.delivery.proofs.DrawLaws.{InTurn, offers-turn}
+
+-- the premises speak of the copies alone
+within-among : (a b : List Copy) → ((x : Copy) → List·Memᴰ x b → List·Memᴰ x a) → WithinStretch a → WithinStretch b
+within-among a b f W = record { base = W .base; word = W .word; within = λ x m. W .within x (f x m) }
+
+few-among : (n : ℕ) (a b : List Copy) → ((x : Copy) → List·Memᴰ x b → List·Memᴰ x a) → AtMost n a → AtMost n b
+few-among n a b f few ds own d = few ds (λ x m. f x (own x m)) d
+
+none-played : Playout [] []
+none-played = record { ascending = tt; copies = λ d m. m; all = λ x m. absurd (nowhere m); best = λ d x m n. absurd (nowhere m) }
+
+module _ (st : Settings) (range : inRange st ≡ true) where
+  -- the copies held after packets, with a store
+  abbrev left : List ℕ → List (List ℕ) → List Copy
+  left s ps = let g = gathered s (copiesIn st ps) in views (g .store) (g .held .entries)
+
+  module _ (packets : List (List ℕ)) (W : WithinStretch (copiesIn st packets)) (few : AtMost slots (copiesIn st packets)) where
+    list-is : Playout (copiesIn st packets) (left (spare .0) packets)
+    list-is = playout-of (spare .0) (copiesIn st packets) (spare .1) (copies-frames st range packets) W few
+
+    module _ (s rows : List ℕ) (os : List Offer) (same : SamePackets packets (accepted st s rows os)) where
+      abbrev theirs : List (List ℕ)
+      theirs = accepted st s rows os
+
+      to : (x : Copy) → List·Memᴰ x (copiesIn st packets) → List·Memᴰ x (copiesIn st theirs)
+      to = copies-among st packets theirs (λ p. same p .0)
+
+      back : (x : Copy) → List·Memᴰ x (copiesIn st theirs) → List·Memᴰ x (copiesIn st packets)
+      back = copies-among st theirs packets (λ p. same p .1)
+
+      -- what is held is their playout list; with a store under its size nothing is accepted, and nothing is held
+      held-is : Playout (copiesIn st theirs) (left s theirs)
+      unfolding copiesIn judgeAll
+      held-is =
+          by-test (ltb (length s) storeSize)
+          (λ a. subst (λ (ps : List (List ℕ)). Playout (copiesIn st ps) (left s ps)) (sym (accepted-none st s (ltb-true _ _ a) os rows)) none-played)
+          (λ a.
+          playout-of s (copiesIn st theirs) (ltb-false _ _ a) (copies-frames st range theirs)
+          (within-among (copiesIn st packets) (copiesIn st theirs) back W) (few-among slots (copiesIn st packets) (copiesIn st theirs) back few))
+
+      one-list : left s theirs ≡ left (spare .0) packets
+      one-list =
+          sym (playout-unique (copiesIn st packets) (copiesIn st theirs) (left (spare .0) packets) (left s theirs)
+          (copies-frames st range packets) W to back list-is held-is)
+
+      turns : (areas : List (List ℕ)) → InTurn (served (delivery st s rows os areas .yields)) (left (spare .0) packets)
+      turns areas =
+          subst (λ (x : State). InTurn (served (run x (map offer os ++ map draw areas) .yields)) (left (spare .0) packets)) (sym (begun-at st range s rows))
+          (offers-turn st range areas os fresh (fresh-fine st) s rows
+          ∙ ap (λ (l : List Copy). inTurn (length (served (run (at st fresh s rows) (map offer os ++ map draw areas) .yields))) l) one-list)
+
+pub demand : Demand
+demand st range = record {
+  refused-exactly = λ store rows cs.
+      ap (λ (s : State). map refusalOf (run s cs .yields)) (begun-at st range store rows) ∙ run-refusals st range cs fresh (fresh-fine st) store rows;
+  in-turn = λ packets W few. (left st range (spare .0) packets, list-is st range packets W few, turns st range packets W few);
+}

@@ -1,0 +1,198 @@
+-- Laws of one call from the buffer of a model: each way that it goes, and what it leaves.
+use mathlib.Core.Path.{_≡_, refl, ap, sym, _∙_, subst}
+use mathlib.Core.List.{List, [], _∷_, List·Memᴰ·not-nil as nowhere}
+use mathlib.Core.Bool.{Bool, true, false, cond, true≢false}
+use Prim.Native.Nat.{ℕ, _*_, _≤_, _<_}
+use native.Mathlib.Omega.{arith}
+use lib.ListN.{length, replicate, length-replicate, length-append, length-drop, drop}
+use lib.Dec.{ltb, eqb}
+use borrow.Author.Tests.{ltb-true, ltb-false, lt-ltb, le-ltb, ne-eqb}
+use Rattle.rtp.specs.Sizes.{rowWidth, rowArea, maxRows}
+use Rattle.rtp.specs.Ranges.{inRange}
+use Rattle.rtp.specs.Refusals.{number}
+use Rattle.rtp.specs.Areas.{over}
+use Rattle.rtp.specs.declared.settings.Settings.{Settings}
+use Rattle.rtp.specs.declared.header.Header.{Header}
+use Rattle.rtp.specs.declared.refusal.Refusal.{Refusal}
+use Rattle.rtp.specs.declared.refusal.Refusal.the-variants.{AreaTooShort}
+use Rattle.rtp.proofs.TestLaws.{by-test}
+use Rattle.rtp.proofs.RefusalLaws.{number-positive}
+use Rattle.payload.specs.Rows.{Row, words}
+use Rattle.payload.proofs.RowLaws.{length-words}
+use Rattle.packet.specs.Readings.{Outcome, refused, readAs, reading}
+use Rattle.packet.proofs.RowFactLaws.{rows-fine}
+use Rattle.playout.specs.Sizes.{slotSize, storeSize}
+use Rattle.playout.specs.Copies.{Copy}
+use Rattle.playout.specs.Entries.{Entry, Held, frameOf}
+use Rattle.playout.specs.Verdicts.{noCounts, Judgement, tally, Gathered, judgeAll}
+use Rattle.playout.proofs.SoundLaws.{fresh, drawnFirst, judgeAll-length}
+use Rattle.reorder.specs.declared.buffer.Buffer.{Buffer}
+use Rattle.reorder.specs.Layout.{encode, decode, fresh as freshBuffer}
+use Rattle.reorder.specs.Rows.{copiesOf, readCopies}
+use Rattle.reorder.specs.Calls.{NewOutcome, countNumbers, OfferOutcome, offerRefused, offerCall, DrawNumbers, noFrame, DrawOutcome, drawRefused, drawCall}
+use Rattle.reorder.proofs.LayoutLaws.{fresh-encode}
+use Rattle.reorder.proofs.CallLaws.{offerRead, drawFirst, new-in, offer-rows, offer-store, offer-reads, draw-store, draw-area, draw-goes}
+use Rattle.reorder.proofs.StateLaws.{Good, good-sound, judgeAll-good, draw-good}
+use Rattle.reorder.proofs.BridgeLaws.{good-fine, good-back}
+use Rattle.reorder.proofs.CopyLaws.{read-fit, fits-frames}
+use Rattle.delivery.specs.Runs.{State, lent, Offer, offer, draw, offered, drew, Step, judgedBy, step, begun}
+use Rattle.delivery.specs.Claims.{readRefusal, offerRefusal, drawRefusal}
+
+-- some store with room
+pub spare : (s : List ℕ) × (storeSize ≤ length s)
+spare = (replicate storeSize 0, subst (λ n. storeSize ≤ n) (sym (length-replicate {A = ℕ} storeSize 0)) (omega arith))
+
+-- the model of a well-formed buffer, whatever its store
+abbrev pub Fine : Settings → Held → Type 0
+Fine st h = Good st h (spare .0)
+
+pub with-room : (st : Settings) (h : Held) (t s : List ℕ) → Good st h t → storeSize ≤ length s → Good st h s
+with-room st h t s g l = record { facts = g .facts; words = g .words; last-word = g .last-word; last-octet = g .last-octet; room = l }
+
+-- the state of a model
+abbrev pub at : Settings → Held → List ℕ → List ℕ → State
+at st h s rows = record { buffer = encode st h; store = s; rows = rows }
+
+pub fresh-fine : (st : Settings) → Fine st fresh
+fresh-fine st = record {
+  facts = record {
+    rising = tt;
+    stretch = tt;
+    each = λ e m. absurd (nowhere m);
+    slot-facts = record { differ = tt; within = λ e m. absurd (nowhere m) };
+    room = omega arith;
+    after-last = λ d e m. absurd (nowhere m);
+    last-channel = λ d. absurd (true≢false (sym d));
+    no-last = λ d. (refl, refl);
+  };
+  words = λ e m. absurd (nowhere m);
+  last-word = omega arith;
+  last-octet = omega arith;
+  room = spare .1;
+}
+
+pub begun-at : (st : Settings) → inRange st ≡ true → (s rows : List ℕ) → begun st s rows ≡ at st fresh s rows
+begun-at st range s rows =
+    ap (λ (n : NewOutcome). record { buffer = n .buffer; store = s; rows = rows }) (new-in st range)
+    ∙ ap (λ (b : Buffer). record { buffer = b; store = s; rows = rows }) (sym (fresh-encode st))
+
+-- Offers
+
+module _ (st : Settings) (h : Held) (s l : List ℕ) where
+  -- refused, and judged
+  abbrev pub refusedOffer : Refusal → Step
+  refusedOffer q = record { yield = offered (countNumbers (number q) noCounts) []; state = at st h s l }
+
+  abbrev pub judgedOffer : List ℕ → List Row → Step
+  judgedOffer packet rs =
+      let g = judgeAll h s (copiesOf packet rs) in
+      record { yield = offered (countNumbers 0 (tally noCounts (g .judgements))) (g .judgements); state = at st (g .held) (g .store) (over (words rs) l) }
+
+  -- what an offer that comes to an outcome yields, where its packet is read so
+  abbrev stepOf : List ℕ → Outcome → OfferOutcome → Step
+  stepOf packet x r = record {
+    yield = offered (r .answer) (cond (eqb (r .answer .refusal) 0) (judgeAll (decode (encode st h)) s (readCopies packet x) .judgements) []);
+    state = record { buffer = r .buffer; store = r .store; rows = r .rows };
+  }
+
+  -- an offer's packet, read into areas that are long enough
+  pub record IsRead (packet : List ℕ) (rs : List Row) : Type 0 where
+    pub area : rowArea ≤ length l
+    pub room : storeSize ≤ length s
+    pub head : Header
+    pub same : reading st (length l) packet ≡ readAs head rs
+
+  module _ (range : inRange st ≡ true) (g : Fine st h) where
+    -- what a judged offer leaves: a well-formed buffer, and areas of their lengths
+    module _ (packet : List ℕ) (rs : List Row) (r : IsRead packet rs) where
+      good : Good st h s
+      good = with-room st h (spare .0) s g (r .room)
+
+      pub judged-fine : Fine st (judgeAll h s (copiesOf packet rs) .held)
+      judged-fine =
+          with-room st _ _ (spare .0)
+          (judgeAll-good st (copiesOf packet rs) h s good (read-fit st range (length l) packet (readAs (r .head) rs) (r .same))) (spare .1)
+
+      pub store-length : length (judgeAll h s (copiesOf packet rs) .store) ≡ length s
+      store-length =
+          judgeAll-length h s (copiesOf packet rs) (good-sound st h s good)
+          (fits-frames st (copiesOf packet rs) (read-fit st range (length l) packet (readAs (r .head) rs) (r .same)))
+
+      pub rows-length : length (over (words rs) l) ≡ length l
+      unfolding over
+      rows-length =
+          let few = rows-fine st (length l) packet (r .head) rs (r .same) .1 in
+          omega (arith, length-append (words rs) (drop (length (words rs)) l), length-drop (length (words rs)) l, length-words rs, few, r .area)
+
+    -- a case for each way that an offer goes
+    module _ (packet : List ℕ) (P : Step → Type 0)
+        (refusing : (q : Refusal) → offerRefusal st s l packet ≡ number q → P (refusedOffer q))
+        (judging : (rs : List Row) → IsRead packet rs → offerRefusal st s l packet ≡ 0 → P (judgedOffer packet rs)) where
+      read-cases : rowArea ≤ length l → storeSize ≤ length s → (x : Outcome) → reading st (length l) packet ≡ x
+          → offerRefusal st s l packet ≡ readRefusal x → P (stepOf packet x (offerRead (encode st h) packet l s x))
+      read-cases a room (refused q) e r = rw (ne-eqb (number q) 0 (omega (arith, number-positive q))) (refusing q r)
+      read-cases a room (readAs x rs) e r =
+          rw (good-back st h (spare .0) g) (judging rs (record { area = a; room = room; head = x; same = e }) r)
+
+      too-short : offerRefusal st s l packet ≡ number AreaTooShort → offerCall (encode st h) packet l s ≡ offerRefused AreaTooShort (encode st h) l s
+          → P (stepOf packet (reading st (length l) packet) (offerCall (encode st h) packet l s))
+      too-short r e = subst (λ (x : OfferOutcome). P (stepOf packet (reading st (length l) packet) x)) (sym e) (refusing AreaTooShort r)
+
+      offer-ways : P (stepOf packet (reading st (length l) packet) (offerCall (encode st h) packet l s))
+      unfolding offerRefusal
+      offer-ways =
+          let w = good-fine st h (spare .0) g in
+          by-test (ltb (length l) rowArea)
+          (λ a. too-short (rw a) (offer-rows (encode st h) packet l s range w (ltb-true _ _ a)))
+          (λ a. by-test (ltb (length s) storeSize)
+          (λ b. too-short (rw (a, b)) (offer-store (encode st h) packet l s range w (ltb-false _ _ a) (ltb-true _ _ b)))
+          (λ b.
+          subst (λ (x : OfferOutcome). P (stepOf packet (reading st (length l) packet) x))
+          (sym (offer-reads (encode st h) packet l s range w (ltb-false _ _ a) (ltb-false _ _ b)))
+          (read-cases (ltb-false _ _ a) (ltb-false _ _ b) (reading st (length l) packet) refl (rw (a, b)))))
+
+module _ (st : Settings) (range : inRange st ≡ true) (h : Held) (g : Fine st h) (s rows : List ℕ) where
+  pub offer-cases : (o : Offer) (P : Step → Type 0) → let l = lent rows (o .area) in
+      ((q : Refusal) → offerRefusal st s l (o .packet) ≡ number q → P (refusedOffer st h s l q))
+      → ((rs : List Row) → IsRead st h s l (o .packet) rs → offerRefusal st s l (o .packet) ≡ 0 → P (judgedOffer st h s l (o .packet) rs))
+      → P (step (at st h s rows) (offer o))
+  unfolding step judgedBy
+  offer-cases o P refusing judging = offer-ways st h s (lent rows (o .area)) range g (o .packet) P refusing judging
+
+  -- Draws
+
+  abbrev frameNumbers : Entry → DrawNumbers
+  frameNumbers e = record { refusal = 0; empty = 0; time = e .time; channel = e .channel; class = e .class; length = e .length }
+
+  abbrev drawOf : DrawOutcome → Step
+  drawOf r = record { yield = drew (r .answer) (r .area); state = record { buffer = r .buffer; store = s; rows = rows } }
+
+  -- a case for each way that a draw goes
+  pub draw-cases : (area : List ℕ) (P : Step → Type 0)
+      → (drawRefusal s area ≡ number AreaTooShort → P (record { yield = drew (noFrame (number AreaTooShort) 0) area; state = at st h s rows }))
+      → (drawRefusal s area ≡ 0 → h .entries ≡ [] → P (record { yield = drew (noFrame 0 1) area; state = at st h s rows }))
+      → (drawRefusal s area ≡ 0 → storeSize ≤ length s → (e : Entry) (es : List Entry) → h .entries ≡ e ∷ es
+      → P (record { yield = drew (frameNumbers e) (over (frameOf s e) area); state = at st (drawnFirst e es) s rows }))
+      → P (step (at st h s rows) (draw area))
+  unfolding step drawRefusal
+  draw-cases area P refusing empty frame =
+      let w = good-fine st h (spare .0) g in
+      by-test (ltb (length s) storeSize)
+      (λ a. went (drawRefused AreaTooShort (encode st h) area) (draw-store (encode st h) s area range w (ltb-true _ _ a)) (refusing (rw a)))
+      (λ a. by-test (ltb (length area) slotSize)
+      (λ b. went (drawRefused AreaTooShort (encode st h) area) (draw-area (encode st h) s area range w (ltb-false _ _ a) (ltb-true _ _ b)) (refusing (rw (a, b))))
+      (λ b.
+      went (drawFirst (encode st h) s area (h .entries))
+      (draw-goes (encode st h) s area range w (ltb-false _ _ a) (ltb-false _ _ b)
+      ∙ ap (λ (k : Held). drawFirst (encode st h) s area (k .entries)) (good-back st h (spare .0) g))
+      (first (rw (a, b)) (ltb-false _ _ a) (h .entries) refl)))
+    where
+      went : (r : DrawOutcome) → drawCall (encode st h) s area ≡ r → P (drawOf r) → P (drawOf (drawCall (encode st h) s area))
+      went r e p = subst (λ (x : DrawOutcome). P (drawOf x)) (sym e) p
+
+      first : cond (ltb (length s) storeSize) (number AreaTooShort) (cond (ltb (length area) slotSize) (number AreaTooShort) 0) ≡ 0 → storeSize ≤ length s → (es : List Entry) → h .entries ≡ es → P (drawOf (drawFirst (encode st h) s area es))
+      first z room [] q = empty z q
+      first z room (e ∷ es) q = frame z room e es q
+
+  pub drawn-fine : (e : Entry) (es : List Entry) → h .entries ≡ e ∷ es → Fine st (drawnFirst e es)
+  drawn-fine e es q = draw-good st h (spare .0) e es q g

@@ -1,0 +1,49 @@
+-- Runs keep a buffer well-formed: the proof of the claim.
+use mathlib.Core.Path.{_≡_, refl, ap, sym, _∙_, subst}
+use mathlib.Core.List.{List, [], _∷_}
+use mathlib.Core.Bool.{Bool, true, false}
+use Prim.Native.Nat.{ℕ}
+use Rattle.rtp.specs.Ranges.{inRange}
+use Rattle.rtp.specs.declared.settings.Settings.{Settings}
+use Rattle.rtp.proofs.TestLaws.{by-test}
+use Rattle.reorder.specs.declared.buffer.Buffer.{Buffer}
+use Rattle.reorder.specs.Arrays.{Machine}
+use Rattle.reorder.specs.Layout.{encode, decode}
+use Rattle.reorder.specs.WellFormed.{wellFormed}
+use Rattle.reorder.specs.Calls.{NewOutcome, OfferOutcome, DrawOutcome}
+use Rattle.reorder.proofs.CallLaws.{new-in, offer-out, draw-out}
+use Rattle.reorder.proofs.WellFormedLaws.{encode-decode}
+use Rattle.reorder.proofs.WellFormedLaws.{fresh-formed}
+use Rattle.reorder.proofs.BridgeLaws.{buffer-good, good-fine}
+use Rattle.delivery.specs.Runs.{State, lent, Offer, Call, offer, draw, step, run}
+use Rattle.delivery.specs.Claims.{KeepsWellFormed}
+use Rattle.delivery.proofs.StepLaws.{spare, at}
+use Rattle.delivery.proofs.RunLaws.{Left, run-leaves}
+
+-- under settings out of range every call is refused
+module _ (b : Buffer) (out : inRange (b .settings) ≡ false) where
+  stays : (cs : List Call) (s rows : List ℕ) → run (record { buffer = b; store = s; rows = rows }) cs .state .buffer ≡ b
+  unfolding run step
+  stays [] s rows = refl
+  stays (offer o ∷ cs) s rows =
+      let l = lent rows (o .area) in
+      ap (λ (r : OfferOutcome). run (record { buffer = r .buffer; store = r .store; rows = r .rows }) cs .state .buffer) (offer-out b (o .packet) l s out) ∙ stays cs s l
+  stays (draw area ∷ cs) s rows =
+      ap (λ (r : DrawOutcome). run (record { buffer = r .buffer; store = s; rows = rows }) cs .state .buffer) (draw-out b s area out) ∙ stays cs s rows
+
+kept : (s : State) (cs : List Call) → Machine (s .buffer) → wellFormed (s .buffer) ≡ true → wellFormed (run s cs .state .buffer) ≡ true
+kept s cs m w =
+    let b = s .buffer in
+    let st = b .settings in
+    by-test (inRange st)
+    (λ r.
+    let k = run-leaves st r cs (decode b) (buffer-good b m r w (spare .0) (spare .1)) (s .store) (s .rows) in
+    subst (λ (x : Buffer). wellFormed (run (record { buffer = x; store = s .store; rows = s .rows }) cs .state .buffer) ≡ true) (encode-decode b m w)
+    (ap (λ (x : State). wellFormed (x .buffer)) (k .same) ∙ good-fine st (k .held) (spare .0) (k .fine)))
+    (λ r. ap wellFormed (stays b r cs (s .store) (s .rows)) ∙ w)
+
+pub keeps-well-formed : KeepsWellFormed
+keeps-well-formed = record {
+  new = λ st r. ap (λ (n : NewOutcome). wellFormed (n .buffer)) (new-in st r) ∙ fresh-formed st;
+  kept = kept;
+}

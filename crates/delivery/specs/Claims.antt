@@ -1,0 +1,120 @@
+-- The claims about runs: demand 3, well-formedness, and the count.
+use Prim.Native.Nat.{ℕ, zero, suc, _+_}
+use mathlib.Core.Path.{_≡_}
+use mathlib.Core.Logic.{_↔_}
+use mathlib.Core.List.{List, [], _∷_, _++_, map, List·Memᴰ}
+use mathlib.Core.Bool.{Bool, true, false, cond}
+use lib.ListN.{length}
+use lib.Dec.{ltb, eqb}
+use Rattle.rtp.specs.Sizes.{rowArea}
+use Rattle.rtp.specs.Ranges.{inRange}
+use Rattle.rtp.specs.Refusals.{number}
+use Rattle.rtp.specs.declared.settings.Settings.{Settings}
+use Rattle.rtp.specs.declared.refusal.Refusal.the-variants.{AreaTooShort}
+use Rattle.packet.specs.Readings.{Outcome, refused, readAs, reading}
+use Rattle.playout.specs.Sizes.{slots, slotSize, storeSize}
+use Rattle.playout.specs.Copies.{Copy}
+use Rattle.playout.specs.Verdicts.{noCounts, tally}
+use Rattle.playout.specs.Lists.{Playout, WithinStretch, AtMost}
+use Rattle.reorder.specs.declared.buffer.Buffer.{Buffer}
+use Rattle.reorder.specs.Arrays.{Machine}
+use Rattle.reorder.specs.Layout.{decode}
+use Rattle.reorder.specs.WellFormed.{wellFormed}
+use Rattle.reorder.specs.Rows.{readCopies}
+use Rattle.reorder.specs.Calls.{newCall, noFrame}
+use Rattle.delivery.specs.Runs.{State, RowsLent, lent, Offer, Call, offer, draw, Run, run, begun, refusalOf, judged, Served, served, frames}
+
+-- What is refused
+
+abbrev pub readRefusal : Outcome → ℕ
+readRefusal (refused r) = number r
+readRefusal (readAs h rs) = 0
+
+-- the refusal that an offer gets: an area lent to it is under its size, or reading refuses its packet; else 0
+unfoldable pub offerRefusal : Settings → List ℕ → List ℕ → List ℕ → ℕ
+offerRefusal st store rows packet =
+    cond (ltb (length rows) rowArea) (number AreaTooShort)
+    (cond (ltb (length store) storeSize) (number AreaTooShort) (readRefusal (reading st (length rows) packet)))
+
+-- the refusal that a draw gets: an area is under its size
+unfoldable pub drawRefusal : List ℕ → List ℕ → ℕ
+drawRefusal store area = cond (ltb (length store) storeSize) (number AreaTooShort) (cond (ltb (length area) slotSize) (number AreaTooShort) 0)
+
+-- of each call in turn, from a store and a row area on: areas keep their lengths
+unfoldable pub refusals : Settings → List ℕ → List ℕ → List Call → List ℕ
+refusals st store rows [] = []
+refusals st store rows (offer o ∷ cs) = offerRefusal st store (lent rows (o .area)) (o .packet) ∷ refusals st store (lent rows (o .area)) cs
+refusals st store rows (draw area ∷ cs) = drawRefusal store area ∷ refusals st store rows cs
+
+-- What is accepted (document 01: heard)
+
+-- the packets of the offers that are not refused
+unfoldable pub accepted : Settings → List ℕ → List ℕ → List Offer → List (List ℕ)
+accepted st store rows [] = []
+accepted st store rows (o ∷ os) =
+    let rest = accepted st store (lent rows (o .area)) os in
+    cond (eqb (offerRefusal st store (lent rows (o .area)) (o .packet)) 0) (o .packet ∷ rest) rest
+
+-- the copies that packets bring: their rows of a class other than no data
+unfoldable pub copiesIn : Settings → List (List ℕ) → List Copy
+copiesIn st [] = []
+copiesIn st (p ∷ ps) = readCopies p (reading st rowArea p) ++ copiesIn st ps
+
+-- the same packets, in whatever order and however often
+abbrev pub SamePackets : List (List ℕ) → List (List ℕ) → Type 0
+SamePackets ps qs = (p : List ℕ) → List·Memᴰ p ps ↔ List·Memᴰ p qs
+
+-- What is drawn
+
+-- a copy handed out: its time, channel, class and length, and its bytes
+abbrev pub handed : Copy → Served
+handed c = record {
+  answer = record { refusal = 0; empty = 0; time = c .time; channel = c .channel; class = c .class; length = length (c .bytes) };
+  bytes = c .bytes;
+}
+
+abbrev pub nothing : Served
+nothing = record { answer = noFrame 0 1; bytes = [] }
+
+-- n draws that hand out a list in turn, from its start, and after its end answer that the buffer is empty
+unfoldable pub inTurn : ℕ → List Copy → List Served
+inTurn zero l = []
+inTurn (suc n) [] = nothing ∷ inTurn n []
+inTurn (suc n) (c ∷ cs) = handed c ∷ inTurn n cs
+
+-- Demand 3, one claim over its whole list of calls
+
+-- offers to a fresh buffer, and draws after them, each lent its area
+abbrev pub delivery : Settings → List ℕ → List ℕ → List Offer → List (List ℕ) → Run
+delivery st store rows os areas = run (begun st store rows) (map offer os ++ map draw areas)
+
+pub record Demand3 (st : Settings) : Type 0 where
+  -- a call is refused exactly if an area lent to it is under its size or reading refuses its packet: in every run from a fresh buffer
+  pub refused-exactly : (store rows : List ℕ) (cs : List Call) → map refusalOf (run (begun st store rows) cs .yields) ≡ refusals st store rows cs
+  -- packets whose copies lie within a stretch and have at most 192 pairs have a playout list; and if just these packets are accepted, in whatever order and however often
+  -- and whatever the areas held, then the draws not refused hand it out in turn, and after its end answer empty
+  pub in-turn : (packets : List (List ℕ)) → WithinStretch (copiesIn st packets) → AtMost slots (copiesIn st packets)
+      → (l : List Copy) × Playout (copiesIn st packets) l
+      × ((store rows : List ℕ) (os : List Offer) → SamePackets packets (accepted st store rows os)
+      → (areas : List (List ℕ)) → let answers = served (delivery st store rows os areas .yields) in answers ≡ inTurn (length answers) l)
+
+abbrev pub Demand : Type 0
+Demand = (st : Settings) → inRange st ≡ true → Demand3 st
+
+-- Well-formedness
+
+-- a fresh buffer is well-formed, and every run keeps a buffer so
+pub record KeepsWellFormed : Type 0 where
+  pub new : (st : Settings) → inRange st ≡ true → wellFormed (newCall st .buffer) ≡ true
+  pub kept : (s : State) (cs : List Call) → Machine (s .buffer) → wellFormed (s .buffer) ≡ true → wellFormed (run s cs .state .buffer) ≡ true
+
+-- The count
+
+-- the frames that a buffer holds
+abbrev pub framesHeld : Buffer → ℕ
+framesHeld b = length (decode b .entries)
+
+-- from a fresh buffer, all inserted verdicts = frames drawn + frames held
+abbrev pub Count : Type 0
+Count = (st : Settings) (store rows : List ℕ) (cs : List Call) → inRange st ≡ true
+    → let r = run (begun st store rows) cs in tally noCounts (judged (r .yields)) .inserted ≡ length (frames (served (r .yields))) + framesHeld (r .state .buffer)
