@@ -15,7 +15,7 @@ use Rattle.playout.specs.Copies.{Copy, betterFrame}
 use Rattle.playout.specs.Verdicts.{Counts, Judged, judge}
 use Rattle.reorder.specs.declared.buffer.Buffer.{Buffer}
 use Rattle.reorder.specs.declared.buffer.Fixed.{Fixed}
-use Rattle.payload.specs.Frames.{noData}
+use Rattle.payload.specs.Frames.{noData, maxClass}
 use Rattle.payload.specs.Rows.{Row}
 use Rattle.playout.specs.Verdicts.{tally, judgeAll}
 use Rattle.rtp.specs.declared.settings.Settings.{Settings}
@@ -41,7 +41,7 @@ tagIn h = 256 * h .class + h .channel
 
 -- a frame's class and channel fit a tag, its bytes a slot
 pub record FrameFits (h : FrameHead) (frame : List ℕ) : Type 0 where
-  pub class : h .class ≤ 2
+  pub class : h .class ≤ maxClass
   pub channel : h .channel < 256
   pub short : length frame ≤ slotSize
 

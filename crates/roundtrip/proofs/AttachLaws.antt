@@ -1,37 +1,24 @@
 -- Laws of a frame-block put before a table.
 use mathlib.Core.Path.{_≡_, refl, sym, subst}
 use mathlib.Core.List.{List, [], _∷_}
-use mathlib.Core.Bool.{true, false}
+use mathlib.Core.Bool.{true}
 use Prim.Native.Nat.{ℕ, zero, suc, _≤_, _<_}
 use native.Mathlib.Omega.{arith}
 use lib.ListN.{length, getD}
 use lib.Dec.{eqb}
-use borrow.Author.Tests.{le-leb, eq-eqb, leb-true, eqb-true}
-use Rattle.rtp.specs.Ranges.{gsmHr}
-use Rattle.rtp.proofs.TestLaws.{by-test, not-both, both, either}
+use borrow.Author.Tests.{le-leb, eq-eqb, eqb-true}
+use Rattle.rtp.proofs.TestLaws.{by-test, not-both}
+use Rattle.payload.specs.Formats.{formatOf, maxGap}
 use Rattle.payload.specs.Contents.{Group, groups}
 use Rattle.payload.specs.Rows.{Row}
 use Rattle.payload.specs.Codes.{noCode, codeFor}
-use Rattle.encoder.specs.Plans.{maxGap, headGap, single, joins, attach}
+use Rattle.encoder.specs.Plans.{headGap, single, joins, attach}
+use Rattle.encoder.proofs.PlanLaws.{Joins, joins-true}
 use Rattle.roundtrip.proofs.EntryBackLaws.{Run}
 use Rattle.roundtrip.proofs.TableBackLaws.{Runs}
 use Rattle.roundtrip.proofs.TableBlockLaws.{Block, blocksIn}
 
--- what joining a run means
-pub record Joined (format : ℕ) (r : Row) (g : Group) : Type 0 where
-  pub runs : eqb format gsmHr ≡ false
-  pub class : r .class ≡ g .class
-  pub length : r .length ≡ g .length
-  pub near : headGap g ≤ maxGap format
-
-pub joined : (format : ℕ) (r : Row) (g : Group) → joins format r g ≡ true → Joined format r g
-joined format r g h =
-    let a = either (eqb format gsmHr) _ h in
-    let b = both (eqb (r .class) (g .class)) _ (a .1) in
-    let c = both (eqb (r .length) (g .length)) _ (b .1) in
-    record { runs = a .0; class = eqb-true _ _ (b .0); length = eqb-true _ _ (c .0); near = leb-true _ _ (c .1) }
-
-pub joins-so : (format : ℕ) (r : Row) (g : Group) → Joined format r g → joins format r g ≡ true
+pub joins-so : (format : ℕ) (r : Row) (g : Group) → Joins format r g → joins format r g ≡ true
 joins-so format r g j = rw (j .runs, eq-eqb (r .class) (g .class) (j .class), eq-eqb (r .length) (g .length) (j .length)) (le-leb (headGap g) (maxGap format) (j .near))
 
 -- runs one after another, whatever stands before the first
@@ -59,8 +46,8 @@ same-groups a b h = cc
 alone-run : (format : ℕ) (r : Row) (gap : ℕ) → codeFor format (r .class) (r .length) < noCode → Run format (single r gap)
 alone-run format r gap h = record { code = h; some = omega arith; near = λ i. omega arith; alone = λ a. refl }
 
-longer-run : (format : ℕ) (r : Row) (gap : ℕ) (g : Group) → Joined format r g → Run format g → Run format (record { class = g .class; length = g .length; gaps = gap ∷ g .gaps })
-longer-run format r gap g j v = record { code = v .code; some = omega arith; near = near; alone = λ a. not-both (eqb format gsmHr) a (j .runs) }
+longer-run : (format : ℕ) (r : Row) (gap : ℕ) (g : Group) → Joins format r g → Run format g → Run format (record { class = g .class; length = g .length; gaps = gap ∷ g .gaps })
+longer-run format r gap g j v = record { code = v .code; some = omega arith; near = near; alone = λ a. not-both (formatOf format .counted) (j .runs) a }
   where
     near : (i : ℕ) → getD (gap ∷ g .gaps) (suc i) 0 ≤ maxGap format
     near zero = j .near
@@ -72,7 +59,7 @@ attached format r gap [] new h =
 attached format r gap (g ∷ gs) new h =
     by-test (joins format r g)
     (λ a.
-    let j = joined format r g a in
+    let j = joins-true format r g a in
     subst (Attached format r gap (g ∷ gs)) (same-groups _ new (rw a at h)) (record {
       blocks = λ i. record { gap = gap; class = sym (j .class) i; length = sym (j .length) i } ∷ blocksIn (g ∷ gs);
       runs = λ c l. (longer-run format r gap g j (l .0), l .1);

@@ -16,7 +16,7 @@ use Rattle.rtp.specs.declared.redundancy.BlockHeader.{BlockHeader}
 use Rattle.rtp.proofs.RedundancyLaws.{headers-step}
 use Rattle.payload.specs.Rows.{Row}
 use Rattle.payload.specs.Payloads.{Rows}
-use Rattle.packet.specs.Blocks.{cut, blockRows, thenRows, blocksRows, redundantRows}
+use Rattle.packet.specs.Blocks.{cut, typedBlockRows, thenRows, blocksRows, redundantRows}
 use Rattle.packet.proofs.AnswerLaws.{then-none}
 use Rattle.packet.proofs.BlockLaws.{block}
 use Rattle.encoder.specs.Lists.{outside, firstTime}
@@ -46,10 +46,10 @@ length-back : (o n : ℕ) → n ≤ maxBlock → 256 * ((4 * (o % 64) + n / 256)
 length-back o n k = omega arith
 
 block-header-back : (type : ℕ) (b : Part) (rest : List ℕ) → type < 128 → b .offset ≤ maxOffset → length (b .bytes) ≤ maxBlock
-    → blockHeader (blockHeaderBytes type b ++ rest) ≡ BlockHeader.Redundant (redundantOf type b)
+    → blockHeader (blockHeaderBytes type (b .offset) (length (b .bytes)) ++ rest) ≡ BlockHeader.Redundant (redundantOf type b)
 unfolding blockHeader
 block-header-back type b rest t o n =
-    let s = blockHeaderBytes type b ++ rest in
+    let s = blockHeaderBytes type (b .offset) (length (b .bytes)) ++ rest in
     let e : (128 + type) % 128 ≡ type = omega arith in
     rw (ne-eqb (length s) 0 (omega arith), le-ltb (128 + type) 128 (omega arith), le-ltb (length s) 4 (omega arith))
     (λ i. BlockHeader.Redundant (record { «payload_type» = e i; offset = offset-back (b .offset) (length (b .bytes)) o n i; length = length-back (b .offset) (length (b .bytes)) n i }))
@@ -75,7 +75,7 @@ module _ (st : Settings) (bytes : List ℕ) (time type : ℕ) (small : type < 12
   headers-back (b ∷ bs) p rest rs m =
       let next = headersBytes type bs ++ rest in
       let e = headers-back bs p rest (drop (m .0) rs) (m .2) in
-      rw (headers-step (blockHeaderBytes type b ++ next), block-header-back type b next small (m .1 .near) (m .1 .short)) (ap (prepend (redundantOf type b)) e)
+      rw (headers-step (blockHeaderBytes type (b .offset) (length (b .bytes)) ++ next), block-header-back type b next small (m .1 .near) (m .1 .short)) (ap (prepend (redundantOf type b)) e)
 
 -- Blocks
 
@@ -93,20 +93,20 @@ back-then s bytes n rs x next a b = record {
   same = subst (SameFrames s bytes (a .rows ++ b .rows)) (take-append-drop n rs) (same-append s bytes (a .rows) (take n rs) (b .rows) (drop n rs) (a .same) (b .same));
 }
 
-last-block : (st : Settings) (done time type at : ℕ) (p : List ℕ) → blocksRows st done time (cut [] type at p) ≡ blockRows st done time (block type 0 at p)
+last-block : (st : Settings) (done time type at : ℕ) (p : List ℕ) → blocksRows st done time (cut [] type at p) ≡ typedBlockRows st done time (block type 0 at p)
 unfolding blocksRows cut
-last-block st done time type at p = then-none (blockRows st done time (block type 0 at p))
+last-block st done time type at p = then-none (typedBlockRows st done time (block type 0 at p))
 
 first-block : (st : Settings) (done time type at : ℕ) (b : Part) (hs : List Redundant) (c : List ℕ) → blocksRows st done time (cut (redundantOf type b ∷ hs) type at (b .bytes ++ c))
-    ≡ thenRows (blockRows st done time (block type (b .offset) at (b .bytes))) (λ n. blocksRows st (done + n) time (cut hs type (at + length (b .bytes)) c))
+    ≡ thenRows (typedBlockRows st done time (block type (b .offset) at (b .bytes))) (λ n. blocksRows st (done + n) time (cut hs type (at + length (b .bytes)) c))
 unfolding blocksRows cut
 first-block st done time type at b hs c = rw (take-append-seam (b .bytes) c, drop-append-seam (b .bytes) c)
 
 module _ (st : Settings) (bytes : List ℕ) (time : ℕ) (some : 1 ≤ st .channels) (t : time < 2 ^ 32) where
   -- a block whose time is its list's, anywhere
   block-back : (offset : ℕ) (p : List ℕ) (rs : List Row) → Reads st bytes p rs → difference time offset ≡ firstTime rs → (front rest : List ℕ) (done : ℕ) → done + length rs ≤ maxRows
-      → Back (front ++ (p ++ rest)) bytes rs (blockRows st done time (block (st .«payload_type») offset (length front) p))
-  unfolding blockRows
+      → Back (front ++ (p ++ rest)) bytes rs (typedBlockRows st done time (block (st .«payload_type») offset (length front) p))
+  unfolding typedBlockRows
   block-back offset p rs r e front rest done few =
       let b = r .back front rest done few in
       record { rows = b .rows; read = rw (eq-eqb (st .«payload_type») (st .«payload_type») refl, ne-eqb (length p) 0 (omega (arith, r .some)), e) (b .read); same = b .same }

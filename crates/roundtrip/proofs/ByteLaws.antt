@@ -6,17 +6,15 @@ use Prim.Native.Nat.{ℕ, zero, suc, _+_, _*_, _≤_, _<_}
 use native.Mathlib.Omega.{arith}
 use native.Mathlib.Nat.{le-mul-of-pos-right}
 use lib.ListN.{length, getD, take, drop}
-use lib.Dec.{eqb}
 use Rattle.rtp.specs.Sizes.{maxRows}
-use Rattle.rtp.specs.Ranges.{g719Interleaved, gsmHr}
 use Rattle.rtp.proofs.RedundancyLaws.{bytes-drop}
-use Rattle.payload.specs.Contents.{Group, rowsIn}
+use Rattle.payload.specs.Contents.{Group, rowCount}
 use Rattle.payload.specs.Rows.{Row}
-use Rattle.payload.specs.Codes.{codeFor}
+use Rattle.payload.specs.Formats.{formatOf}
 use Rattle.encoder.specs.Plans.{headGap}
-use Rattle.encoder.specs.Bytes.{halves, flag, entryBytes, tableBytes, frameIn, frames}
+use Rattle.encoder.specs.Bytes.{halves, firstByte, startBytes, gapBytes, entryBytes, tableBytes, frameIn, frames}
 use Rattle.roundtrip.specs.Claims.{Bytes}
-use Rattle.payload.proofs.CodeLaws.{code-small}
+use Rattle.encoder.proofs.EntryLaws.{first-small}
 use Rattle.roundtrip.proofs.EntryBackLaws.{Run, small-gaps}
 use Rattle.roundtrip.proofs.TableBackLaws.{Runs}
 
@@ -42,10 +40,6 @@ bytes-halves [] h = bytes-none
 bytes-halves (a ∷ []) h = bytes-one (16 * a) [] (omega (arith, h 0)) bytes-none
 bytes-halves (a ∷ b ∷ ns) h = bytes-one (16 * a + b) (halves ns) (omega (arith, h 0, h 1)) (bytes-halves ns (λ i. h (suc (suc i))))
 
-first-byte : (m : Bool) (n : ℕ) → n < 128 → flag m + n < 256
-first-byte true n h = omega arith
-first-byte false n h = omega arith
-
 bytes-either : (t : Bool) (a b : List ℕ) → (t ≡ true → Bytes a) → (t ≡ false → Bytes b) → Bytes (cond t a b)
 bytes-either true a b h k = h refl
 bytes-either false a b h k = k refl
@@ -53,17 +47,14 @@ bytes-either false a b h k = k refl
 bytes-entry : (format : ℕ) (more : Bool) (g : Group) → Run format g → headGap g ≡ 0 → length (g .gaps) < 256 → Bytes (entryBytes format more g)
 unfolding entryBytes
 bytes-entry format more g r f few =
-    let c = codeFor format (g .class) (g .length) in
-    let gaps = cond (eqb format g719Interleaved) (halves (g .gaps)) [] in
-    bytes-either (eqb format gsmHr) ((flag more + 16 * c) ∷ []) ((flag more + 4 * c) ∷ length (g .gaps) ∷ gaps)
-    (λ a. let z = code-small format (g .class) (g .length) a (r .code) in bytes-one (flag more + 16 * c) [] (first-byte more (16 * c) (omega arith)) bytes-none)
-    (λ a. bytes-one (flag more + 4 * c) (length (g .gaps) ∷ gaps) (first-byte more (4 * c) (omega (arith, r .code)))
-    (bytes-one (length (g .gaps)) gaps few
-    (bytes-either (eqb format g719Interleaved) (halves (g .gaps)) [] (λ b. bytes-halves (g .gaps) (small-gaps format g r f b)) (λ b. bytes-none))))
+    bytes-append (startBytes format more (g .class) (g .length) (length (g .gaps))) (gapBytes format (g .gaps))
+    (bytes-one (firstByte format more (g .class) (g .length)) (cond (formatOf format .counted) (length (g .gaps) ∷ []) []) (first-small format more (g .class) (g .length) (r .code))
+    (bytes-either (formatOf format .counted) (length (g .gaps) ∷ []) [] (λ a. bytes-one (length (g .gaps)) [] few bytes-none) (λ a. bytes-none)))
+    (bytes-either (formatOf format .displaced) (halves (g .gaps)) [] (λ b. bytes-halves (g .gaps) (small-gaps format more g [] r f)) (λ b. bytes-none))
 
 -- a table of at most 128 rows
-pub bytes-table : (format ch : ℕ) (gs : List Group) → 1 ≤ ch → Runs format gs → rowsIn ch gs ≤ maxRows → Bytes (tableBytes format gs)
-unfolding tableBytes rowsIn
+pub bytes-table : (format ch : ℕ) (gs : List Group) → 1 ≤ ch → Runs format gs → rowCount ch gs ≤ maxRows → Bytes (tableBytes format gs)
+unfolding tableBytes rowCount
 bytes-table format ch [] c v h = bytes-none
 bytes-table format ch (g ∷ []) c v h = bytes-entry format false g (v .0) (v .1) (omega (arith, le-mul-of-pos-right (length (g .gaps)) c))
 bytes-table format ch (g ∷ f ∷ gs) c v h =

@@ -5,26 +5,29 @@ use mathlib.Core.Bool.{Bool, true, false}
 use Prim.Native.Nat.{ℕ, zero, suc, _+_, _*_, _/_, _%_, _≤_, _<_}
 use native.Mathlib.Omega.{arith}
 use native.Mathlib.Nat.{add-zero, zero-add}
-use lib.ListN.{length, getD, length-append}
-use lib.Dec.{leb, eqb}
-use borrow.Author.Tests.{le-ltb, le-leb, lt-leb, ne-eqb, eqb-true}
-use Rattle.rtp.specs.Ranges.{g719Interleaved, gsmHr}
+use lib.ListN.{length, getD, drop, length-append}
+use lib.Dec.{leb}
+use borrow.Author.Tests.{le-ltb, le-leb, lt-leb, ne-eqb}
+use Rattle.rtp.specs.Numbers.{byteAt}
 use Rattle.rtp.proofs.TestLaws.{by-test}
+use Rattle.payload.specs.Formats.{formatOf, maxGap}
 use Rattle.payload.specs.declared.contents.Entry.{Entry}
 use Rattle.payload.specs.declared.contents.EntryRead.{EntryRead}
-use Rattle.payload.specs.Contents.{entrySize, entryOf, Group, halfAt, gapAt, gapsFrom, meaning}
+use Rattle.payload.specs.Contents.{minEntry, codeIn, blocksIn, entrySize, entryOf, Group, halfAt, gapAt, gapsFrom, meaning}
 use Rattle.payload.specs.Codes.{noCode, codeFor}
-use Rattle.encoder.specs.Plans.{maxGap, headGap}
-use Rattle.encoder.specs.Bytes.{halves, flag, entryBytes}
-use Rattle.encoder.proofs.EntryLaws.{length-halves}
-use Rattle.payload.proofs.CodeLaws.{code-back, code-small}
+use Rattle.encoder.specs.Plans.{headGap}
+use Rattle.encoder.specs.Bytes.{halves, flag, firstByte, gapBytes, entryBytes}
+use Rattle.encoder.proofs.EntryLaws.{length-entry}
+use Rattle.payload.proofs.CodeLaws.{code-back, code-below}
+use Rattle.payload.proofs.FormatLaws.{code-placed, gap-small}
+use Rattle.payload.proofs.EntryLaws.{size-min}
 
 -- a run of frame-blocks that an entry can say, but for the gap before it
 pub record Run (format : ℕ) (g : Group) : Type 0 where
   pub code : codeFor format (g .class) (g .length) < noCode
   pub some : 1 ≤ length (g .gaps)
   pub near : (i : ℕ) → getD (g .gaps) (suc i) 0 ≤ maxGap format
-  pub alone : eqb format gsmHr ≡ true → length (g .gaps) ≡ 1
+  pub alone : formatOf format .counted ≡ false → length (g .gaps) ≡ 1
 
 -- The first byte
 
@@ -32,13 +35,21 @@ first-more : (m : Bool) (n : ℕ) → n < 128 → leb 128 (flag m + n) ≡ m
 first-more true n h = le-leb 128 (128 + n) (omega arith)
 first-more false n h = lt-leb 128 (0 + n) (omega arith)
 
-first-code : (m : Bool) (c : ℕ) → c < 32 → (flag m + 4 * c) / 4 % 32 ≡ c
-first-code true c h = omega arith
-first-code false c h = omega arith
+module _ (format : ℕ) (more : Bool) (class n : ℕ) (h : codeFor format class n < noCode) where
+  first-flag : leb 128 (firstByte format more class n) ≡ more
+  unfolding firstByte
+  first-flag = first-more more (formatOf format .unit * codeFor format class n) (code-placed format .low (codeFor format class n) (code-below format class n h))
 
-first-type : (m : Bool) (c : ℕ) → c < 8 → (flag m + 16 * c) / 16 % 8 ≡ c
-first-type true c h = omega arith
-first-type false c h = omega arith
+  first-code : codeIn format (firstByte format more class n) ≡ codeFor format class n
+  unfolding firstByte
+  first-code = by-flag more (code-placed format .back (codeFor format class n) (code-below format class n h))
+    where
+      by-flag : (m : Bool)
+          → (formatOf format .unit * codeFor format class n / formatOf format .unit % formatOf format .codes ≡ codeFor format class n)
+          × ((128 + formatOf format .unit * codeFor format class n) / formatOf format .unit % formatOf format .codes ≡ codeFor format class n)
+          → (flag m + formatOf format .unit * codeFor format class n) / formatOf format .unit % formatOf format .codes ≡ codeFor format class n
+      by-flag true b = b .1
+      by-flag false b = rw zero-add (b .0)
 
 -- Gaps in half bytes
 
@@ -74,45 +85,51 @@ gaps-are format s k (g ∷ gs) h =
 abbrev pub entryFor : ℕ → Bool → Group → Entry
 entryFor format more g = record { more = more; class = g .class; length = g .length; blocks = length (g .gaps); size = entrySize format (length (g .gaps)) }
 
-pub entry-back : (format : ℕ) (more : Bool) (g : Group) (rest : List ℕ) → Run format g → entryOf format (entryBytes format more g ++ rest) ≡ EntryRead.Entry (entryFor format more g)
-unfolding entryBytes entryOf
-entry-back format more g rest r =
-    let c = codeFor format (g .class) (g .length) in
-    let none : length (g .gaps) ≡ 0 → ⊥ = omega arith in
-    by-test (eqb format gsmHr)
-    (λ a.
-    let z = code-small format (g .class) (g .length) a (r .code) in
-    simp (a, r .alone a, le-ltb (suc (length rest)) 1 (omega arith), first-type more c z, first-more more (16 * c) (omega arith), code-back format (g .class) (g .length) (r .code)))
-    (λ a. by-test (eqb format g719Interleaved)
-    (λ b. simp (
-      a,
-      b,
-      le-ltb (suc (suc (length (halves (g .gaps) ++ rest)))) 2 (omega arith),
-      le-ltb (suc (suc (length (halves (g .gaps) ++ rest)))) (2 + (length (g .gaps) + 1) / 2) (omega (arith, length-append (halves (g .gaps)) rest, length-halves (g .gaps))),
-      first-code more c (r .code),
-      first-more more (4 * c) (omega arith),
-      code-back format (g .class) (g .length) (r .code),
-      ne-eqb (length (g .gaps)) 0 none,
-    ))
-    (λ b. simp (a, b, le-ltb (suc (suc (length rest))) 2 (omega arith), first-code more c (r .code), first-more more (4 * c) (omega arith), code-back format (g .class) (g .length) (r .code), ne-eqb (length (g .gaps)) 0 none)))
+module _ (format : ℕ) (more : Bool) (g : Group) (rest : List ℕ) (r : Run format g) where
+  first-back : byteAt (entryBytes format more g ++ rest) 0 ≡ firstByte format more (g .class) (g .length)
+  unfolding entryBytes
+  first-back = refl
 
-pub small-gaps : (format : ℕ) (g : Group) → Run format g → headGap g ≡ 0 → eqb format g719Interleaved ≡ true → (i : ℕ) → getD (g .gaps) i 0 < 16
-small-gaps format g r f b zero = omega arith
-small-gaps format g r f b (suc i) = let n : getD (g .gaps) (suc i) 0 ≤ 15 = rw b at (r .near i) in omega arith
+  blocks-back : blocksIn format (entryBytes format more g ++ rest) ≡ length (g .gaps)
+  unfolding entryBytes
+  blocks-back = by-test (formatOf format .counted) (λ a. rw a) (λ a. rw a (sym (r .alone a)))
 
-gap-back : (format : ℕ) (more : Bool) (g : Group) (rest : List ℕ) → Run format g → headGap g ≡ 0 → (i : ℕ) → i < length (g .gaps)
-    → gapAt format (entryBytes format more g ++ rest) (0 + i) ≡ getD (g .gaps) i 0
-unfolding gapAt entryBytes
-gap-back format more g rest r f zero h = sym f
-gap-back format more g rest r f (suc i) h =
-    let later : suc i ≡ 0 → ⊥ = omega arith in
-    rw (zero-add, ne-eqb (suc i) 0 later)
-    (by-test (eqb format g719Interleaved)
-    (λ b.
-    let e = eqb-true format g719Interleaved b in
-    let a : eqb format gsmHr ≡ false = ne-eqb format gsmHr (omega arith) in
-    rw (a, b) (half-back (g .gaps) rest (suc i) (small-gaps format g r f b) h))
-    (λ b. let n : getD (g .gaps) (suc i) 0 ≤ 0 = rw b at (r .near i) in rw b (omega arith)))
+  gaps-back : drop (minEntry format) (entryBytes format more g ++ rest) ≡ gapBytes format (g .gaps) ++ rest
+  unfolding entryBytes minEntry
+  gaps-back = by-test (formatOf format .counted) (λ a. rw a) (λ a. rw a)
+
+  pub entry-back : entryOf format (entryBytes format more g ++ rest) ≡ EntryRead.Entry (entryFor format more g)
+  unfolding entryOf
+  entry-back =
+      let s = entryBytes format more g ++ rest in
+      let n = length-append (entryBytes format more g) rest in
+      let e = length-entry format more g in
+      let none : length (g .gaps) ≡ 0 → ⊥ = omega (arith, r .some) in
+      rw (
+        blocks-back,
+        first-back,
+        le-ltb (length s) (minEntry format) (omega (arith, n, e, size-min format (length (g .gaps)))),
+        le-ltb (length s) (entrySize format (length (g .gaps))) (omega (arith, n, e)),
+        first-flag format more (g .class) (g .length) (r .code),
+        first-code format more (g .class) (g .length) (r .code),
+        code-back format (g .class) (g .length) (r .code),
+        ne-eqb (length (g .gaps)) 0 none,
+      )
+
+  module _ (f : headGap g ≡ 0) where
+    pub small-gaps : (i : ℕ) → getD (g .gaps) i 0 < 16
+    small-gaps zero = omega arith
+    small-gaps (suc i) = omega (arith, r .near i, gap-small format)
+
+    gap-back : (i : ℕ) → i < length (g .gaps) → gapAt format (entryBytes format more g ++ rest) (0 + i) ≡ getD (g .gaps) i 0
+    unfolding gapAt maxGap
+    gap-back zero h = sym f
+    gap-back (suc i) h =
+        let later : suc i ≡ 0 → ⊥ = omega arith in
+        rw (zero-add, ne-eqb (suc i) 0 later, gaps-back)
+        (by-test (formatOf format .displaced)
+        (λ b. rw b (half-back (g .gaps) rest (suc i) small-gaps h))
+        (λ b. let n : getD (g .gaps) (suc i) 0 ≤ 0 = rw b at (r .near i) in rw b (omega arith)))
 
 pub meaning-back : (format : ℕ) (more : Bool) (g : Group) (rest : List ℕ) → Run format g → headGap g ≡ 0
     → meaning format (entryBytes format more g ++ rest) (entryFor format more g) ≡ g

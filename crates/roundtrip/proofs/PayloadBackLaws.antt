@@ -8,8 +8,8 @@ use lib.ListN.{length, length-append}
 use borrow.Author.Tests.{eq-eqb}
 use Rattle.rtp.specs.Sizes.{maxRows}
 use Rattle.rtp.specs.declared.settings.Settings.{Settings}
-use Rattle.payload.specs.Frames.{stepOf}
-use Rattle.payload.specs.Contents.{Group, Contents, refused, groups, contents, rowsIn, sizeIn, framesIn}
+use Rattle.payload.specs.Formats.{stepOf}
+use Rattle.payload.specs.Contents.{Group, Contents, refused, groups, contents, rowCount, sizeIn, framesIn}
 use Rattle.payload.specs.Rows.{Row, tableRows}
 use Rattle.payload.specs.Payloads.{payload, Rows, rowsOf, placedRows, payloadRows}
 use Rattle.payload.proofs.PayloadLaws.{length-table}
@@ -17,7 +17,8 @@ use Rattle.encoder.specs.Lists.{outside, firstTime}
 use Rattle.encoder.specs.Plans.{plan}
 use Rattle.encoder.specs.Bytes.{tableBytes, frames}
 use Rattle.encoder.specs.Writings.{bytesOf, plannedBytes, encoded}
-use Rattle.encoder.proofs.EntryLaws.{size-some, length-table as length-table-bytes}
+use Rattle.payload.proofs.EntryLaws.{size-some}
+use Rattle.encoder.proofs.EntryLaws.{length-table as length-table-bytes}
 use Rattle.encoder.proofs.FrameBytesLaws.{length-frames}
 use Rattle.roundtrip.specs.Claims.{SameFrames}
 use Rattle.roundtrip.proofs.TableBackLaws.{Runs, table-back}
@@ -57,13 +58,13 @@ module _ (format ch : ℕ) (bytes : List ℕ) (rs : List Row) (gs : List Group) 
       let e = frames-same (stepOf format) ch (firstTime rs) 0 rs gs (v .rows 0) in
       length-append (tableBytes format gs) (frames bytes rs) ∙ rw (length-table-bytes format gs, length-frames bytes rs inside, e)
 
-  planned-few : length rs ≡ rowsIn ch gs
+  planned-few : length rs ≡ rowCount ch gs
   planned-few = sym (length-plains rs) ∙ ap (λ (l : List Row). length l) (v .rows 0) ∙ length-plains (tableRows (stepOf format) ch (firstTime rs) 0 gs) ∙ length-table (stepOf format) ch (firstTime rs) 0 gs
 
   planned-contents : (done : ℕ) → done + length rs ≤ maxRows → contents format ch done Planned ≡ groups gs
   planned-contents done h = go gs (v .runs) (v .some) (omega (arith, planned-few))
     where
-      go : (gs : List Group) → Runs format gs → 1 ≤ length gs → done + rowsIn ch gs ≤ maxRows → contents format ch done (tableBytes format gs ++ frames bytes rs) ≡ groups gs
+      go : (gs : List Group) → Runs format gs → 1 ≤ length gs → done + rowCount ch gs ≤ maxRows → contents format ch done (tableBytes format gs ++ frames bytes rs) ≡ groups gs
       go [] r n few = absurd (omega arith)
       go (g ∷ gs) r n few = table-back format ch done g gs (frames bytes rs) r few
 

@@ -12,8 +12,8 @@ use Rattle.rtp.specs.Ranges.{inRange}
 use Rattle.rtp.specs.declared.settings.Settings.{Settings}
 use Rattle.rtp.specs.declared.refusal.Refusal.the-variants.{Unwritable}
 use Rattle.rtp.proofs.TestLaws.{by-test}
-use Rattle.payload.specs.Frames.{stepOf}
-use Rattle.payload.specs.Contents.{Group, Contents, refused, groups, contents, rowsIn as rowsSaid, sizeIn, framesIn, sizesAnswer}
+use Rattle.payload.specs.Formats.{stepOf}
+use Rattle.payload.specs.Contents.{Group, Contents, refused, groups, contents, rowCount, sizeIn, framesIn, sizesAnswer}
 use Rattle.payload.specs.Rows.{Row, tableRows}
 use Rattle.payload.specs.Payloads.{exact, payload, rowsOf, placedRows, payloadRows}
 use Rattle.payload.proofs.ContentsLaws.{Small, within}
@@ -127,7 +127,7 @@ parsed format ch time p rows h = go (contents format ch 0 p) refl h
         (λ t. record { table = gs; is = e; size = eqb-true _ _ t; same = same-rows _ rows (rw t at k) })
         (λ t. let y = rw t at k in let z : _≡_ {A = ℕ} 0 1 = cc in absurd (omega arith))
 
-few-rows : (format ch : ℕ) (p : List ℕ) (gs : List Group) → contents format ch 0 p ≡ groups gs → rowsSaid ch gs ≤ maxRows
+few-rows : (format ch : ℕ) (p : List ℕ) (gs : List Group) → contents format ch 0 p ≡ groups gs → rowCount ch gs ≤ maxRows
 unfolding sizesAnswer
 few-rows format ch p gs h = let w : Small 0 (length p) _ = rw h at (within format ch 0 p) in omega (arith, w .few)
 

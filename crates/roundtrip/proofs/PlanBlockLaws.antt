@@ -8,14 +8,13 @@ use native.Mathlib.Nat.{mod-lt}
 use lib.ListN.{length, getD}
 use lib.Dec.{eqb}
 use borrow.Author.Tests.{lt-ltb, eq-eqb, ne-eqb}
-use Rattle.rtp.specs.Ranges.{g719Interleaved}
 use Rattle.rtp.specs.declared.refusal.Refusal.the-variants.{Unwritable}
-use Rattle.rtp.proofs.TestLaws.{by-test}
-use Rattle.payload.specs.Frames.{stepOf}
+use Rattle.payload.specs.Formats.{stepOf}
 use Rattle.payload.specs.Contents.{Group, Contents, refused, groups}
 use Rattle.payload.specs.Rows.{Row, placed, blockRows}
 use Rattle.payload.specs.Codes.{noCode, codeFor}
-use Rattle.encoder.specs.Plans.{maxGap, gapBetween, nextChannel, starts, follows, attach, planFrom}
+use Rattle.payload.proofs.FormatLaws.{gap-small}
+use Rattle.encoder.specs.Plans.{gapBetween, nextChannel, starts, follows, attach, planFrom}
 use Rattle.roundtrip.proofs.TableBackLaws.{Runs}
 use Rattle.roundtrip.proofs.TableBlockLaws.{Block, blocksOf, blocksIn, blocksRows}
 use Rattle.roundtrip.proofs.FrameLaws.{plain, plains}
@@ -60,9 +59,6 @@ Fit format (b ∷ bs) = (codeFor format (b .class) (b .length) < noCode) × (b .
 fit-more : (format class len : ℕ) (gaps : List ℕ) (bs : List Block) → codeFor format class len < noCode → ((i : ℕ) → getD gaps i 0 ≤ 15) → Fit format bs → Fit format (blocksOf class len gaps ++ bs)
 fit-more format class len [] bs c h f = f
 fit-more format class len (g ∷ gaps) bs c h f = (c, h 0, fit-more format class len gaps bs c (λ i. h (suc i)) f)
-
-gap-small : (format : ℕ) → maxGap format ≤ 15
-gap-small format = by-test (eqb format g719Interleaved) (λ a. rw a (omega arith)) (λ a. rw a (omega arith))
 
 pub fit-runs : (format : ℕ) (gs : List Group) → Runs format gs → Fit format (blocksIn gs)
 fit-runs format [] v = tt

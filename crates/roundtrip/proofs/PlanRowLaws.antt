@@ -8,9 +8,9 @@ use lib.Dec.{ltb, eqb}
 use borrow.Author.Tests.{eq-eqb, ne-eqb, ltb-true, eqb-true}
 use Rattle.rtp.proofs.TestLaws.{both}
 use Rattle.rtp.specs.declared.refusal.Refusal.the-variants.{Unwritable}
-use Rattle.payload.specs.Frames.{stepOf}
+use Rattle.payload.specs.Formats.{stepOf}
 use Rattle.payload.specs.Contents.{Group, Contents, refused, groups}
-use Rattle.payload.specs.Rows.{Row, placed, after, blockRows}
+use Rattle.payload.specs.Rows.{Row, placed, nextPlace, blockRows}
 use Rattle.payload.specs.Codes.{noCode, codeFor}
 use Rattle.encoder.specs.Plans.{ticksAfter, gapBetween, continues, follows, attach, planFrom}
 use Rattle.roundtrip.proofs.TableBlockLaws.{Block, blocksIn, blocksRows}
@@ -27,7 +27,7 @@ blockPlains (suc n) c time class len = record { time = time; class = class; chan
 
 unfoldable pub blocksPlains : ℕ → ℕ → ℕ → List Block → List Row
 blocksPlains step ch time [] = []
-blocksPlains step ch time (b ∷ bs) = blockPlains ch 0 (placed step time (b .gap)) (b .class) (b .length) ++ blocksPlains step ch (after step time (b .gap)) bs
+blocksPlains step ch time (b ∷ bs) = blockPlains ch 0 (placed step time (b .gap)) (b .class) (b .length) ++ blocksPlains step ch (nextPlace step time (b .gap)) bs
 
 plain-block : (n c time class start len : ℕ) → plains (blockRows n c time class start len) ≡ blockPlains n c time class len
 unfolding blockRows blockPlains
@@ -37,7 +37,7 @@ plain-block (suc n) c time class start len = rw (plain-block n (c + 1) time clas
 pub plain-blocks : (step ch time start : ℕ) (bs : List Block) → plains (blocksRows step ch time start bs) ≡ blocksPlains step ch time bs
 unfolding blocksRows blocksPlains
 plain-blocks step ch time start [] = refl
-plain-blocks step ch time start (b ∷ bs) = rw (plains-append, plain-block, plain-blocks step ch (after step time (b .gap)) (start + ch * b .length) bs)
+plain-blocks step ch time start (b ∷ bs) = rw (plains-append, plain-block, plain-blocks step ch (nextPlace step time (b .gap)) (start + ch * b .length) bs)
 
 block-ahead : (ch time class len : ℕ) → 1 ≤ ch → blockPlains ch 0 time class len ≡ record { time = time; class = class; channel = 0; start = 0; length = len } ∷ blockPlains (ch - 1) 1 time class len
 unfolding blockPlains

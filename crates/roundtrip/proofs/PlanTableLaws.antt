@@ -10,8 +10,8 @@ use lib.Dec.{ltb, eqb}
 use borrow.Author.Tests.{le-ltb, ltb-false, eq-eqb}
 use Rattle.rtp.specs.Sizes.{maxRows}
 use Rattle.rtp.specs.declared.refusal.Refusal.the-variants.{Unwritable}
-use Rattle.payload.specs.Frames.{stepOf}
-use Rattle.payload.specs.Contents.{Group, Contents, refused, groups, rowsIn, sizeIn, framesIn}
+use Rattle.payload.specs.Formats.{stepOf}
+use Rattle.payload.specs.Contents.{Group, Contents, refused, groups, rowCount, sizeIn, framesIn}
 use Rattle.payload.specs.Rows.{Row, tableRows}
 use Rattle.payload.proofs.PayloadLaws.{length-table}
 use Rattle.encoder.specs.Plans.{maxPayload, gapBetween, nextChannel, follows, joins, headGap, attach, planFrom, stepBefore, fitting, plan}
@@ -80,7 +80,7 @@ pub record Tabled (format ch : ℕ) (rs : List Row) (gs : List Group) : Type 0 w
   pub rows : (start : ℕ) → plains rs ≡ plains (tableRows (stepOf format) ch (firstTime rs) start gs)
   pub runs : Runs format gs
   pub some : 1 ≤ length gs
-  pub few : rowsIn ch gs ≤ maxRows
+  pub few : rowCount ch gs ≤ maxRows
   pub fits : sizeIn format gs + framesIn ch gs ≤ maxPayload
 
 passed : (t : Bool) (x : Contents) (gs : List Group) → cond t (refused Unwritable) x ≡ groups gs → (t ≡ false) × (x ≡ groups gs)
@@ -98,7 +98,7 @@ some-group step ch time start r rs [] h = let z : _≡_ {A = ℕ} 0 1 = cc in ab
 some-group step ch time start r rs (g ∷ gs) h = omega arith
 
 -- as many rows as the table says
-rows-same : (step ch time start : ℕ) (rs : List Row) (gs : List Group) → plains rs ≡ plains (tableRows step ch time start gs) → length rs ≡ rowsIn ch gs
+rows-same : (step ch time start : ℕ) (rs : List Row) (gs : List Group) → plains rs ≡ plains (tableRows step ch time start gs) → length rs ≡ rowCount ch gs
 rows-same step ch time start rs gs h =
     sym (length-plains rs) ∙ ap (λ (l : List Row). length l) h ∙ length-plains (tableRows step ch time start gs) ∙ length-table step ch time start gs
 
@@ -129,8 +129,8 @@ plan-table format ch (r ∷ rs) gs some ts h =
 
 -- The plan of a list that a table says
 
-some-rows : (format ch : ℕ) (hs : List Group) → 1 ≤ ch → Runs format hs → 1 ≤ length hs → 1 ≤ rowsIn ch hs
-unfolding rowsIn
+some-rows : (format ch : ℕ) (hs : List Group) → 1 ≤ ch → Runs format hs → 1 ≤ length hs → 1 ≤ rowCount ch hs
+unfolding rowCount
 some-rows format ch [] some v n = absurd (omega arith)
 some-rows format ch (h ∷ hs) some v n = omega (arith, v .0 .some, le-mul-of-pos-right (length (h .gaps)) some)
 
@@ -143,7 +143,7 @@ pub record Plan (format ch : ℕ) (rs : List Row) : Type 0 where
   pub table : List Group
   pub is : plan format ch rs ≡ groups table
 
-pub table-plan : (format ch start : ℕ) (rs : List Row) (hs : List Group) → 1 ≤ ch → Times rs → Runs format hs → 1 ≤ length hs → rowsIn ch hs ≤ maxRows
+pub table-plan : (format ch start : ℕ) (rs : List Row) (hs : List Group) → 1 ≤ ch → Times rs → Runs format hs → 1 ≤ length hs → rowCount ch hs ≤ maxRows
     → sizeIn format hs + framesIn ch hs ≤ maxPayload → plains rs ≡ plains (tableRows (stepOf format) ch (firstTime rs) start hs) → Plan format ch rs
 table-plan format ch start [] hs some ts v nh few fits h = absurd (omega (arith, some-rows format ch hs some v nh, rows-same (stepOf format) ch 0 start [] hs h))
 table-plan format ch start (r ∷ rs) hs some ts v nh few fits h =

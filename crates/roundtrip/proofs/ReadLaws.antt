@@ -8,18 +8,18 @@ use lib.ListN.{length, getD, drop}
 use lib.Dec.{ltb, eqb}
 use Rattle.rtp.specs.Sizes.{maxRows}
 use Rattle.rtp.specs.Numbers.{byteAt}
-use Rattle.rtp.specs.Ranges.{g719Interleaved}
 use Rattle.rtp.proofs.TestLaws.{by-test}
 use Rattle.rtp.proofs.RedundancyLaws.{Bytes, bytes-drop}
+use Rattle.payload.specs.Formats.{formatOf, maxGap}
 use Rattle.payload.specs.declared.frames.Coded.{Coded}
 use Rattle.payload.specs.declared.contents.Entry.{Entry}
 use Rattle.payload.specs.declared.contents.EntryRead.{EntryRead}
 use Rattle.payload.specs.Frames.{frameOf}
 use Rattle.payload.specs.Contents.{minEntry, codeIn, blocksIn, entrySize, codedEntry, entryOf, Group, Contents, refused, groups, halfAt, gapAt, gapsFrom, meaning, prepend, contentsStep, contents}
-use Rattle.payload.proofs.EntryLaws.{past, fair}
+use Rattle.payload.proofs.EntryLaws.{past, same-entry, code-in, fair}
 use Rattle.payload.proofs.ContentsLaws.{contents-step, shorter, blocks-of}
 use Rattle.payload.specs.Codes.{noCode, codeFor}
-use Rattle.encoder.specs.Plans.{maxGap, headGap}
+use Rattle.encoder.specs.Plans.{headGap}
 use Rattle.payload.proofs.CodeLaws.{code-some}
 use Rattle.roundtrip.proofs.EntryBackLaws.{Run}
 use Rattle.roundtrip.proofs.TableBackLaws.{Runs}
@@ -31,10 +31,10 @@ half-small : (s : List ℕ) (k : ℕ) → Bytes s → halfAt s k ≤ 15
 half-small s k bs = by-test (eqb (k % 2) 0) (λ a. rw a (omega (arith, bs (k / 2)))) (λ a. rw a (omega arith))
 
 gap-near : (format : ℕ) (s : List ℕ) (k : ℕ) → Bytes s → gapAt format s k ≤ maxGap format
-unfolding gapAt
+unfolding gapAt maxGap
 gap-near format s k bs =
     by-test (eqb k 0) (λ a. rw a (omega arith))
-    (λ a. by-test (eqb format g719Interleaved) (λ b. rw (a, b) (half-small (drop 2 s) k (bytes-drop 2 s bs))) (λ b. rw (a, b) (omega arith)))
+    (λ a. by-test (formatOf format .displaced) (λ b. rw (a, b) (half-small (drop (minEntry format) s) k (bytes-drop (minEntry format) s bs))) (λ b. rw (a, b) (omega arith)))
 
 gaps-near : (format : ℕ) (s : List ℕ) (k n i : ℕ) → Bytes s → getD (gapsFrom format s k n) i 0 ≤ maxGap format
 unfolding gapsFrom
@@ -53,22 +53,19 @@ record Told (format : ℕ) (s : List ℕ) (e : Entry) : Type 0 where
   code : codeFor format (e .class) (e .length) < noCode
   blocks : e .blocks ≡ blocksIn format s
 
-same-entry : (a b : Entry) → EntryRead.Entry a ≡ EntryRead.Entry b → a ≡ b
-same-entry a b h = cc
-
-told-coded : (format k : ℕ) (s : List ℕ) (m : Bool) (size : ℕ) (e : Entry) (c : Coded) → frameOf format k ≡ c
+told-coded : (format k : ℕ) (s : List ℕ) (m : Bool) (size : ℕ) (e : Entry) (c : Coded) → k < formatOf format .codes → frameOf format k ≡ c
     → codedEntry m (blocksIn format s) size c ≡ EntryRead.Entry e → Told format s e
-told-coded format k s m size e Coded.Reserved q h = let z : _≡_ {A = ℕ} 0 1 = cc in absurd (omega arith)
-told-coded format k s m size e (Coded.Frame f) q h =
+told-coded format k s m size e Coded.Reserved l q h = let z : _≡_ {A = ℕ} 0 1 = cc in absurd (omega arith)
+told-coded format k s m size e (Coded.Frame f) l q h =
     let p = past (eqb (blocksIn format s) 0) _ _ e h in
-    subst (Told format s) (same-entry _ e (p .1)) (record { code = code-some format k (f .class) (f .length) q; blocks = refl })
+    subst (Told format s) (same-entry _ e (p .1)) (record { code = code-some format (f .class) (f .length) k l q; blocks = refl })
 
 told : (format : ℕ) (s : List ℕ) (e : Entry) → entryOf format s ≡ EntryRead.Entry e → Told format s e
 unfolding entryOf
 told format s e h =
     let p1 = past (ltb (length s) (minEntry format)) _ _ e h in
     let p2 = past (ltb (length s) (entrySize format (blocksIn format s))) _ _ e (p1 .1) in
-    told-coded format (codeIn format (byteAt s 0)) s _ _ e (frameOf format (codeIn format (byteAt s 0))) refl (p2 .1)
+    told-coded format (codeIn format (byteAt s 0)) s _ _ e (frameOf format (codeIn format (byteAt s 0))) (code-in format (byteAt s 0)) refl (p2 .1)
 
 read-run : (format : ℕ) (s : List ℕ) (e : Entry) → entryOf format s ≡ EntryRead.Entry e → Bytes s → Run format (meaning format s e)
 unfolding meaning

@@ -5,16 +5,16 @@ use mathlib.Core.Bool.{true, false, cond}
 use Prim.Native.Nat.{ℕ, suc, _+_, _≤_}
 use native.Mathlib.Omega.{arith}
 use lib.ListN.{length, getD, length-append}
-use lib.Dec.{eqb}
 use borrow.Author.Tests.{eq-eqb}
-use Rattle.rtp.specs.Ranges.{g719Interleaved, gsmHr}
 use Rattle.rtp.proofs.TestLaws.{by-test, not-both}
-use Rattle.payload.specs.Contents.{entrySize, Group, Contents, groups, sizeIn}
+use Rattle.payload.specs.Formats.{formatOf, maxGap}
+use Rattle.payload.specs.Contents.{gapsSize, entrySize, Group, Contents, groups, sizeIn}
 use Rattle.payload.specs.Rows.{Row}
-use Rattle.encoder.specs.Plans.{maxGap, headGap, joins, attach}
+use Rattle.encoder.specs.Plans.{headGap, joins, attach}
+use Rattle.encoder.proofs.PlanLaws.{joins-true}
 use Rattle.roundtrip.proofs.TableBackLaws.{Runs}
 use Rattle.roundtrip.proofs.TableBlockLaws.{Block, blocksOf, blocksIn}
-use Rattle.roundtrip.proofs.AttachLaws.{joined, joins-so, firstGap}
+use Rattle.roundtrip.proofs.AttachLaws.{joins-so, firstGap}
 
 -- a row of a frame-block; its class and length are what counts
 abbrev pub rowFor : Block → Row
@@ -40,13 +40,13 @@ module _ (format class len : ℕ) where
   row = rowFor (record { gap = 0; class = class; length = len })
 
   -- one more frame-block of the same group
-  merge-more : (a b : ℕ) (gaps : List ℕ) (gs : List Group) → eqb format gsmHr ≡ false → b ≤ maxGap format
+  merge-more : (a b : ℕ) (gaps : List ℕ) (gs : List Group) → formatOf format .counted ≡ true → b ≤ maxGap format
       → attach format row a (groups (merge format (run (b ∷ gaps)) gs)) ≡ groups (merge format (run (a ∷ b ∷ gaps)) gs)
   merge-more a b gaps [] n l = rw (joins-so format row (run (b ∷ gaps)) (record { runs = n; class = refl; length = refl; near = l }))
   merge-more a b gaps (g ∷ gs) n l =
       by-test (joins format row g)
       (λ t.
-      let j = joined format row g t in
+      let j = joins-true format row g t in
       let x : Group = record { class = g .class; length = g .length; gaps = (b ∷ gaps) ++ g .gaps } in
       rw t (rw (joins-so format row x (record { runs = n; class = j .class; length = j .length; near = l }))))
       (λ t. rw t (rw (joins-so format row (run (b ∷ gaps)) (record { runs = n; class = refl; length = refl; near = l }))))
@@ -56,20 +56,19 @@ module _ (format class len : ℕ) where
   merge-one a [] f = refl
   merge-one a (g ∷ gs) f = by-test (joins format row g) (λ t. rw t) (λ t. rw (t, eq-eqb (headGap g) 0 f))
 
-  merge-all : (a : ℕ) (gaps : List ℕ) (bs : List Block) (gs : List Group) → ((i : ℕ) → getD gaps i 0 ≤ maxGap format) → (eqb format gsmHr ≡ true → length gaps ≡ 0)
+  merge-all : (a : ℕ) (gaps : List ℕ) (bs : List Block) (gs : List Group) → ((i : ℕ) → getD gaps i 0 ≤ maxGap format) → (formatOf format .counted ≡ false → length gaps ≡ 0)
       → attachAll format bs ≡ groups gs → firstGap gs ≡ 0
       → attachAll format (blocksOf class len (a ∷ gaps) ++ bs) ≡ groups (merge format (run (a ∷ gaps)) gs)
   merge-all a [] bs gs near alone e f = rw e (merge-one a gs f)
   merge-all a (b ∷ gaps) bs gs near alone e f =
-      let n : eqb format gsmHr ≡ false = by-test (eqb format gsmHr) (λ t. absurd (omega (arith, alone t))) (λ t. t) in
-      rw (merge-all b gaps bs gs (λ i. near (suc i)) (λ t. not-both (eqb format gsmHr) t n) e f) (merge-more a b gaps gs n (near 0))
+      let n : formatOf format .counted ≡ true = by-test (formatOf format .counted) (λ t. t) (λ t. absurd (omega (arith, alone t))) in
+      rw (merge-all b gaps bs gs (λ i. near (suc i)) (λ t. not-both (formatOf format .counted) n t) e f) (merge-more a b gaps gs n (near 0))
 
 -- its size
 
 one-entry : (format m n : ℕ) → entrySize format (m + n) ≤ entrySize format m + entrySize format n
-one-entry format m n =
-    by-test (eqb format gsmHr) (λ a. simp a (omega arith))
-    (λ a. by-test (eqb format g719Interleaved) (λ b. simp (a, b) (omega arith)) (λ b. simp (a, b) (omega arith)))
+unfolding entrySize gapsSize
+one-entry format m n = by-test (formatOf format .displaced) (λ a. rw a (omega arith)) (λ a. rw a (omega arith))
 
 merge-size : (format : ℕ) (h : Group) (gs : List Group) → sizeIn format (merge format h gs) ≤ entrySize format (length (h .gaps)) + sizeIn format gs
 unfolding sizeIn
@@ -107,7 +106,7 @@ shortest format (h ∷ hs) v =
       first = merge-first format h (k .table) (v .0 .some) ∙ v .1;
     }
   where
-    made : (gaps : List ℕ) → 1 ≤ length gaps → ((i : ℕ) → getD gaps (suc i) 0 ≤ maxGap format) → (eqb format gsmHr ≡ true → length gaps ≡ 1) → (k : Shorter format hs)
+    made : (gaps : List ℕ) → 1 ≤ length gaps → ((i : ℕ) → getD gaps (suc i) 0 ≤ maxGap format) → (formatOf format .counted ≡ false → length gaps ≡ 1) → (k : Shorter format hs)
         → attachAll format (blocksOf (h .class) (h .length) gaps ++ blocksIn hs) ≡ groups (merge format (record { class = h .class; length = h .length; gaps = gaps }) (k .table))
     made [] some near alone k = absurd (omega arith)
     made (a ∷ gaps) some near alone k = merge-all format (h .class) (h .length) a gaps (blocksIn hs) (k .table) near (λ t. omega (arith, alone t)) (k .made) (k .first)

@@ -7,8 +7,8 @@ use native.Mathlib.Omega.{arith}
 use lib.ListN.{length}
 use lib.Seq.{drop-at}
 use Rattle.rtp.specs.Sizes.{maxRows}
-use Rattle.payload.specs.Contents.{Group, groups, meaning, prepend, contents, rowsIn}
-use Rattle.payload.proofs.TableLaws.{contents-last, contents-more}
+use Rattle.payload.specs.Contents.{Group, groups, meaning, prepend, contents, rowCount}
+use Rattle.payload.proofs.ContentsLaws.{contents-last, contents-more}
 use Rattle.encoder.specs.Plans.{headGap}
 use Rattle.encoder.specs.Bytes.{entryBytes, tableBytes}
 use Rattle.encoder.proofs.EntryLaws.{length-entry}
@@ -19,9 +19,9 @@ abbrev pub Runs : ℕ → List Group → Type 0
 Runs format [] = Unit {0}
 Runs format (g ∷ gs) = Run format g × (headGap g ≡ 0) × Runs format gs
 
-pub table-back : (format ch rows : ℕ) (g : Group) (gs : List Group) (rest : List ℕ) → Runs format (g ∷ gs) → rows + rowsIn ch (g ∷ gs) ≤ maxRows
+pub table-back : (format ch rows : ℕ) (g : Group) (gs : List Group) (rest : List ℕ) → Runs format (g ∷ gs) → rows + rowCount ch (g ∷ gs) ≤ maxRows
     → contents format ch rows (tableBytes format (g ∷ gs) ++ rest) ≡ groups (g ∷ gs)
-unfolding tableBytes rowsIn
+unfolding tableBytes rowCount
 table-back format ch rows g [] rest v h =
     let s = entryBytes format false g ++ rest in
     contents-last format ch rows s (entryFor format false g) (entry-back format false g rest (v .0)) (omega arith) refl

@@ -7,7 +7,7 @@ use native.Mathlib.Nat.{zero-mul, suc-mul, add-mul, add-zero}
 use lib.ListN.{length}
 use Rattle.payload.specs.Contents.{Group, framesIn}
 use Rattle.encoder.specs.Room.{lengthsIn}
-use Rattle.payload.specs.Rows.{Row, placed, after, timeAfter, blockRows, groupRows, tableRows}
+use Rattle.payload.specs.Rows.{Row, placed, nextPlace, timeAfter, blockRows, groupRows, tableRows}
 
 -- a frame-block: the frame-blocks left out before it, and its frames' class and length
 pub record Block : Type 0 where
@@ -28,7 +28,7 @@ blocksIn (g ∷ gs) = blocksOf (g .class) (g .length) (g .gaps) ++ blocksIn gs
 unfoldable pub blocksRows : ℕ → ℕ → ℕ → ℕ → List Block → List Row
 blocksRows step ch time start [] = []
 blocksRows step ch time start (b ∷ bs) =
-    blockRows ch 0 (placed step time (b .gap)) (b .class) start (b .length) ++ blocksRows step ch (after step time (b .gap)) (start + ch * b .length) bs
+    blockRows ch 0 (placed step time (b .gap)) (b .class) start (b .length) ++ blocksRows step ch (nextPlace step time (b .gap)) (start + ch * b .length) bs
 
 further : (start n ch len : ℕ) → start + ch * len + n * ch * len ≡ start + suc n * ch * len
 further start n ch len = let e : suc n * ch * len ≡ n * ch * len + ch * len = rw (suc-mul, add-mul) in omega arith
@@ -40,7 +40,7 @@ unfolding blocksRows groupRows timeAfter
 group-blocks step ch class len [] time start bs = simp (zero-mul, add-zero)
 group-blocks step ch class len (g ∷ gs) time start bs =
     rw (append-assoc, ← further start (length gs) ch len)
-    (ap (λ (l : List Row). blockRows ch 0 (placed step time g) class start len ++ l) (group-blocks step ch class len gs (after step time g) (start + ch * len) bs))
+    (ap (λ (l : List Row). blockRows ch 0 (placed step time g) class start len ++ l) (group-blocks step ch class len gs (nextPlace step time g) (start + ch * len) bs))
 
 pub table-blocks : (step ch time start : ℕ) (gs : List Group) → tableRows step ch time start gs ≡ blocksRows step ch time start (blocksIn gs)
 unfolding tableRows blocksRows
@@ -66,7 +66,7 @@ group-frames : (step ch time class start len : ℕ) (gs : List ℕ) → lengthsI
 unfolding groupRows lengthsIn
 group-frames step ch time class start len [] = simp zero-mul
 group-frames step ch time class start len (g ∷ gs) =
-    let e = group-frames step ch (after step time g) class (start + ch * len) len gs in
+    let e = group-frames step ch (nextPlace step time g) class (start + ch * len) len gs in
     let d : suc (length gs) * ch * len ≡ length gs * ch * len + ch * len = rw (suc-mul, add-mul) in
     rw (lengths-append, lengths-block) (omega arith)
 
@@ -93,5 +93,5 @@ pub laid-blocks : (step ch time start : ℕ) (bs : List Block) → Laid start (b
 unfolding blocksRows
 laid-blocks step ch time start [] = tt
 laid-blocks step ch time start (b ∷ bs) =
-    laid-block ch 0 (placed step time (b .gap)) (b .class) start (b .length) (blocksRows step ch (after step time (b .gap)) (start + ch * b .length) bs)
-    (laid-blocks step ch (after step time (b .gap)) (start + ch * b .length) bs)
+    laid-block ch 0 (placed step time (b .gap)) (b .class) start (b .length) (blocksRows step ch (nextPlace step time (b .gap)) (start + ch * b .length) bs)
+    (laid-blocks step ch (nextPlace step time (b .gap)) (start + ch * b .length) bs)

@@ -2,13 +2,11 @@
 use mathlib.Core.Path.{_≡_, ap, _∙_}
 use Prim.Native.Nat.{ℕ, _+_, _-_, _*_, _/_, _%_, _^_, _≤_, _<_}
 use native.Mathlib.Omega.{arith}
-use native.Mathlib.Nat.{mod-add-mod, add-mod-mod, add-mod-right, mul-mod-left, div-add-mod'}
-use lib.Dec.{eqb}
-use Rattle.rtp.specs.Ranges.{gsmHr}
+use native.Mathlib.Nat.{mod-add-mod, add-mod-mod, add-mod-right, mul-mod-left, div-add-mod', mul-le-mul, mul-div-cancel, zero-div}
 use Rattle.rtp.specs.Time.{difference}
-use Rattle.rtp.proofs.TestLaws.{by-test}
-use Rattle.payload.specs.Frames.{stepOf}
+use Rattle.payload.specs.Formats.{stepOf}
 use Rattle.payload.specs.Rows.{placed}
+use Rattle.payload.proofs.FormatLaws.{maxStep, step-fine}
 use Rattle.encoder.specs.Plans.{ticksAfter, gapBetween}
 
 -- the place after a time
@@ -23,8 +21,8 @@ difference-mod n offset h =
     ap (λ (k : ℕ). k % 2 ^ 32) a ∙ mod-add-mod n (2 ^ 32) (2 ^ 32 - offset) ∙ ap (λ (k : ℕ). k % 2 ^ 32) b
 
 -- n ticks on from the place after a time, and back
-module _ (step previous n : ℕ) (s : step ≤ 960) (p : previous < 2 ^ 32) where
-  ticks-on : n ≤ 14400 → ticksAfter step previous ((next step previous + n) % 2 ^ 32) ≡ n
+module _ (step previous n : ℕ) (s : step ≤ maxStep) (p : previous < 2 ^ 32) where
+  ticks-on : n ≤ 15 * maxStep → ticksAfter step previous ((next step previous + n) % 2 ^ 32) ≡ n
   ticks-on h =
       let a : difference (previous + step + n) step ≡ (previous + n) % 2 ^ 32 = omega arith in
       let b : difference (previous + n) previous ≡ n = omega arith in
@@ -44,9 +42,6 @@ module _ (step previous n : ℕ) (s : step ≤ 960) (p : previous < 2 ^ 32) wher
       ∙ add-mod-right (difference time step + step) (2 ^ 32)
       ∙ b
 
-step-small : (format : ℕ) → stepOf format ≤ 960
-step-small format = by-test (eqb format gsmHr) (λ a. rw a (omega arith)) (λ a. rw a (omega arith))
-
 -- read after written: a frame-block so many steps on
 pub record Ticks (step previous gap : ℕ) : Type 0 where
   pub whole : ticksAfter step previous (placed step (next step previous) gap) % step ≡ 0
@@ -54,21 +49,16 @@ pub record Ticks (step previous gap : ℕ) : Type 0 where
 
 pub ticks : (format previous gap : ℕ) → previous < 2 ^ 32 → gap ≤ 15 → Ticks (stepOf format) previous gap
 ticks format previous gap p g =
-    let e = ticks-on (stepOf format) previous (gap * stepOf format) (step-small format) p (steps format) in
-    record { whole = ap (λ (k : ℕ). k % stepOf format) e ∙ mul-mod-left gap (stepOf format); gaps = ap (λ (k : ℕ). k / stepOf format) e ∙ over format }
-  where
-    steps : (format : ℕ) → gap * stepOf format ≤ 14400
-    steps format = by-test (eqb format gsmHr) (λ a. rw a (omega arith)) (λ a. rw a (omega arith))
-
-    over : (format : ℕ) → gap * stepOf format / stepOf format ≡ gap
-    over format = by-test (eqb format gsmHr) (λ a. rw a (omega arith)) (λ a. rw a (omega arith))
+    let s = step-fine format in
+    let e = ticks-on (stepOf format) previous (gap * stepOf format) (s .small) p (mul-le-mul g (s .small)) in
+    record { whole = ap (λ (k : ℕ). k % stepOf format) e ∙ mul-mod-left gap (stepOf format); gaps = ap (λ (k : ℕ). k / stepOf format) e ∙ mul-div-cancel gap (s .some) }
 
 -- written after read
 pub placed-back : (format previous time : ℕ) → previous < 2 ^ 32 → time < 2 ^ 32 → ticksAfter (stepOf format) previous time % stepOf format ≡ 0
     → placed (stepOf format) (next (stepOf format) previous) (gapBetween (stepOf format) previous time) ≡ time
 placed-back format previous time p t h =
     let n = ticksAfter (stepOf format) previous time in
-    ticks-back (stepOf format) previous (n / stepOf format * stepOf format) (step-small format) p time t (omega (arith, div-add-mod' n (stepOf format)))
+    ticks-back (stepOf format) previous (n / stepOf format * stepOf format) (step-fine format .small) p time t (omega (arith, div-add-mod' n (stepOf format)))
 
 -- the place of a list's first frame-block
 pub record First (step time : ℕ) : Type 0 where
@@ -77,6 +67,7 @@ pub record First (step time : ℕ) : Type 0 where
 
 pub first : (format time : ℕ) → time < 2 ^ 32 → First (stepOf format) time
 first format time t =
-    by-test (eqb format gsmHr)
-    (λ a. rw a (record { place = omega arith; gap = omega arith }))
-    (λ a. rw a (record { place = omega arith; gap = omega arith }))
+    let step = stepOf format in
+    let s = step-fine format .small in
+    let none : ticksAfter step (difference time step) time ≡ 0 = omega arith in
+    record { place = omega arith; gap = ap (λ (k : ℕ). k / step) none ∙ zero-div step }

@@ -1,5 +1,5 @@
 pub mod WordLaws
 pub mod ListsLaws
 pub mod PutLaws
-pub mod AgreeLaws
+pub mod ListPartLaws
 pub mod SendingLaws

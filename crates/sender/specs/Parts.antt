@@ -1,7 +1,7 @@
 -- Document 01, "To write a packet": the frame lists of a packet, 0 to 4 redundant ones and then the primary one, as blocks.
-use Prim.Native.Nat.{ℕ, _+_, _*_}
-use mathlib.Core.List.{List, [], _∷_, _++_}
-use mathlib.Core.Bool.{Bool, true, false, cond}
+use Prim.Native.Nat.{ℕ, _+_}
+use mathlib.Core.List.{List, [], _∷_}
+use mathlib.Core.Bool.{cond}
 use lib.ListN.{length, take, drop}
 use lib.Dec.{ltb}
 use Rattle.rtp.specs.Time.{difference}

@@ -8,8 +8,7 @@ use lib.ListN.{length, take, drop}
 use lib.Dec.{ltb, eqb}
 use borrow.Author.Tests.{ltb-true, ltb-false}
 use Rattle.rtp.specs.Sizes.{rowWidth}
-use Rattle.rtp.specs.Ranges.{maxChannels, noRedundancy, inRange}
-use Rattle.rtp.specs.Time.{difference}
+use Rattle.rtp.specs.Ranges.{inRange}
 use Rattle.rtp.specs.declared.settings.Settings.{Settings}
 use Rattle.rtp.specs.declared.refusal.Refusal.{Refusal}
 use Rattle.rtp.specs.declared.refusal.Refusal.the-variants.{Unwritable}
@@ -57,7 +56,7 @@ no-headers : (type : ℕ) → headersBytes type [] ≡ type ∷ []
 unfolding headersBytes
 no-headers type = refl
 
-more-headers : (type : ℕ) (b : Part) (bs : List Part) → headersBytes type (b ∷ bs) ≡ blockHeaderBytes type b ++ headersBytes type bs
+more-headers : (type : ℕ) (b : Part) (bs : List Part) → headersBytes type (b ∷ bs) ≡ blockHeaderBytes type (b .offset) (length (b .bytes)) ++ headersBytes type bs
 unfolding headersBytes
 more-headers type b bs = refl
 
