@@ -14,21 +14,35 @@ use Rattle.rtp.specs.Refusals.{number}
 use Rattle.rtp.specs.declared.settings.Settings.{Settings}
 use Rattle.rtp.specs.declared.refusal.Refusal.the-variants.{AreaTooShort}
 use Rattle.rtp.proofs.TestLaws.{by-test}
+use Rattle.payload.specs.Rows.{Row}
 use Rattle.packet.specs.Readings.{Outcome, reading}
 use Rattle.playout.specs.Sizes.{storeSize}
 use Rattle.playout.specs.Copies.{Copy}
-use Rattle.playout.proofs.SoundLaws.{Frames}
-use Rattle.reorder.specs.Rows.{readCopies}
+use Rattle.playout.specs.Entries.{Held}
+use Rattle.playout.specs.Verdicts.{judgeAll}
+use Rattle.playout.proofs.JudgeLaws.{judgeAll-append}
+use Rattle.playout.proofs.HeldLaws.{Frames}
+use Rattle.reorder.specs.Rows.{copiesOf, readCopies}
 use Rattle.reorder.proofs.StateLaws.{Fits}
 use Rattle.reorder.proofs.CopyLaws.{read-fit, fits-append, fits-frames}
 use Rattle.delivery.specs.Runs.{lent, Offer}
 use Rattle.delivery.specs.Claims.{offerRefusal, accepted, copiesIn}
+use Rattle.delivery.proofs.StepLaws.{IsRead}
 use Rattle.delivery.proofs.RunLaws.{lent-length, refusal-length}
 
 -- a packet is read alike into every row area that is long enough
 pub reads-alike : (st : Settings) (n : ℕ) (packet : List ℕ) → rowArea ≤ n → reading st rowArea packet ≡ reading st n packet
 unfolding reading
 reads-alike st n packet l = rw (le-ltb n rowArea l)
+
+-- judging the copies of one more packet
+pub judge-more : (st : Settings) (h : Held) (s l packet : List ℕ) (rs : List Row) → IsRead st h s l packet rs → (ps : List (List ℕ))
+    → let g = judgeAll h s (copiesOf packet rs) in let k = judgeAll (g .held) (g .store) (copiesIn st ps) in
+    judgeAll h s (copiesIn st (packet ∷ ps)) ≡ record { held = k .held; store = k .store; judgements = g .judgements ++ k .judgements }
+unfolding copiesIn
+judge-more st h s l packet rs r ps =
+    ap (λ (x : Outcome). judgeAll h s (readCopies packet x ++ copiesIn st ps)) (reads-alike st (length l) packet (r .area) ∙ r .same)
+    ∙ judgeAll-append h s (copiesOf packet rs) (copiesIn st ps)
 
 -- what is accepted goes by the lengths of the areas alone
 pub accepted-length : (st : Settings) (s t : List ℕ) → length s ≡ length t → (os : List Offer) (rows others : List ℕ) → length rows ≡ length others

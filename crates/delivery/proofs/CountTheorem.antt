@@ -1,23 +1,34 @@
--- The count: the proof of the claim.
+-- The counts: the proofs of the claims.
 use mathlib.Core.Path.{_≡_, refl, ap, sym, _∙_, subst}
 use mathlib.Core.List.{List, [], _∷_, _++_}
 use mathlib.Core.Bool.{Bool, true, false, cond}
 use Prim.Native.Nat.{ℕ, _+_}
 use native.Mathlib.Omega.{arith}
 use lib.ListN.{length}
+use lib.Dec.{eqb}
+use borrow.Author.Tests.{ne-eqb}
 use Rattle.rtp.specs.Ranges.{inRange}
+use Rattle.rtp.specs.Refusals.{number}
 use Rattle.rtp.specs.declared.settings.Settings.{Settings}
+use Rattle.rtp.specs.declared.refusal.Refusal.{Refusal}
+use Rattle.rtp.specs.declared.refusal.Refusal.the-variants.{SettingsOutOfRange, MalformedBuffer}
+use Rattle.rtp.proofs.TestLaws.{by-test}
+use Rattle.rtp.proofs.RefusalLaws.{number-positive}
 use Rattle.rtp.specs.Areas.{over}
 use Rattle.payload.specs.Rows.{words}
 use Rattle.playout.specs.Entries.{Entry, Held}
 use Rattle.playout.specs.Verdicts.{Counts, noCounts, Judgement, tally, judgeAll}
 use Rattle.playout.proofs.JudgeLaws.{judgeAll-count, tally-append}
-use Rattle.playout.proofs.SoundLaws.{fresh, drawnFirst}
-use Rattle.reorder.specs.Layout.{encode}
+use Rattle.playout.proofs.HeldLaws.{fresh, drawnFirst}
+use Rattle.reorder.specs.declared.buffer.Buffer.{Buffer}
+use Rattle.reorder.specs.Layout.{encode, model}
+use Rattle.reorder.specs.WellFormed.{wellFormed}
 use Rattle.reorder.specs.Rows.{copiesOf}
+use Rattle.reorder.specs.ModelCalls.{Result, refused, done, Offered, offerTo}
+use Rattle.reorder.specs.Calls.{countNumbers, OfferOutcome, offerRefused, offerDone, offerCall}
 use Rattle.reorder.proofs.BufferLaws.{good-back}
-use Rattle.delivery.specs.Runs.{State, lent, Offer, Call, offer, draw, Yield, Step, Run, run, judged, served, frames}
-use Rattle.delivery.specs.Claims.{framesHeld, Count}
+use Rattle.delivery.specs.Runs.{State, lent, Offer, Call, offer, draw, Yield, offered, Step, judgementsOf, judgedBy, step, run, judged, served, frames}
+use Rattle.delivery.specs.Claims.{Counted, CountsVerdicts, framesHeld, Count}
 use Rattle.delivery.proofs.StepLaws.{spare, Fine, at, fresh-fine, begun-at, offer-cases, judged-fine, draw-cases, drawn-fine}
 
 -- from n counted and k held: what is inserted comes to what is drawn and held after
@@ -51,3 +62,31 @@ module _ (st : Settings) (range : inRange st ≡ true) where
 
 pub count : Count
 count st store rows cs range = rw (begun-at st range store rows) (omega (arith, counts st range cs fresh (fresh-fine st) store rows noCounts))
+
+-- an offer's answer counts its verdicts
+
+module _ (b : Buffer) (packet l store : List ℕ) where
+  -- of an outcome, with what the offer does to the model
+  abbrev Tallies : Result Offered → OfferOutcome → Type 0
+  Tallies x r = r .answer ≡ countNumbers (r .answer .refusal) (tally noCounts (cond (eqb (r .answer .refusal) 0) (judgementsOf x) []))
+
+  refused-tallies : (x : Result Offered) (q : Refusal) → Tallies x (offerRefused q b l store)
+  unfolding tally
+  refused-tallies x q = rw (ne-eqb (number q) 0 (omega (arith, number-positive q)))
+
+  done-tallies : (x : Result Offered) → Tallies x (offerDone b l store x)
+  done-tallies (refused q) = refused-tallies (refused q) q
+  done-tallies (done o) = refl
+
+  answer-tallies : Counted (offered (offerCall b packet l store .answer) (judgedBy b packet l store))
+  unfolding judgedBy offerCall
+  answer-tallies =
+      let x = offerTo (model b) packet (length l) store in
+      by-test (inRange (b .settings))
+      (λ r. by-test (wellFormed b) (λ w. rw (r, w) (done-tallies x)) (λ w. rw (r, w) (refused-tallies x MalformedBuffer)))
+      (λ r. rw r (refused-tallies x SettingsOutOfRange))
+
+pub counts-verdicts : CountsVerdicts
+unfolding step
+counts-verdicts s (offer o) = answer-tallies (s .buffer) (o .packet) (lent (s .rows) (o .area)) (s .store)
+counts-verdicts s (draw area) = tt

@@ -14,7 +14,7 @@ use Rattle.playout.specs.Copies.{Copy}
 use Rattle.playout.specs.Entries.{Held, views}
 use Rattle.playout.specs.Verdicts.{Gathered, judgeAll}
 use Rattle.playout.specs.Lists.{Playout, WithinStretch, AtMost}
-use Rattle.playout.proofs.SoundLaws.{fresh}
+use Rattle.playout.proofs.HeldLaws.{fresh}
 use Rattle.playout.proofs.PlayoutLaws.{gathered, playout-of, playout-unique}
 use Rattle.delivery.specs.Runs.{State, Offer, Call, offer, draw, run, refusalOf, served}
 use Rattle.delivery.specs.Claims.{refusals, accepted, copiesIn, SamePackets, inTurn, delivery, Demand3, Demand}

@@ -8,26 +8,23 @@ use lib.ListN.{length, take, drop}
 use lib.Seq.{take-at}
 use lib.Dec.{eqb}
 use borrow.Author.Tests.{ne-eqb}
-use Rattle.rtp.specs.Sizes.{rowArea}
 use Rattle.rtp.specs.Ranges.{inRange}
 use Rattle.rtp.specs.Refusals.{number}
 use Rattle.rtp.specs.Areas.{over}
 use Rattle.rtp.specs.declared.settings.Settings.{Settings}
 use Rattle.rtp.proofs.RefusalLaws.{number-positive}
-use Rattle.payload.specs.Rows.{Row, words}
-use Rattle.packet.specs.Readings.{Outcome, readAs, reading}
+use Rattle.payload.specs.Rows.{words}
 use Rattle.playout.specs.Sizes.{storeSize}
 use Rattle.playout.specs.Copies.{Copy}
 use Rattle.playout.specs.Entries.{Entry, Held, frameOf, view, views}
 use Rattle.playout.specs.Verdicts.{Gathered, judgeAll}
-use Rattle.playout.proofs.JudgeLaws.{judgeAll-append}
-use Rattle.playout.proofs.SoundLaws.{drawnFirst, frame-length}
-use Rattle.reorder.specs.Rows.{copiesOf, readCopies}
-use Rattle.reorder.proofs.StateLaws.{good-sound}
+use Rattle.playout.proofs.HeldLaws.{drawnFirst, frame-length}
+use Rattle.reorder.specs.Rows.{copiesOf}
+use Rattle.reorder.proofs.StateLaws.{good-facts}
 use Rattle.delivery.specs.Runs.{State, lent, Offer, Call, offer, draw, Yield, Step, run, Served, served}
 use Rattle.delivery.specs.Claims.{offerRefusal, accepted, copiesIn, handed, nothing, inTurn}
-use Rattle.delivery.proofs.StepLaws.{spare, Fine, with-room, at, IsRead, offer-cases, judged-fine, store-length, rows-length, draw-cases, drawn-fine}
-use Rattle.delivery.proofs.AcceptedLaws.{reads-alike, accepted-length}
+use Rattle.delivery.proofs.StepLaws.{spare, Fine, with-room, at, offer-cases, judged-fine, store-length, rows-length, draw-cases, drawn-fine}
+use Rattle.delivery.proofs.AcceptedLaws.{accepted-length, judge-more}
 
 -- answers that hand out a list in turn, and then nothing
 abbrev pub InTurn : List Served → List Copy → Type 0
@@ -45,7 +42,7 @@ module _ (st : Settings) (range : inRange st ≡ true) where
   unfolding view over
   entry-handed h g s area room e es q =
       let m : List·Memᴰ e (h .entries) = subst (λ (l : List Entry). List·Memᴰ e l) (sym q) (here refl) in
-      let n : length (frameOf s e) ≡ e .length = frame-length s room e (good-sound st h s (with-room st h (spare .0) s g room) .each e m) in
+      let n : length (frameOf s e) ≡ e .length = frame-length s room e (good-facts st h s (with-room st h (spare .0) s g room) .each e m) in
       let b : take (e .length) (frameOf s e ++ drop (length (frameOf s e)) area) ≡ frameOf s e = take-at (frameOf s e) (drop (length (frameOf s e)) area) (e .length) n in
       λ i. record {
         answer = record { refusal = 0; empty = 0; time = e .time; channel = e .channel; class = e .class; length = sym n i };
@@ -72,17 +69,6 @@ module _ (st : Settings) (range : inRange st ≡ true) where
   abbrev after : Held → List ℕ → List (List ℕ) → List Copy
   after h s ps = let k = judgeAll h s (copiesIn st ps) in views (k .store) (k .held .entries)
 
-  -- one more packet
-  after-more : (h : Held) (s l packet : List ℕ) (rs : List Row) → IsRead st h s l packet rs → (ps : List (List ℕ))
-      → let g = judgeAll h s (copiesOf packet rs) in after (g .held) (g .store) ps ≡ after h s (packet ∷ ps)
-  unfolding copiesIn
-  after-more h s l packet rs r ps =
-      let e : reading st rowArea packet ≡ readAs (r .head) rs = reads-alike st (length l) packet (r .area) ∙ r .same in
-      let c : copiesOf packet rs ++ copiesIn st ps ≡ readCopies packet (reading st rowArea packet) ++ copiesIn st ps =
-      ap (λ (x : Outcome). readCopies packet x ++ copiesIn st ps) (sym e) in
-      sym (ap (λ (k : Gathered). views (k .store) (k .held .entries)) (judgeAll-append h s (copiesOf packet rs) (copiesIn st ps)))
-      ∙ ap (λ (cs : List Copy). let k = judgeAll h s cs in views (k .store) (k .held .entries)) c
-
   pub offers-turn : (areas : List (List ℕ)) (os : List Offer) (h : Held) → Fine st h → (s rows : List ℕ)
       → InTurn (served (run (at st h s rows) (map offer os ++ map draw areas) .yields)) (after h s (accepted st s rows os))
   unfolding run served accepted copiesIn judgeAll
@@ -98,4 +84,5 @@ module _ (st : Settings) (range : inRange st ≡ true) where
       let same : accepted st (j .store) (over (words rs) l) os ≡ accepted st s l os =
       accepted-length st (j .store) s (store-length st h s l range g (o .packet) rs r) os (over (words rs) l) l (rows-length st h s l range g (o .packet) rs r) in
       rw e (k ∙ ap (λ (ps : List Copy). inTurn (length (served (run (at st (j .held) (j .store) (over (words rs) l)) (map offer os ++ map draw areas) .yields))) ps)
-      (ap (after (j .held) (j .store)) same ∙ after-more h s l (o .packet) rs r (accepted st s l os))))
+      (ap (after (j .held) (j .store)) same
+      ∙ sym (ap (λ (x : Gathered). views (x .store) (x .held .entries)) (judge-more st h s l (o .packet) rs r (accepted st s l os))))))

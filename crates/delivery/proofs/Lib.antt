@@ -3,6 +3,7 @@ pub mod RunLaws
 pub mod AcceptedLaws
 pub mod DrawLaws
 pub mod DemandTheorem
+pub mod PremiseTheorem
 pub mod CountTheorem
 pub mod WellFormedTheorem
 pub mod CheckedTableProof

@@ -10,7 +10,7 @@ use Rattle.rtp.specs.declared.settings.Settings.{Settings}
 use Rattle.rtp.specs.declared.refusal.Refusal.the-variants.{AreaTooShort}
 use Rattle.playout.specs.Entries.{Entry, Held}
 use Rattle.playout.specs.Verdicts.{judgeAll}
-use Rattle.playout.proofs.SoundLaws.{drawnFirst}
+use Rattle.playout.proofs.HeldLaws.{drawnFirst}
 use Rattle.delivery.specs.Runs.{State, RowsLent, again, anew, lent, Offer, Call, offer, draw, Step, run, refusalOf}
 use Rattle.delivery.specs.Claims.{offerRefusal, drawRefusal, refusals}
 use Rattle.delivery.proofs.StepLaws.{Fine, at, offer-cases, judged-fine, store-length, rows-length, draw-cases, drawn-fine}

@@ -19,23 +19,24 @@ use Rattle.rtp.proofs.TestLaws.{by-test}
 use Rattle.rtp.proofs.RefusalLaws.{number-positive}
 use Rattle.payload.specs.Rows.{Row, words}
 use Rattle.payload.proofs.RowLaws.{length-words}
-use Rattle.packet.specs.Readings.{Outcome, refused, readAs, reading}
+use Rattle.packet.specs.Readings.{Outcome, refused as unread, readAs, reading}
 use Rattle.packet.proofs.RowFactLaws.{rows-fine}
 use Rattle.playout.specs.Sizes.{slotSize, storeSize}
 use Rattle.playout.specs.Copies.{Copy}
 use Rattle.playout.specs.Entries.{Entry, Held, frameOf}
 use Rattle.playout.specs.Verdicts.{noCounts, Judgement, tally, Gathered, judgeAll}
-use Rattle.playout.proofs.SoundLaws.{fresh, drawnFirst, judgeAll-length}
+use Rattle.playout.proofs.HeldLaws.{fresh, drawnFirst, judgeAll-length}
 use Rattle.reorder.specs.declared.buffer.Buffer.{Buffer}
-use Rattle.reorder.specs.Layout.{encode, decode, fresh as freshBuffer}
-use Rattle.reorder.specs.Rows.{copiesOf, readCopies}
-use Rattle.reorder.specs.Calls.{NewOutcome, countNumbers, OfferOutcome, offerRefused, offerCall, DrawNumbers, noFrame, DrawOutcome, drawRefused, drawCall}
+use Rattle.reorder.specs.Layout.{encode, model}
+use Rattle.reorder.specs.Rows.{copiesOf}
+use Rattle.reorder.specs.ModelCalls.{Result, refused, done, Offered, judgeRead, offerTo}
+use Rattle.reorder.specs.Calls.{NewOutcome, countNumbers, OfferOutcome, offerDone, offerCall, DrawNumbers, noFrame, DrawOutcome, drawRefused, drawCall}
 use Rattle.reorder.proofs.LayoutLaws.{fresh-encode}
-use Rattle.reorder.proofs.CallLaws.{offerRead, drawFirst, new-in, offer-rows, offer-store, offer-reads, draw-store, draw-area, draw-goes}
-use Rattle.reorder.proofs.StateLaws.{Good, good-sound, judgeAll-good, draw-good}
+use Rattle.reorder.proofs.CallLaws.{new-in, drawFirst, draw-store, draw-area, draw-goes}
+use Rattle.reorder.proofs.StateLaws.{Good, good-facts, judgeAll-good, draw-good}
 use Rattle.reorder.proofs.BufferLaws.{good-fine, good-back}
 use Rattle.reorder.proofs.CopyLaws.{read-fit, fits-frames}
-use Rattle.delivery.specs.Runs.{State, lent, Offer, offer, draw, offered, drew, Step, judgedBy, step, begun}
+use Rattle.delivery.specs.Runs.{State, lent, Offer, offer, draw, offered, drew, Step, judgementsOf, judgedBy, step, begun}
 use Rattle.delivery.specs.Claims.{readRefusal, offerRefusal, drawRefusal}
 
 -- some store with room
@@ -88,12 +89,14 @@ module _ (st : Settings) (h : Held) (s l : List ℕ) where
       let g = judgeAll h s (copiesOf packet rs) in
       record { yield = offered (countNumbers 0 (tally noCounts (g .judgements))) (g .judgements); state = at st (g .held) (g .store) (over (words rs) l) }
 
-  -- what an offer that comes to an outcome yields, where its packet is read so
-  abbrev stepOf : List ℕ → Outcome → OfferOutcome → Step
-  stepOf packet x r = record {
-    yield = offered (r .answer) (cond (eqb (r .answer .refusal) 0) (judgeAll (decode (encode st h)) s (readCopies packet x) .judgements) []);
-    state = record { buffer = r .buffer; store = r .store; rows = r .rows };
-  }
+  -- what an offer yields, by what it does to the model
+  abbrev stepOf : Result Offered → Step
+  stepOf x =
+      let r = offerDone (encode st h) l s x in
+      record {
+        yield = offered (r .answer) (cond (eqb (r .answer .refusal) 0) (judgementsOf x) []);
+        state = record { buffer = r .buffer; store = r .store; rows = r .rows };
+      }
 
   -- an offer's packet, read into areas that are long enough
   pub record IsRead (packet : List ℕ) (rs : List Row) : Type 0 where
@@ -115,7 +118,7 @@ module _ (st : Settings) (h : Held) (s l : List ℕ) where
 
       pub store-length : length (judgeAll h s (copiesOf packet rs) .store) ≡ length s
       store-length =
-          judgeAll-length h s (copiesOf packet rs) (good-sound st h s good)
+          judgeAll-length h s (copiesOf packet rs) (good-facts st h s good)
           (fits-frames st (copiesOf packet rs) (read-fit st range (length l) packet (readAs (r .head) rs) (r .same)))
 
       pub rows-length : length (over (words rs) l) ≡ length l
@@ -129,35 +132,49 @@ module _ (st : Settings) (h : Held) (s l : List ℕ) where
         (refusing : (q : Refusal) → offerRefusal st s l packet ≡ number q → P (refusedOffer q))
         (judging : (rs : List Row) → IsRead packet rs → offerRefusal st s l packet ≡ 0 → P (judgedOffer packet rs)) where
       read-cases : rowArea ≤ length l → storeSize ≤ length s → (x : Outcome) → reading st (length l) packet ≡ x
-          → offerRefusal st s l packet ≡ readRefusal x → P (stepOf packet x (offerRead (encode st h) packet l s x))
-      read-cases a room (refused q) e r = rw (ne-eqb (number q) 0 (omega (arith, number-positive q))) (refusing q r)
-      read-cases a room (readAs x rs) e r =
-          rw (good-back st h (spare .0) g) (judging rs (record { area = a; room = room; head = x; same = e }) r)
+          → offerRefusal st s l packet ≡ readRefusal x → P (stepOf (judgeRead h packet s x))
+      read-cases a room (unread q) e r = rw (ne-eqb (number q) 0 (omega (arith, number-positive q))) (refusing q r)
+      read-cases a room (readAs x rs) e r = judging rs (record { area = a; room = room; head = x; same = e }) r
 
-      too-short : offerRefusal st s l packet ≡ number AreaTooShort → offerCall (encode st h) packet l s ≡ offerRefused AreaTooShort (encode st h) l s
-          → P (stepOf packet (reading st (length l) packet) (offerCall (encode st h) packet l s))
-      too-short r e = subst (λ (x : OfferOutcome). P (stepOf packet (reading st (length l) packet) x)) (sym e) (refusing AreaTooShort r)
+      went : (x : Result Offered) → offerTo (record { settings = st; held = h }) packet (length l) s ≡ x → P (stepOf x)
+          → P (stepOf (offerTo (record { settings = st; held = h }) packet (length l) s))
+      went x e p = subst (λ (y : Result Offered). P (stepOf y)) (sym e) p
 
-      offer-ways : P (stepOf packet (reading st (length l) packet) (offerCall (encode st h) packet l s))
-      unfolding offerRefusal
+      offer-ways : P (stepOf (offerTo (record { settings = st; held = h }) packet (length l) s))
+      unfolding offerTo offerRefusal
       offer-ways =
-          let w = good-fine st h (spare .0) g in
           by-test (ltb (length l) rowArea)
-          (λ a. too-short (rw a) (offer-rows (encode st h) packet l s range w (ltb-true _ _ a)))
+          (λ a. went (refused AreaTooShort) (rw a) (refusing AreaTooShort (rw a)))
           (λ a. by-test (ltb (length s) storeSize)
-          (λ b. too-short (rw (a, b)) (offer-store (encode st h) packet l s range w (ltb-false _ _ a) (ltb-true _ _ b)))
+          (λ b. went (refused AreaTooShort) (rw (a, b)) (refusing AreaTooShort (rw (a, b))))
           (λ b.
-          subst (λ (x : OfferOutcome). P (stepOf packet (reading st (length l) packet) x))
-          (sym (offer-reads (encode st h) packet l s range w (ltb-false _ _ a) (ltb-false _ _ b)))
+          went (judgeRead h packet s (reading st (length l) packet)) (rw (a, b))
           (read-cases (ltb-false _ _ a) (ltb-false _ _ b) (reading st (length l) packet) refl (rw (a, b)))))
+
+      -- a well-formed buffer in range: what the offer does to its model
+      offer-goes : offerCall (encode st h) packet l s ≡ offerDone (encode st h) l s (offerTo (model (encode st h)) packet (length l) s)
+      unfolding offerCall
+      offer-goes = rw (range, good-fine st h (spare .0) g)
+
+      pub offer-step : P (record {
+        yield = offered (offerCall (encode st h) packet l s .answer) (judgedBy (encode st h) packet l s);
+        state = record { buffer = offerCall (encode st h) packet l s .buffer; store = offerCall (encode st h) packet l s .store; rows = offerCall (encode st h) packet l s .rows };
+      })
+      unfolding judgedBy
+      offer-step =
+          subst (λ (r : OfferOutcome). P (record {
+            yield = offered (r .answer) (cond (eqb (r .answer .refusal) 0) (judgementsOf (offerTo (model (encode st h)) packet (length l) s)) []);
+            state = record { buffer = r .buffer; store = r .store; rows = r .rows };
+          })) (sym offer-goes)
+          (subst (λ (k : Held). P (stepOf (offerTo (record { settings = st; held = k }) packet (length l) s))) (sym (good-back st h (spare .0) g)) offer-ways)
 
 module _ (st : Settings) (range : inRange st ≡ true) (h : Held) (g : Fine st h) (s rows : List ℕ) where
   pub offer-cases : (o : Offer) (P : Step → Type 0) → let l = lent rows (o .area) in
       ((q : Refusal) → offerRefusal st s l (o .packet) ≡ number q → P (refusedOffer st h s l q))
       → ((rs : List Row) → IsRead st h s l (o .packet) rs → offerRefusal st s l (o .packet) ≡ 0 → P (judgedOffer st h s l (o .packet) rs))
       → P (step (at st h s rows) (offer o))
-  unfolding step judgedBy
-  offer-cases o P refusing judging = offer-ways st h s (lent rows (o .area)) range g (o .packet) P refusing judging
+  unfolding step
+  offer-cases o P refusing judging = offer-step st h s (lent rows (o .area)) range g (o .packet) P refusing judging
 
   -- Draws
 
@@ -190,7 +207,7 @@ module _ (st : Settings) (range : inRange st ≡ true) (h : Held) (g : Fine st h
       went : (r : DrawOutcome) → drawCall (encode st h) s area ≡ r → P (drawOf r) → P (drawOf (drawCall (encode st h) s area))
       went r e p = subst (λ (x : DrawOutcome). P (drawOf x)) (sym e) p
 
-      first : cond (ltb (length s) storeSize) (number AreaTooShort) (cond (ltb (length area) slotSize) (number AreaTooShort) 0) ≡ 0 → storeSize ≤ length s → (es : List Entry) → h .entries ≡ es → P (drawOf (drawFirst (encode st h) s area es))
+      first : drawRefusal s area ≡ 0 → storeSize ≤ length s → (es : List Entry) → h .entries ≡ es → P (drawOf (drawFirst (encode st h) s area es))
       first z room [] q = empty z q
       first z room (e ∷ es) q = frame z room e es q
 

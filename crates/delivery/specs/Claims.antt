@@ -1,4 +1,4 @@
--- The claims about runs: demand 3, well-formedness, and the count.
+-- The claims about runs: demand 3, well-formedness, and the counts.
 use Prim.Native.Nat.{ℕ, zero, suc, _+_}
 use mathlib.Core.Path.{_≡_}
 use mathlib.Core.Logic.{_↔_}
@@ -21,8 +21,8 @@ use Rattle.reorder.specs.Arrays.{Machine}
 use Rattle.reorder.specs.Layout.{decode}
 use Rattle.reorder.specs.WellFormed.{wellFormed}
 use Rattle.reorder.specs.Rows.{readCopies}
-use Rattle.reorder.specs.Calls.{newCall, noFrame}
-use Rattle.delivery.specs.Runs.{State, RowsLent, lent, Offer, Call, offer, draw, Run, run, begun, refusalOf, judged, Served, served, frames}
+use Rattle.reorder.specs.Calls.{newCall, countNumbers, noFrame}
+use Rattle.delivery.specs.Runs.{State, lent, Offer, Call, offer, draw, Yield, offered, drew, step, Run, run, begun, refusalOf, judged, Served, served, frames}
 
 -- What is refused
 
@@ -101,6 +101,12 @@ pub record Demand3 (st : Settings) : Type 0 where
 abbrev pub Demand : Type 0
 Demand = (st : Settings) → inRange st ≡ true → Demand3 st
 
+-- its premises hold exactly if no copy accepted is far or finds no room
+abbrev pub PremisesExact : Type 0
+PremisesExact = (st : Settings) (store rows : List ℕ) (os : List Offer) → inRange st ≡ true
+    → let copies = copiesIn st (accepted st store rows os) in let counts = tally noCounts (judged (run (begun st store rows) (map offer os) .yields)) in
+    (WithinStretch copies × AtMost slots copies) ↔ ((counts .far ≡ 0) × (counts .noRoom ≡ 0))
+
 -- Well-formedness
 
 -- a fresh buffer is well-formed, and every run keeps a buffer so
@@ -108,7 +114,15 @@ pub record KeepsWellFormed : Type 0 where
   pub new : (st : Settings) → inRange st ≡ true → wellFormed (newCall st .buffer) ≡ true
   pub kept : (s : State) (cs : List Call) → Machine (s .buffer) → wellFormed (s .buffer) ≡ true → wellFormed (run s cs .state .buffer) ≡ true
 
--- The count
+-- The counts
+
+-- an offer's answer gives how often each verdict was given on its copies, whatever the state
+abbrev pub Counted : Yield → Type 0
+Counted (offered n js) = n ≡ countNumbers (n .refusal) (tally noCounts js)
+Counted (drew n area) = Unit {0}
+
+abbrev pub CountsVerdicts : Type 0
+CountsVerdicts = (s : State) (c : Call) → Counted (step s c .yield)
 
 -- the frames that a buffer holds
 abbrev pub framesHeld : Buffer → ℕ

@@ -6,11 +6,10 @@ use mathlib.Core.Bool.{Bool, true, false, cond}
 use lib.ListN.{length, take}
 use lib.Dec.{eqb}
 use Rattle.rtp.specs.declared.settings.Settings.{Settings}
-use Rattle.packet.specs.Readings.{reading}
-use Rattle.playout.specs.Verdicts.{Judgement, judgeAll}
+use Rattle.playout.specs.Verdicts.{Judgement}
 use Rattle.reorder.specs.declared.buffer.Buffer.{Buffer}
-use Rattle.reorder.specs.Layout.{decode}
-use Rattle.reorder.specs.Rows.{readCopies}
+use Rattle.reorder.specs.Layout.{model}
+use Rattle.reorder.specs.ModelCalls.{Result, refused, done, Offered, offerTo}
 use Rattle.reorder.specs.Calls.{newCall, OfferNumbers, OfferOutcome, offerCall, DrawNumbers, DrawOutcome, drawCall}
 
 -- The calls
@@ -51,10 +50,13 @@ pub record Step : Type 0 where
   pub state : State
 
 -- the copies that an offer judges: those of its packet, in order; none if it is refused
+abbrev pub judgementsOf : Result Offered → List Judgement
+judgementsOf (refused r) = []
+judgementsOf (done o) = o .gathered .judgements
+
 unfoldable pub judgedBy : Buffer → List ℕ → List ℕ → List ℕ → List Judgement
 judgedBy b packet rows store =
-    cond (eqb (offerCall b packet rows store .answer .refusal) 0)
-    (judgeAll (decode b) store (readCopies packet (reading (b .settings) (length rows) packet)) .judgements) []
+    cond (eqb (offerCall b packet rows store .answer .refusal) 0) (judgementsOf (offerTo (model b) packet (length rows) store)) []
 
 unfoldable pub step : State → Call → Step
 step s (offer o) =

@@ -12,7 +12,7 @@ use borrow.Author.Tests.{ltb-true, ltb-false, eqb-true, eqb-false, eq-eqb, ne-eq
 use Rattle.rtp.specs.Sizes.{rowWidth}
 use Rattle.rtp.specs.declared.refusal.Refusal.{Refusal}
 use Rattle.rtp.proofs.TestLaws.{by-test, not-both}
-use Rattle.payload.specs.Frames.{stepOf}
+use Rattle.payload.specs.Formats.{stepOf}
 use Rattle.payload.specs.Contents.{Group, Contents, refused, groups, framesIn}
 use Rattle.payload.specs.Rows.{Row}
 use Rattle.payload.specs.Codes.{noCode, codeFor}

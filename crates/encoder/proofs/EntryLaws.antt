@@ -5,18 +5,17 @@ use mathlib.Core.Bool.{Bool, true, false}
 use Prim.Native.Nat.{ℕ, _+_, _-_, _/_, _≤_, _<_}
 use native.Mathlib.Omega.{arith}
 use lib.ListN.{length, take, drop, set, length-append}
-use lib.Dec.{eqb}
-use borrow.Author.Tests.{eq-eqb, ne-eqb}
 use borrow.Rule.Slice.PartMut.{putMid}
 use Rattle.rtp.specs.Areas.{over}
 use Rattle.rtp.proofs.AreaLaws.{over-part}
-use Rattle.rtp.specs.Ranges.{g719Interleaved, gsmHr}
 use Rattle.rtp.proofs.TestLaws.{by-test}
-use Rattle.payload.specs.Frames.{stepOf, noData, sound, sid, gsmLength}
-use Rattle.payload.specs.Contents.{Group, entrySize, sizeIn}
+use Rattle.payload.specs.Formats.{formatOf, stepOf}
+use Rattle.payload.specs.Contents.{Group, minEntry, gapsSize, entrySize, sizeIn}
 use Rattle.payload.specs.Codes.{noCode, codeFor}
-use Rattle.encoder.specs.Bytes.{halves, flag, entryBytes, tableBytes}
-use Rattle.encoder.specs.Room.{rowAs, wordsAt, blockGaps, runGroup, firstByte, GapRoom, EntryRoom}
+use Rattle.encoder.specs.Bytes.{halves, flag, firstByte, startBytes, gapBytes, entryBytes, tableBytes}
+use Rattle.payload.proofs.FormatLaws.{code-placed}
+use Rattle.payload.proofs.CodeLaws.{code-below}
+use Rattle.encoder.specs.Room.{rowAs, wordsAt, blockGaps, runGroup, GapRoom, StartRoom, EntryRoom}
 use Rattle.encoder.proofs.StoreLaws.{over-one, over-two}
 use Rattle.encoder.proofs.GapLaws.{length-gaps}
 
@@ -26,15 +25,10 @@ pub flag-small : (more : Bool) → flag more ≤ 128
 flag-small true = omega arith
 flag-small false = omega arith
 
-pub gsm-small : (format class n : ℕ) → format ≡ gsmHr → codeFor format class n < noCode → codeFor format class n ≤ 7
-unfolding codeFor
-gsm-small format class n e h =
-    rw e (by-test (eqb class noData)
-    (λ a. by-test (eqb n 0) (λ b. rw (a, b) (omega arith)) (λ b. absurd (omega (arith, rw (e, a, b) at h))))
-    (λ a. by-test (eqb n gsmLength)
-    (λ b. by-test (eqb class sound) (λ d. rw (a, b, d) (omega arith))
-    (λ d. by-test (eqb class sid) (λ i. rw (a, b, d, i) (omega arith)) (λ i. absurd (omega (arith, rw (e, a, b, d, i) at h)))))
-    (λ b. absurd (omega (arith, rw (e, a, b) at h)))))
+pub first-small : (format : ℕ) (more : Bool) (class n : ℕ) → codeFor format class n < noCode → firstByte format more class n < 256
+unfolding firstByte
+first-small format more class n h =
+    omega (arith, flag-small more, code-placed format .low (codeFor format class n) (code-below format class n h))
 
 -- lengths
 
@@ -44,11 +38,20 @@ length-halves [] = refl
 length-halves (a ∷ []) = refl
 length-halves (a ∷ b ∷ ns) = let e = length-halves ns in omega arith
 
+pub length-start : (format : ℕ) (more : Bool) (class n blocks : ℕ) → length (startBytes format more class n blocks) ≡ minEntry format
+unfolding minEntry
+length-start format more class n blocks = by-test (formatOf format .counted) (λ a. rw a) (λ a. rw a)
+
+length-gap : (format : ℕ) (ns : List ℕ) → length (gapBytes format ns) ≡ gapsSize format (length ns)
+unfolding gapsSize
+length-gap format ns = by-test (formatOf format .displaced) (λ a. rw a (length-halves ns)) (λ a. rw a)
+
 pub length-entry : (format : ℕ) (more : Bool) (g : Group) → length (entryBytes format more g) ≡ entrySize format (length (g .gaps))
-unfolding entryBytes
+unfolding entryBytes entrySize
 length-entry format more g =
-    by-test (eqb format gsmHr) (λ a. rw a)
-    (λ a. by-test (eqb format g719Interleaved) (λ b. rw (a, b) (omega (arith, length-halves (g .gaps)))) (λ b. rw (a, b)))
+    let a = length-start format more (g .class) (g .length) (length (g .gaps)) in
+    let b = length-gap format (g .gaps) in
+    length-append (startBytes format more (g .class) (g .length) (length (g .gaps))) (gapBytes format (g .gaps)) ∙ omega (arith, a, b)
 
 -- a table is its first entry, with the bit F if another follows, and the others
 
@@ -70,41 +73,34 @@ length-table format (g ∷ gs) =
 
 -- What the room for an entry is good for
 
-pub size-some : (format n : ℕ) → 1 ≤ entrySize format n
-size-some format n =
-    by-test (eqb format gsmHr) (λ a. rw a (omega arith))
-    (λ a. by-test (eqb format g719Interleaved) (λ b. rw (a, b) (omega arith)) (λ b. rw (a, b) (omega arith)))
-
 module _ (format w n p : ℕ) (ws : List ℕ) (area : ℕ) (r : EntryRoom format w n p ws area) where
-  pub room-one : 1 ≤ area
-  room-one = omega (arith, size-some format n, r .room)
+  pub room-start : StartRoom format (rowAs (wordsAt ws 0) .class) (rowAs (wordsAt ws 0) .length) n area
+  unfolding entrySize
+  room-start = record { coded = r .coded; few = r .few; room = omega (arith, r .room) }
 
-  pub room-two : (format ≡ gsmHr → ⊥) → 2 ≤ area
-  room-two f =
-      let h : entrySize format n ≤ area = r .room in
-      by-test (eqb format g719Interleaved) (λ b. omega (arith, rw (ne-eqb format gsmHr f, b) at h)) (λ b. omega (arith, rw (ne-eqb format gsmHr f, b) at h))
-
-  pub room-gaps : (format ≡ gsmHr → ⊥) → format ≡ g719Interleaved → GapRoom format w n p ws (area - 2)
-  room-gaps f i =
-      let h : entrySize format n ≤ area = r .room in
-      record { wide = r .wide; words = r .words; small = r .small; room = omega (arith, rw (ne-eqb format gsmHr f, eq-eqb format g719Interleaved i) at h) }
+  pub room-gaps : formatOf format .displaced ≡ true → GapRoom format w n p ws (area - minEntry format)
+  unfolding entrySize gapsSize
+  room-gaps d = let h = rw d at (r .room) in record { wide = r .wide; words = r .words; small = r .small; room = omega arith }
 
 -- An entry, written
 
-module _ (format w n p : ℕ) (ws : List ℕ) (more : Bool) (l : List ℕ) (v : ℕ) (e : v ≡ firstByte format more (rowAs (wordsAt ws 0) .class) (rowAs (wordsAt ws 0) .length)) where
-  pub put-gsm : format ≡ gsmHr → 1 ≤ length l → set l 0 v ≡ over (entryBytes format more (runGroup format w n p ws)) l
+module _ (format : ℕ) (more : Bool) (class n blocks : ℕ) (l : List ℕ) where
+  pub put-single : formatOf format .counted ≡ false → 1 ≤ length l → set l 0 (firstByte format more class n) ≡ over (startBytes format more class n blocks) l
+  put-single c h = over-one l (firstByte format more class n) h ∙ rw c
+
+  pub put-counted : formatOf format .counted ≡ true → 2 ≤ length l → set (set l 0 (firstByte format more class n)) 1 blocks ≡ over (startBytes format more class n blocks) l
+  put-counted c h = over-two l (firstByte format more class n) blocks h ∙ rw c
+
+module _ (format w n p : ℕ) (ws : List ℕ) (more : Bool) (l m : List ℕ) (e : m ≡ over (startBytes format more (rowAs (wordsAt ws 0) .class) (rowAs (wordsAt ws 0) .length) n) l) where
+  pub put-plain : formatOf format .displaced ≡ false → m ≡ over (entryBytes format more (runGroup format w n p ws)) l
   unfolding entryBytes
-  put-gsm f h = over-one l v h ∙ rw (e, eq-eqb format gsmHr f)
+  put-plain d = e ∙ rw (d, append-nil (startBytes format more (rowAs (wordsAt ws 0) .class) (rowAs (wordsAt ws 0) .length) (length (blockGaps (stepOf format) w n p ws))), length-gaps)
 
-  module _ (f : format ≡ gsmHr → ⊥) (h : 2 ≤ length l) where
-    pub put-basic : (format ≡ g719Interleaved → ⊥) → set (set l 0 v) 1 n ≡ over (entryBytes format more (runGroup format w n p ws)) l
-    unfolding entryBytes
-    put-basic i = over-two l v n h ∙ rw (e, ne-eqb format gsmHr f, ne-eqb format g719Interleaved i, length-gaps)
-
-    pub put-interleaved : format ≡ g719Interleaved → (z : List ℕ)
-        → z ≡ over (halves (blockGaps (stepOf format) w n p ws)) (take (length (set (set l 0 v) 1 n) - 2) (drop 2 (set (set l 0 v) 1 n)))
-        → putMid 2 (length (set (set l 0 v) 1 n) - 2) (set (set l 0 v) 1 n) z ≡ over (entryBytes format more (runGroup format w n p ws)) l
-    unfolding entryBytes
-    put-interleaved i z q =
-        over-part (v ∷ n ∷ []) (halves (blockGaps (stepOf format) w n p ws)) l (set (set l 0 v) 1 n) z 2 refl (over-two l v n h) q
-        ∙ rw (e, ne-eqb format gsmHr f, eq-eqb format g719Interleaved i, length-gaps)
+  pub put-displaced : formatOf format .displaced ≡ true → (start : ℕ) → start ≡ minEntry format → (z : List ℕ)
+      → z ≡ over (halves (blockGaps (stepOf format) w n p ws)) (take (length m - start) (drop start m))
+      → putMid start (length m - start) m z ≡ over (entryBytes format more (runGroup format w n p ws)) l
+  unfolding entryBytes
+  put-displaced d start s z q =
+      over-part (startBytes format more (rowAs (wordsAt ws 0) .class) (rowAs (wordsAt ws 0) .length) n) (halves (blockGaps (stepOf format) w n p ws)) l m z start
+      (length-start format more (rowAs (wordsAt ws 0) .class) (rowAs (wordsAt ws 0) .length) n ∙ sym s) e q
+      ∙ rw (d, length-gaps)

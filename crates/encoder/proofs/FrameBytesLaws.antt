@@ -4,15 +4,14 @@ use mathlib.Core.List.{List, [], _∷_, _++_}
 use mathlib.Core.Bool.{true, false}
 use Prim.Native.Nat.{ℕ, _+_, _-_, _≤_, _<_}
 use native.Mathlib.Omega.{arith}
-use lib.ListN.{length, getD, take, drop, length-append, length-drop}
-use lib.Seq.{length-take-le}
+use lib.ListN.{length, getD, take, drop, length-append}
 use lib.Dec.{ltb}
 use borrow.Author.Tests.{ltb-false}
 use borrow.Rule.Slice.PartMut.{putMid}
 use Rattle.rtp.specs.Sizes.{rowWidth}
 use Rattle.rtp.specs.Areas.{over}
 use Rattle.rtp.proofs.TestLaws.{by-test, not-both}
-use Rattle.rtp.proofs.AreaLaws.{over-none, over-part}
+use Rattle.rtp.proofs.AreaLaws.{over-none, over-part, part-size}
 use Rattle.payload.specs.Rows.{Row}
 use Rattle.encoder.specs.Lists.{rowsIn, outside}
 use Rattle.encoder.specs.Bytes.{frames}
@@ -24,16 +23,13 @@ inside-more : (n : ℕ) (r : Row) (rs : List Row) → outside n (r ∷ rs) ≡ f
 unfolding outside
 inside-more n r rs h = by-test (ltb n (r .start + r .length)) (λ a. not-both true refl (rw a at h)) (λ a. (ltb-false n (r .start + r .length) a, rw a at h))
 
-frame-length : (bytes : List ℕ) (start n : ℕ) → start + n ≤ length bytes → length (take n (drop start bytes)) ≡ n
-frame-length bytes start n h = length-take-le n (drop start bytes) (simp length-drop (omega arith))
-
 -- the frames of a list that lie in their bytes are as long as the rows say
 pub length-frames : (bytes : List ℕ) (rs : List Row) → outside (length bytes) rs ≡ false → length (frames bytes rs) ≡ lengthsIn rs
 unfolding frames lengthsIn
 length-frames bytes [] h = refl
 length-frames bytes (r ∷ rs) h =
     let i = inside-more (length bytes) r rs h in
-    length-append (take (r .length) (drop (r .start) bytes)) (frames bytes rs) ∙ rw (frame-length bytes (r .start) (r .length) (i .0), length-frames bytes rs (i .1))
+    length-append (take (r .length) (drop (r .start) bytes)) (frames bytes rs) ∙ rw (part-size bytes (r .start) (r .length) (i .0), length-frames bytes rs (i .1))
 
 module _ (bytes ws l : List ℕ) where
   pub put-none : length ws < rowWidth → l ≡ over (frames bytes (rowsIn ws)) l
@@ -58,7 +54,7 @@ module _ (bytes ws l : List ℕ) where
     rest-room = record { inside = inside-here .1; room = omega (arith, lengths-more, r .room) }
 
     pub frame-part : length (take (start + n - start) (drop start bytes)) ≡ n
-    frame-part = frame-length bytes start (start + n - start) (omega (arith, frame-inside)) ∙ omega arith
+    frame-part = part-size bytes start (start + n - start) (omega (arith, frame-inside)) ∙ omega arith
 
     frames-more : frames bytes (rowsIn ws) ≡ take n (drop start bytes) ++ frames bytes (rowsIn (drop rowWidth ws))
     unfolding frames
@@ -68,5 +64,5 @@ module _ (bytes ws l : List ℕ) where
         → putMid n (length m - n) m z ≡ over (frames bytes (rowsIn ws)) l
     put-frame m z p q =
         let k : start + n - start ≡ n = omega arith in
-        over-part (take n (drop start bytes)) (frames bytes (rowsIn (drop rowWidth ws))) l m z n (frame-length bytes start n frame-inside) (p ∙ ap (λ (i : ℕ). over (take i (drop start bytes)) l) k) q
+        over-part (take n (drop start bytes)) (frames bytes (rowsIn (drop rowWidth ws))) l m z n (part-size bytes start n frame-inside) (p ∙ ap (λ (i : ℕ). over (take i (drop start bytes)) l) k) q
         ∙ ap (λ (w : List ℕ). over w l) (sym frames-more)

@@ -9,16 +9,3 @@ pub mod TableLaws
 pub mod FrameBytesLaws
 pub mod PayloadLaws
 pub mod WritingLaws
-pub mod EntryBackLaws
-pub mod TableBackLaws
-pub mod ByteLaws
-pub mod TableBlockLaws
-pub mod FrameLaws
-pub mod AttachLaws
-pub mod ShortestLaws
-pub mod TickLaws
-pub mod PlanBlockLaws
-pub mod PlanRowLaws
-pub mod PlanTableLaws
-pub mod ReadLaws
-pub mod WritingTheorems

@@ -16,7 +16,7 @@ use Rattle.rtp.specs.declared.refusal.Refusal.{Refusal}
 use Rattle.rtp.specs.declared.refusal.Refusal.the-variants.{Unwritable}
 use Rattle.rtp.proofs.TestLaws.{by-test}
 use Rattle.rtp.proofs.AreaLaws.{over-part}
-use Rattle.payload.specs.Frames.{stepOf}
+use Rattle.payload.specs.Formats.{stepOf}
 use Rattle.payload.specs.Contents.{Group, Contents, refused, groups, sizeIn, framesIn}
 use Rattle.payload.specs.Rows.{Row}
 use Rattle.encoder.specs.Lists.{rowsIn, outside}
@@ -72,7 +72,7 @@ pub record Listed (format ch : ℕ) (ws : List ℕ) (gs : List Group) : Type 0 w
   pub planned : planFrom format ch 0 (stepBefore format (rowAs (wordsAt ws 0))) (rowsIn ws) ≡ groups gs
   pub fits : sizeIn format gs + framesIn ch gs ≤ maxPayload
 
-fitted : (format ch : ℕ) (x : Contents) (gs : List Group) → fitting format ch x ≡ groups gs → (x ≡ groups gs) × (sizeIn format gs + framesIn ch gs ≤ maxPayload)
+pub fitted : (format ch : ℕ) (x : Contents) (gs : List Group) → fitting format ch x ≡ groups gs → (x ≡ groups gs) × (sizeIn format gs + framesIn ch gs ≤ maxPayload)
 fitted format ch (refused q) gs h = absurd (no-plan h)
 fitted format ch (groups hs) gs h =
     by-test (ltb maxPayload (sizeIn format hs + framesIn ch hs))

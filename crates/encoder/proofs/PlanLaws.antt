@@ -6,22 +6,23 @@ use Prim.Native.Nat.{ℕ, suc, _+_, _-_, _*_, _/_, _≤_, _<_}
 use native.Mathlib.Omega.{arith}
 use native.Mathlib.Nat.{mul-le-mul-left, mul-le-mul-right, suc-mul, one-mul, add-mul, add-zero}
 use lib.ListN.{length, getD, drop}
-use lib.Dec.{ltb, leb, eqb}
+use lib.Dec.{ltb, eqb}
 use native.Mathlib.Numerals.{add-one}
 use borrow.Author.Tests.{lt-ltb, le-ltb, ltb-true, leb-true, eqb-true, eqb-false, eq-eqb, ne-eqb}
 use Rattle.rtp.specs.Sizes.{maxRows, maxFrame, rowWidth}
-use Rattle.rtp.specs.Ranges.{g719Interleaved, gsmHr}
-use Rattle.rtp.proofs.TestLaws.{by-test, not-both}
-use Rattle.payload.specs.Contents.{Group, Contents, refused, groups, entrySize, sizeIn, framesIn}
+use Rattle.rtp.proofs.TestLaws.{by-test, not-both, both}
+use Rattle.payload.specs.Contents.{Group, Contents, refused, groups, gapsSize, entrySize, sizeIn, framesIn}
 use Rattle.payload.specs.Rows.{Row}
 use Rattle.encoder.specs.declared.plans.Plan.{Plan}
 use Rattle.encoder.specs.declared.plans.Planned.{Planned}
-use Rattle.payload.specs.Frames.{stepOf, noData, sound, gsmLength}
-use Rattle.payload.specs.Codes.{noCode, lengthCode, codeFor}
-use Rattle.encoder.specs.Plans.{maxPayload, gapBetween, starts, headGap, maxGap, joins, attach, follows, planFrom, plan, nextChannel, stepBefore, fitting}
+use Rattle.payload.specs.Formats.{formatOf, stepOf, maxGap}
+use Rattle.payload.specs.Codes.{noCode, codeFor}
+use Rattle.payload.proofs.EntryLaws.{min-few}
+use Rattle.payload.proofs.CodeLaws.{code-small}
+use Rattle.encoder.specs.Plans.{maxPayload, gapBetween, starts, headGap, joinsRun, joins, attach, follows, planFrom, plan, nextChannel, stepBefore, fitting}
 use Rattle.encoder.specs.Lists.{rowsIn}
 use Rattle.encoder.proofs.ListLaws.{rows-none, rows-more, length-rows}
-use Rattle.encoder.specs.Room.{rowAs, wordsAt, planAnswer, joinsPlan, attachPlan, SmallPlan, Small}
+use Rattle.encoder.specs.Room.{rowAs, wordsAt, planAnswer, attachPlan, SmallPlan, Small}
 
 -- the bytes of a frame-block stay small
 pub block-frames : (ch n : ℕ) → ch < 256 → n ≤ maxFrame → ch * n ≤ 81600
@@ -32,30 +33,27 @@ plan-frames format ch p s c = omega (arith, block-frames ch maxFrame c (omega ar
 
 -- an entry has at most three bytes for its first frame-block, and at most one more for each other
 pub size-grows : (format n : ℕ) → entrySize format n ≤ 2 + n
-size-grows format n =
-    by-test (eqb format gsmHr) (λ a. simp a (omega arith))
-    (λ a. by-test (eqb format g719Interleaved) (λ b. simp (a, b) (omega arith)) (λ b. simp (a, b) (omega arith)))
+unfolding entrySize gapsSize
+size-grows format n = let m = min-few format in by-test (formatOf format .displaced) (λ a. rw a (omega arith)) (λ a. rw a (omega arith))
 
 pub size-next : (format n : ℕ) → entrySize format (n + 1) ≤ entrySize format n + 1
-size-next format n =
-    by-test (eqb format gsmHr) (λ a. simp a (omega arith))
-    (λ a. by-test (eqb format g719Interleaved) (λ b. simp (a, b) (omega arith)) (λ b. simp (a, b) (omega arith)))
+unfolding entrySize gapsSize
+size-next format n = by-test (formatOf format .displaced) (λ a. rw a (omega arith)) (λ a. rw a (omega arith))
 
 -- a frame-block before a plan, in the plan's numbers
 
 pub record Joins (format : ℕ) (r : Row) (g : Group) : Type 0 where
+  pub runs : formatOf format .counted ≡ true
   pub class : r .class ≡ g .class
   pub length : r .length ≡ g .length
   pub near : headGap g ≤ maxGap format
 
 pub joins-true : (format : ℕ) (r : Row) (g : Group) → joins format r g ≡ true → Joins format r g
 joins-true format r g h =
-    by-test (eqb format gsmHr) (λ a. not-both false (rw a at h) refl)
-    (λ a. by-test (eqb (r .class) (g .class))
-    (λ b. by-test (eqb (r .length) (g .length))
-    (λ d. record { class = eqb-true (r .class) (g .class) b; length = eqb-true (r .length) (g .length) d; near = leb-true (headGap g) (maxGap format) (rw (a, b, d) at h) })
-    (λ d. not-both false (rw (a, b, d) at h) refl))
-    (λ b. not-both false (rw (a, b) at h) refl))
+    let a = both (formatOf format .counted) _ h in
+    let b = both (eqb (r .class) (g .class)) _ (a .1) in
+    let d = both (eqb (r .length) (g .length)) _ (b .1) in
+    record { runs = a .0; class = eqb-true (r .class) (g .class) (b .0); length = eqb-true (r .length) (g .length) (d .0); near = leb-true (headGap g) (maxGap format) (d .1) }
 
 pub frames-more : (n ch len : ℕ) → suc n * ch * len ≡ ch * len + n * ch * len
 frames-more n ch len = rw (suc-mul n ch, add-mul (n * ch) ch len) (omega arith)
@@ -77,22 +75,6 @@ answer-attach format ch r gap (groups (g ∷ gs)) =
 
 -- Bounds
 
-pub code-short : (format class n : ℕ) → codeFor format class n < noCode → n ≤ maxFrame
-unfolding codeFor lengthCode
-code-short format class n h =
-    by-test (eqb format gsmHr)
-    (λ a. by-test (eqb class noData)
-    (λ b. by-test (eqb n 0) (λ d. omega (arith, eqb-true n 0 d)) (λ d. absurd (omega (arith, rw (a, b, d) at h))))
-    (λ b. by-test (eqb n gsmLength) (λ d. omega (arith, eqb-true n gsmLength d)) (λ d. absurd (omega (arith, rw (a, b, d) at h)))))
-    (λ a. by-test (eqb class noData)
-    (λ b. by-test (eqb n 0) (λ d. omega (arith, eqb-true n 0 d)) (λ d. absurd (omega (arith, rw (a, b, d) at h))))
-    (λ b. by-test (eqb class sound)
-    (λ d. by-test (ltb n 80) (λ e. omega (arith, ltb-true n 80 e))
-    (λ e. by-test (leb n 220) (λ i. omega (arith, leb-true n 220 i))
-    (λ i. by-test (ltb n 240) (λ j. omega (arith, ltb-true n 240 j))
-    (λ j. by-test (leb n 320) (λ k. leb-true n 320 k) (λ k. absurd (omega (arith, rw (a, b, d, e, i, j, k) at h)))))))
-    (λ d. absurd (omega (arith, rw (a, b, d) at h)))))
-
 pub small-more : (format ch n : ℕ) (x : Planned) → Small format ch n x → Small format ch (suc n) x
 small-more format ch n (Planned.Table p) s = record { few = omega arith; entry = s .entry; tabled = omega arith; framed = rw suc-mul (omega arith) }
 small-more format ch n Planned.Empty s = tt
@@ -108,7 +90,7 @@ small-attach format ch n r gap Planned.Unwritable l s = tt
 small-attach format ch n r gap Planned.Empty l s =
     record { few = omega arith; entry = omega arith; tabled = omega (arith, size-grows format 1); framed = rw suc-mul (omega (arith, mul-le-mul-left ch l)) }
 small-attach format ch n r gap (Planned.Table p) l s =
-    by-test (joinsPlan format r (p .class) (p .length) (p .gap))
+    by-test (joinsRun format r (p .class) (p .length) (p .gap))
     (λ a. rw a (record {
       few = omega arith;
       entry = omega arith;
@@ -127,7 +109,7 @@ small-attach format ch n r gap (Planned.Table p) l s =
 pub starts-short : (format previous : ℕ) (r : Row) → starts format previous r ≡ true → r .length ≤ maxFrame
 starts-short format previous r h =
     by-test (ltb (codeFor format (r .class) (r .length)) noCode)
-    (λ a. code-short format (r .class) (r .length) (ltb-true _ _ a))
+    (λ a. code-small format (r .class) (r .length) (ltb-true (codeFor format (r .class) (r .length)) noCode a) .short)
     (λ a. absurd (not-both {P = ⊥} false (rw a at h) refl))
 
 pub follows-short : (format c : ℕ) (p r : Row) → c ≡ 0 → follows format c p r ≡ true → r .length ≤ maxFrame

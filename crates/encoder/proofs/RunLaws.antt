@@ -10,15 +10,15 @@ use lib.Seq.{drop-drop, getD-drop}
 use lib.Dec.{ltb, eqb}
 use borrow.Author.Tests.{ltb-true, ltb-false, eqb-true}
 use Rattle.rtp.specs.Sizes.{rowWidth}
-use Rattle.rtp.specs.Ranges.{g719Interleaved}
 use Rattle.rtp.proofs.TestLaws.{by-test}
-use Rattle.payload.specs.Frames.{stepOf}
+use Rattle.payload.specs.Formats.{stepOf}
 use Rattle.payload.specs.Contents.{Group, Contents, refused, groups}
 use Rattle.payload.specs.Rows.{Row}
 use Rattle.payload.specs.Codes.{noCode, codeFor}
+use Rattle.payload.proofs.FormatLaws.{gap-small}
 use Rattle.encoder.specs.Lists.{rowsIn}
-use Rattle.encoder.specs.Plans.{gapBetween, maxGap, headGap, single, joins, attach, planFrom}
-use Rattle.encoder.specs.Room.{rowAs, wordsAt, joinsPlan, timed, joined, Accepted, blockGaps, runGroup, Halves, Direct}
+use Rattle.encoder.specs.Plans.{joinsRun, gapBetween, headGap, single, joins, attach, planFrom}
+use Rattle.encoder.specs.Room.{rowAs, wordsAt, timed, joined, Accepted, blockGaps, runGroup, Halves, Direct}
 use Rattle.encoder.proofs.ListLaws.{rows-none}
 use Rattle.encoder.proofs.PlanLaws.{joins-true}
 use Rattle.encoder.proofs.BlockLaws.{no-plan, plan-time, starts-code, Block, block-step}
@@ -84,9 +84,6 @@ pub record Run (format ch : ℕ) (p : Row) (ws : List ℕ) (n : ℕ) (g : Group)
   pub rest : planFrom format ch 0 (timed (getD ws (rowWidth * ch * n - rowWidth * ch) 0)) (rowsIn (drop (rowWidth * ch * n) ws)) ≡ groups gs
   pub direct : Direct gs
 
-max-gap-small : (format : ℕ) → maxGap format < 16
-max-gap-small format = by-test (eqb format g719Interleaved) (λ a. rw a (omega arith)) (λ a. rw a (omega arith))
-
 module _ (format ch : ℕ) (p : Row) (ws : List ℕ) (g : Group) (gs : List Group) (b : Block format ch p ws (g ∷ gs)) where
   run-alone : g ≡ single (rowAs (wordsAt ws 0)) (gapBetween (stepOf format) (p .time) (getD ws 0 0)) → gs ≡ b .rest → Direct (b .rest) → Run format ch p ws 1 g gs
   unfolding blockGaps
@@ -118,7 +115,7 @@ module _ (format ch : ℕ) (p : Row) (ws : List ℕ) (g : Group) (gs : List Grou
         some = omega arith;
         enough = omega (arith, w, i .enough, b .enough, length-drop (rowWidth * ch) ws);
         coded = starts-code format (p .time) (rowAs (wordsAt ws 0)) (b .started);
-        near = λ q. subst (λ (k : Group). Halves (k .gaps)) (sym x) (subst (λ (k : Group). headGap k < 16) x q, i .near (omega (arith, t .near, max-gap-small format)));
+        near = λ q. subst (λ (k : Group). Halves (k .gaps)) (sym x) (subst (λ (k : Group). headGap k < 16) x q, i .near (omega (arith, t .near, gap-small format)));
         rest = ap (λ (k : ℕ). planFrom format ch 0 (timed (getD ws k 0)) (rowsIn (drop (rowWidth * ch * suc m) ws))) v
             ∙ ap (λ (k : ℕ). planFrom format ch 0 (timed k) (rowsIn (drop (rowWidth * ch * suc m) ws))) (sym (getD-drop (rowWidth * ch) ws (rowWidth * ch * m - rowWidth * ch) 0))
             ∙ ap (λ (k : List ℕ). planFrom format ch 0 (timed (getD (drop (rowWidth * ch) ws) (rowWidth * ch * m - rowWidth * ch) 0)) (rowsIn k)) (ap (λ (k : ℕ). drop k ws) w ∙ sym (drop-drop (rowWidth * ch * m) (rowWidth * ch) ws))
@@ -183,14 +180,14 @@ module _ (format ch : ℕ) (r : Row) (ws : List ℕ) where
       joined-words = block .enough
 
       pub joined-step : joined format r (planFrom format ch 0 r (rowsIn ws))
-          ≡ cond (joinsPlan format r (rowAs (wordsAt ws 0) .class) (rowAs (wordsAt ws 0) .length) (gapBetween (stepOf format) (r .time) (getD ws 0 0)))
+          ≡ cond (joinsRun format r (rowAs (wordsAt ws 0) .class) (rowAs (wordsAt ws 0) .length) (gapBetween (stepOf format) (r .time) (getD ws 0 0)))
           (suc (joined format (rowAs (wordsAt ws 0)) (planFrom format ch 0 (rowAs (wordsAt ws 0)) (rowsIn (drop (rowWidth * ch) ws))))) 0
       joined-step = step (accepted (planFrom format ch 0 r (rowsIn ws)) a .0) (accepted (planFrom format ch 0 r (rowsIn ws)) a .1) (block .attached)
         where
           step : (gs : List Group) → planFrom format ch 0 r (rowsIn ws) ≡ groups gs
               → attach format (rowAs (wordsAt ws 0)) (gapBetween (stepOf format) (r .time) (getD ws 0 0)) (groups (block .rest)) ≡ groups gs
               → joined format r (planFrom format ch 0 r (rowsIn ws))
-              ≡ cond (joinsPlan format r (rowAs (wordsAt ws 0) .class) (rowAs (wordsAt ws 0) .length) (gapBetween (stepOf format) (r .time) (getD ws 0 0)))
+              ≡ cond (joinsRun format r (rowAs (wordsAt ws 0) .class) (rowAs (wordsAt ws 0) .length) (gapBetween (stepOf format) (r .time) (getD ws 0 0)))
               (suc (joined format (rowAs (wordsAt ws 0)) (planFrom format ch 0 (rowAs (wordsAt ws 0)) (rowsIn (drop (rowWidth * ch) ws))))) 0
           step [] e x = absurd (attached-some format _ _ (block .rest) x)
           step (g ∷ gs) e x =

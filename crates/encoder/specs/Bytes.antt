@@ -3,8 +3,7 @@ use Prim.Native.Nat.{ℕ, _+_, _*_}
 use mathlib.Core.List.{List, [], _∷_, _++_}
 use mathlib.Core.Bool.{Bool, true, false, cond}
 use lib.ListN.{length, take, drop}
-use lib.Dec.{eqb}
-use Rattle.rtp.specs.Ranges.{g719Interleaved, gsmHr}
+use Rattle.payload.specs.Formats.{formatOf}
 use Rattle.payload.specs.Contents.{Group}
 use Rattle.payload.specs.Rows.{Row}
 use Rattle.payload.specs.Codes.{codeFor}
@@ -19,11 +18,20 @@ halves (a ∷ b ∷ ns) = (16 * a + b) ∷ halves ns
 abbrev pub flag : Bool → ℕ
 flag more = cond more 128 0
 
+-- an entry's first byte: F, the code of its frames, and reserved bits
+unfoldable pub firstByte : ℕ → Bool → ℕ → ℕ → ℕ
+firstByte format more class n = flag more + formatOf format .unit * codeFor format class n
+
+-- an entry's bytes before its displacements: the second counts its frame-blocks
+abbrev pub startBytes : ℕ → Bool → ℕ → ℕ → ℕ → List ℕ
+startBytes format more class n blocks = firstByte format more class n ∷ cond (formatOf format .counted) (blocks ∷ []) []
+
+abbrev pub gapBytes : ℕ → List ℕ → List ℕ
+gapBytes format gaps = cond (formatOf format .displaced) (halves gaps) []
+
 -- an entry's bytes; a plan's first gap in a group is 0, and so is its DIS1
 unfoldable pub entryBytes : ℕ → Bool → Group → List ℕ
-entryBytes format more g =
-    cond (eqb format gsmHr) ((flag more + 16 * codeFor format (g .class) (g .length)) ∷ [])
-    ((flag more + 4 * codeFor format (g .class) (g .length)) ∷ length (g .gaps) ∷ cond (eqb format g719Interleaved) (halves (g .gaps)) [])
+entryBytes format more g = startBytes format more (g .class) (g .length) (length (g .gaps)) ++ gapBytes format (g .gaps)
 
 unfoldable pub tableBytes : ℕ → List Group → List ℕ
 tableBytes format [] = []

@@ -2,5 +2,4 @@ pub mod Lists
 pub mod Plans
 pub mod Bytes
 pub mod Writings
-pub mod Claims
 pub mod Room

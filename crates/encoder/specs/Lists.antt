@@ -1,5 +1,5 @@
 -- Frame lists: the rows in a word area that a caller gives to be written.
-use Prim.Native.Nat.{ℕ, _+_, _/_, _%_}
+use Prim.Native.Nat.{ℕ, _+_, _%_}
 use mathlib.Core.List.{List, [], _∷_}
 use mathlib.Core.Bool.{Bool, true, false, cond}
 use lib.ListN.{length}
@@ -7,6 +7,11 @@ use lib.Dec.{ltb, eqb}
 use Rattle.rtp.specs.Sizes.{rowWidth}
 use Rattle.payload.specs.Rows.{Row}
 pub use Rattle.payload.specs.Rows.{rowOf, rowsIn}
+
+-- the time of a list's first row, at which it is read back
+abbrev pub firstTime : List Row → ℕ
+firstTime [] = 0
+firstTime (r ∷ rs) = r .time
 
 -- a word area that is a whole number of rows
 abbrev pub whole : List ℕ → Bool

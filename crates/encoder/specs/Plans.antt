@@ -1,15 +1,14 @@
 -- The table of contents that a frame list is written with: one entry for each longest run of frame-blocks of equal length (GSM-HR: one
 -- entry a frame), or none. A plan is a table as reading has it: a list of groups.
-use Prim.Native.Nat.{ℕ, zero, suc, _+_, _-_, _*_, _/_, _%_, _^_}
+use Prim.Native.Nat.{ℕ, _+_, _-_, _/_, _%_, _^_}
 use mathlib.Core.List.{List, [], _∷_}
-use mathlib.Core.Bool.{Bool, true, false, cond}
+use mathlib.Core.Bool.{Bool, false, cond}
 use lib.ListN.{length, getD}
 use lib.Dec.{ltb, leb, eqb}
 use Rattle.rtp.specs.Sizes.{maxRows, minPacket, maxPacket}
-use Rattle.rtp.specs.Ranges.{g719Interleaved, gsmHr}
 use Rattle.rtp.specs.Time.{difference}
 use Rattle.rtp.specs.declared.refusal.Refusal.the-variants.{Unwritable}
-use Rattle.payload.specs.Frames.{stepOf}
+use Rattle.payload.specs.Formats.{formatOf, stepOf, maxGap}
 use Rattle.payload.specs.Contents.{Group, Contents, refused, groups, sizeIn, framesIn}
 use Rattle.payload.specs.Rows.{Row}
 use Rattle.payload.specs.Codes.{noCode, codeFor}
@@ -25,10 +24,6 @@ ticksAfter step previous time = difference (difference time step) previous
 -- the frame-blocks left out between a frame-block and the next
 abbrev pub gapBetween : ℕ → ℕ → ℕ → ℕ
 gapBetween step previous time = ticksAfter step previous time / step
-
--- the most frame-blocks that an entry can leave out before one of its own
-abbrev pub maxGap : ℕ → ℕ
-maxGap format = cond (eqb format g719Interleaved) 15 0
 
 -- the channel after c of a frame-block of so many channels: the first of the next one after the last
 abbrev pub nextChannel : ℕ → ℕ → ℕ
@@ -54,11 +49,14 @@ headGap g = getD (g .gaps) 0 0
 abbrev pub single : Row → ℕ → Group
 single r gap = record { class = r .class; length = r .length; gaps = gap ∷ [] }
 
--- a frame-block and the group after it make one run: of equal class and length, no further apart than an entry can say, and GSM-HR has no runs
+-- a frame-block and the run after it, of this class and length and after this gap, make one run: an entry counts frame-blocks, they are of equal class
+-- and length, and no further apart than an entry can say
+abbrev pub joinsRun : ℕ → Row → ℕ → ℕ → ℕ → Bool
+joinsRun format r class n gap =
+    cond (formatOf format .counted) (cond (eqb (r .class) class) (cond (eqb (r .length) n) (leb gap (maxGap format)) false) false) false
+
 abbrev pub joins : ℕ → Row → Group → Bool
-joins format r g =
-    cond (eqb format gsmHr) false
-    (cond (eqb (r .class) (g .class)) (cond (eqb (r .length) (g .length)) (leb (headGap g) (maxGap format)) false) false)
+joins format r g = joinsRun format r (g .class) (g .length) (headGap g)
 
 -- a frame-block before a table: it joins the first run, or is a run of its own, which the next run must follow directly
 abbrev pub attach : ℕ → Row → ℕ → Contents → Contents

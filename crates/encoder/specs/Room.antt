@@ -2,21 +2,20 @@
 use Prim.Native.Nat.{ℕ, zero, suc, _+_, _-_, _*_, _/_, _≤_, _<_}
 use mathlib.Core.Path.{_≡_}
 use mathlib.Core.List.{List, [], _∷_}
-use mathlib.Core.Bool.{Bool, false, cond}
+use mathlib.Core.Bool.{false, cond}
 use lib.ListN.{length, getD, drop}
-use lib.Dec.{leb, eqb}
+use lib.Dec.{eqb}
 use Rattle.rtp.specs.Sizes.{maxRows, maxFrame, rowWidth}
-use Rattle.rtp.specs.Ranges.{gsmHr}
-use Rattle.payload.specs.Contents.{Group, Contents, refused, groups, entrySize, sizeIn, framesIn}
-use Rattle.payload.specs.Frames.{stepOf}
+use Rattle.payload.specs.Contents.{Group, Contents, refused, groups, minEntry, entrySize, sizeIn, framesIn}
+use Rattle.payload.specs.Formats.{stepOf}
 use Rattle.payload.specs.Rows.{Row}
 use Rattle.encoder.specs.declared.lists.RowWords.{RowWords}
 use Rattle.encoder.specs.declared.plans.Plan.{Plan}
 use Rattle.encoder.specs.declared.plans.Planned.{Planned}
 use Rattle.encoder.specs.Lists.{rowOf, rowsIn, outside}
 use Rattle.payload.specs.Codes.{noCode, codeFor}
-use Rattle.encoder.specs.Plans.{maxGap, headGap, gapBetween, joins, planFrom, plan}
-use Rattle.encoder.specs.Bytes.{flag, tableBytes}
+use Rattle.encoder.specs.Plans.{headGap, gapBetween, joinsRun, joins, planFrom, plan}
+use Rattle.encoder.specs.Bytes.{tableBytes}
 
 -- the words of the row at a word of the area
 abbrev pub wordsAt : List ℕ → ℕ → RowWords
@@ -38,12 +37,6 @@ planAnswer format ch (groups (g ∷ gs)) = Planned.Table (record {
   frames = framesIn ch (g ∷ gs);
 })
 
--- `joins` by the numbers of the run
-abbrev pub joinsPlan : ℕ → Row → ℕ → ℕ → ℕ → Bool
-joinsPlan format r class n gap =
-    cond (eqb format gsmHr) false
-    (cond (eqb (r .class) class) (cond (eqb (r .length) n) (leb gap (maxGap format)) false) false)
-
 -- `attach` by the numbers of the first run
 abbrev pub attachPlan : ℕ → ℕ → Row → ℕ → Planned → Planned
 attachPlan format ch r gap Planned.Unwritable = Planned.Unwritable
@@ -56,7 +49,7 @@ attachPlan format ch r gap Planned.Empty = Planned.Table (record {
   frames = ch * r .length;
 })
 attachPlan format ch r gap (Planned.Table p) =
-    cond (joinsPlan format r (p .class) (p .length) (p .gap))
+    cond (joinsRun format r (p .class) (p .length) (p .gap))
     (Planned.Table (record {
       class = p .class;
       length = p .length;
@@ -140,10 +133,6 @@ runGroup format width n previous ws =
 
 -- Entries and tables
 
--- an entry's first byte
-abbrev pub firstByte : ℕ → Bool → ℕ → ℕ → ℕ
-firstByte format more class n = cond (eqb format gsmHr) (flag more + 16 * codeFor format class n) (flag more + 4 * codeFor format class n)
-
 -- each of them fits in half a byte
 abbrev pub Halves : List ℕ → Type 0
 Halves [] = Unit {0}
@@ -154,6 +143,11 @@ pub record GapRoom (format width blocks previous : ℕ) (ws : List ℕ) (area : 
   pub words : width * blocks ≤ length ws
   pub small : Halves (blockGaps (stepOf format) width blocks previous ws)
   pub room : (blocks + 1) / 2 ≤ area
+
+pub record StartRoom (format class n blocks area : ℕ) : Type 0 where
+  pub coded : codeFor format class n < noCode
+  pub few : blocks < 256
+  pub room : minEntry format ≤ area
 
 pub record EntryRoom (format width blocks previous : ℕ) (ws : List ℕ) (area : ℕ) : Type 0 where
   pub row : rowWidth ≤ length ws

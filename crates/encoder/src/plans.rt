@@ -4,9 +4,9 @@ use crate::lists::RowWords;
 use payload::codes;
 use payload::codes::NO_CODE;
 use payload::contents;
+use payload::formats;
 use payload::frames;
-use rtp::settings::G719_INTERLEAVED;
-use rtp::settings::GSM_HR;
+use payload::rows;
 use rtp::sizes::MAX_PACKET;
 use rtp::sizes::MAX_ROWS;
 use rtp::sizes::MIN_PACKET;
@@ -17,10 +17,10 @@ ghost use Prim.Native.Nat.{_+_, _*_, _/_, _%_, _<_};
 ghost use lib.Dec.{eqb};
 ghost use lib.ListN.{length};
 ghost use Rattle.rtp.specs.Sizes.{rowWidth, maxRows};
-ghost use Rattle.payload.specs.Frames.{stepOf};
+ghost use Rattle.payload.specs.Formats.{stepOf, maxGap};
 ghost use Rattle.encoder.specs.Lists.{rowsIn};
-ghost use Rattle.encoder.specs.Plans.{ticksAfter, gapBetween, maxGap, nextChannel, starts, continues, follows, planFrom, plan};
-ghost use Rattle.encoder.specs.Room.{rowAs, planAnswer, attachPlan, joinsPlan, Attachable};
+ghost use Rattle.encoder.specs.Plans.{ticksAfter, gapBetween, nextChannel, starts, continues, follows, joinsRun, planFrom, plan};
+ghost use Rattle.encoder.specs.Room.{rowAs, planAnswer, attachPlan, Attachable};
 
 // A plan by its first run: class, length, the gap before it and its frame-blocks; and the bytes of the whole table and of all frames.
 pub struct Plan {
@@ -50,22 +50,14 @@ fn ticks_after(format: u8, previous: u32, time: u32) -> u32
 fn in_steps(format: u8, ticks: u32) -> u32
     ensures { λ r. ⌜ r ≡ ticks / stepOf format ⌝ }
 {
-    if format == GSM_HR {
-        ticks / 160
-    } else {
-        ticks / 960
-    }
+    ticks / frames::step_of(format)
 }
 
 // Whether so many ticks are whole frame-blocks.
 fn whole_steps(format: u8, ticks: u32) -> bool
     ensures { λ r. ⌜ r ≡ eqb (ticks % stepOf format) 0 ⌝ }
 {
-    if format == GSM_HR {
-        ticks % 160 == 0
-    } else {
-        ticks % 960 == 0
-    }
+    ticks % frames::step_of(format) == 0
 }
 
 // The frame-blocks left out between a frame-block and the next.
@@ -79,7 +71,10 @@ pub(crate) fn gap_between(format: u8, previous: u32, time: u32) -> u32
 fn max_gap(format: u8) -> u32
     ensures { λ r. ⌜ r ≡ maxGap format ⌝ }
 {
-    if format == G719_INTERLEAVED { 15 } else { 0 }
+    if formats::format_of(format).displaced {
+        return 15;
+    }
+    0
 }
 
 // The channel after c.
@@ -93,7 +88,7 @@ fn next_channel(channels: u32, c: u32) -> u32
 fn starts_block(format: u8, previous: u32, row: RowWords) -> bool
     ensures { λ r. ⌜ r ≡ starts format previous (rowAs row) ⌝ }
 {
-    if codes::code_for(format, row.tag / 256, row.length) < NO_CODE {
+    if codes::code_for(format, rows::tag_class(row.tag), row.length) < NO_CODE {
         return whole_steps(format, ticks_after(format, previous, row.time));
     }
     false
@@ -103,7 +98,7 @@ fn continues_block(previous: RowWords, row: RowWords) -> bool
     ensures { λ r. ⌜ r ≡ continues (rowAs previous) (rowAs row) ⌝ }
 {
     if row.time == previous.time {
-        if row.tag / 256 == previous.tag / 256 {
+        if rows::tag_class(row.tag) == rows::tag_class(previous.tag) {
             return row.length == previous.length;
         }
         return false;
@@ -115,7 +110,7 @@ fn continues_block(previous: RowWords, row: RowWords) -> bool
 fn follows_row(format: u8, c: u32, previous: RowWords, row: RowWords) -> bool
     ensures { λ r. ⌜ r ≡ follows format c (rowAs previous) (rowAs row) ⌝ }
 {
-    if row.tag % 256 == c {
+    if rows::tag_channel(row.tag) == c {
         if c == 0 {
             return starts_block(format, previous.time, row);
         }
@@ -126,14 +121,14 @@ fn follows_row(format: u8, c: u32, previous: RowWords, row: RowWords) -> bool
 
 // Whether a frame-block and the run after it, of this class, length and gap, make one run.
 pub(crate) fn joins_run(format: u8, row: RowWords, class: u32, length: u32, gap: u32) -> bool
-    ensures { λ r. ⌜ r ≡ joinsPlan format (rowAs row) class length gap ⌝ }
+    ensures { λ r. ⌜ r ≡ joinsRun format (rowAs row) class length gap ⌝ }
 {
-    if format == GSM_HR {
-        return false;
-    }
-    if row.tag / 256 == class {
-        if row.length == length {
-            return gap <= max_gap(format);
+    if formats::format_of(format).counted {
+        if rows::tag_class(row.tag) == class {
+            if row.length == length {
+                return gap <= max_gap(format);
+            }
+            return false;
         }
         return false;
     }
@@ -145,7 +140,7 @@ fn attach_block(format: u8, channels: u32, row: RowWords, gap: u32, rest: Planne
     requires { ⌜ Attachable format channels (rowAs row) rest ⌝ }
     ensures { λ r. ⌜ r ≡ attachPlan format channels (rowAs row) gap rest ⌝ }
 {
-    let class = row.tag / 256;
+    let class = rows::tag_class(row.tag);
     let length = row.length;
     let frames = (channels as usize) * (length as usize);
     match rest {

@@ -4,19 +4,19 @@ use crate::lists::RowWords;
 use crate::plans;
 use payload::codes;
 use payload::contents;
-use rtp::settings::G719_INTERLEAVED;
-use rtp::settings::GSM_HR;
+use payload::formats;
+use payload::rows;
 use rtp::sizes::ROW_WIDTH;
 ghost use mathlib.Core.Path.{_≡_};
 ghost use Prim.Native.Nat.{_≤_, _<_};
 ghost use lib.ListN.{length};
 ghost use Rattle.rtp.specs.Areas.{over};
-ghost use Rattle.payload.specs.Frames.{stepOf};
+ghost use Rattle.payload.specs.Formats.{stepOf};
 ghost use Rattle.encoder.specs.Lists.{rowsIn};
 ghost use Rattle.payload.specs.Codes.{noCode, codeFor};
 ghost use Rattle.encoder.specs.Plans.{planFrom};
-ghost use Rattle.encoder.specs.Bytes.{flag, halves, entryBytes, frames};
-ghost use Rattle.encoder.specs.Room.{rowAs, FramesRoom, joined, RunRoom, timed, blockGaps, runGroup, firstByte, GapRoom, EntryRoom, TableRoom, planBytes};
+ghost use Rattle.encoder.specs.Bytes.{flag, halves, firstByte, startBytes, entryBytes, frames};
+ghost use Rattle.encoder.specs.Room.{rowAs, FramesRoom, joined, RunRoom, timed, blockGaps, runGroup, GapRoom, StartRoom, EntryRoom, TableRoom, planBytes};
 
 // The bytes of src over the front of the area.
 fn copy_bytes(out: &mut [u8], src: &[u8])
@@ -56,7 +56,7 @@ fn joined_blocks(format: u8, channels: usize, row: RowWords, rows: &[u32]) -> us
     }
     let next = lists::row_at(rows, 0);
     let gap = plans::gap_between(format, row.time, next.time);
-    if plans::joins_run(format, row, next.tag / 256, next.length, gap) {
+    if plans::joins_run(format, row, rows::tag_class(next.tag), next.length, gap) {
         let width = ROW_WIDTH * channels;
         return joined_blocks(format, channels, next, &rows[width..]) + 1;
     }
@@ -64,7 +64,7 @@ fn joined_blocks(format: u8, channels: usize, row: RowWords, rows: &[u32]) -> us
 }
 
 // The bit F: another entry follows.
-fn flag_of(more: bool) -> u32
+fn flag_of(more: bool) -> usize
     ensures { λ r. ⌜ r ≡ flag more ⌝ }
 {
     if more { 128 } else { 0 }
@@ -75,11 +75,20 @@ fn first_byte(format: u8, more: bool, class: u32, length: u32) -> u8
     requires { ⌜ codeFor format class length < noCode ⌝ }
     ensures { λ r. ⌜ r ≡ firstByte format more class length ⌝ }
 {
-    let code = codes::code_for(format, class, length);
-    if format == GSM_HR {
-        return (flag_of(more) + 16 * code) as u8;
+    let code = lists::wide(codes::code_for(format, class, length));
+    let facts = formats::format_of(format);
+    (flag_of(more) + facts.unit * code) as u8
+}
+
+// An entry's bytes before its displacements.
+fn put_start(format: u8, more: bool, class: u32, size: u32, blocks: usize, out: &mut [u8])
+    requires { ⌜ StartRoom format class size blocks (length (now out)) ⌝ }
+    ensures { λ _. ⌜ now (out .exit) ≡ over (startBytes format more class size blocks) (now (out .entry)) ⌝ }
+{
+    out[0] = first_byte(format, more, class, size);
+    if formats::format_of(format).counted {
+        out[1] = blocks as u8;
     }
-    (flag_of(more) + 4 * code) as u8
 }
 
 // The gaps of so many frame-blocks in half bytes, high half first; the first of them comes after a frame-block at `previous`.
@@ -123,13 +132,17 @@ fn put_entry(
     ensures { λ _. ⌜ now (out .exit) ≡ over (entryBytes format more (runGroup format width blocks previous (now (rows .entry)))) (now (out .entry)) ⌝ }
 {
     let row = lists::row_at(rows, 0);
-    out[0] = first_byte(format, more, row.tag / 256, row.length);
-    if format == GSM_HR {
-        return;
-    }
-    out[1] = blocks as u8;
-    if format == G719_INTERLEAVED {
-        put_gaps(format, width, blocks, previous, rows, &mut out[2..]);
+    put_start(
+        format,
+        more,
+        rows::tag_class(row.tag),
+        row.length,
+        blocks,
+        out,
+    );
+    if formats::format_of(format).displaced {
+        let start = contents::min_entry(format);
+        put_gaps(format, width, blocks, previous, rows, &mut out[start..]);
     }
 }
 

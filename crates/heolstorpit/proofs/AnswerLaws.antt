@@ -1,20 +1,14 @@
 -- What C is answered has the numbers of the library's answer, case by case.
-use mathlib.Core.Path.{_≡_, refl, ap, sym, _∙_}
+use mathlib.Core.Path.{_≡_, ap, sym, _∙_}
 use mathlib.Core.List.{List}
-use Prim.Native.Nat.{ℕ, _≤_}
-use lib.ListN.{length}
-use native.Mathlib.Omega.{arith}
+use Prim.Native.Nat.{ℕ}
 use Rattle.rtp.specs.Refusals.{number}
-use Rattle.rtp.specs.declared.settings.Settings.{Settings}
 use Rattle.rtp.specs.declared.refusal.Refusal.{Refusal}
 use Rattle.packet.specs.declared.reading.Reading.{Reading}
 use Rattle.packet.specs.declared.reading.Packet.{Packet}
 use Rattle.packet.specs.Readings.{readingNumbers}
 use Rattle.encoder.specs.declared.writing.Written.{Written}
-use Rattle.encoder.specs.Claims.{Words}
-use Rattle.encoder.specs.Plans.{maxPayload}
-use Rattle.encoder.specs.Writings.{Encoded, noBytes, bytesOf, writing, writtenNumbers, encodedNumbers}
-use Rattle.encoder.proofs.WritingTheorems.{round-trip}
+use Rattle.encoder.specs.Writings.{writtenNumbers}
 use Rattle.reorder.specs.declared.buffer.Buffer.{Buffer}
 use Rattle.reorder.specs.declared.tally.Tally.{Tally}
 use Rattle.reorder.specs.declared.calls.DrawnFrame.{DrawnFrame}
@@ -41,16 +35,6 @@ unwritten-numbers x r n h k = rw (h, k)
 
 pub written-numbers : (x : Written) (n : ℕ) → x ≡ Written.Bytes n → writtenAnswer (record { refusal = 0; length = n }) ≡ writtenNumbers x
 written-numbers x n h = rw h
-
--- the byte count is a word: at most 2,036
-pub count-fits : (st : Settings) (ws bytes : List ℕ) (area : ℕ) (x : Written) (n : ℕ) → Words ws → x ≡ Written.Bytes n
-    → writtenNumbers x ≡ encodedNumbers (writing st ws bytes area) → n ≤ maxPayload
-unfolding encodedNumbers
-count-fits st ws bytes area x n words h e = by-outcome (writing st ws bytes area) refl (rw h at e)
-  where
-    by-outcome : (y : Encoded) → writing st ws bytes area ≡ y → writtenNumbers (Written.Bytes n) ≡ encodedNumbers y → n ≤ maxPayload
-    by-outcome (noBytes q) k g = let c : n ≡ 0 = ap (λ m. m .count) g in omega (arith, c)
-    by-outcome (bytesOf p) k g = let c : n ≡ length p = ap (λ m. m .count) g in omega (arith, c, round-trip st ws bytes area p words k .0)
 
 -- The buffer
 

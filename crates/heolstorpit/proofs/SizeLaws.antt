@@ -1,8 +1,8 @@
--- A packet written has at most 2,048 bytes.
-use mathlib.Core.Path.{_≡_, refl, ap, subst}
-use mathlib.Core.List.{List, [], _++_}
-use mathlib.Core.Bool.{true, false}
-use Prim.Native.Nat.{ℕ, _≤_}
+-- A payload written has at most 2,036 bytes, a packet at most 2,048: the byte count is a word.
+use mathlib.Core.Path.{_≡_, refl, ap}
+use mathlib.Core.List.{List, _++_}
+use mathlib.Core.Bool.{false}
+use Prim.Native.Nat.{ℕ, _≤_, _<_}
 use native.Mathlib.Omega.{arith}
 use lib.ListN.{length}
 use lib.Dec.{ltb}
@@ -11,41 +11,68 @@ use Rattle.rtp.specs.Sizes.{maxPacket}
 use Rattle.rtp.specs.Ranges.{inRange}
 use Rattle.rtp.specs.declared.settings.Settings.{Settings}
 use Rattle.rtp.proofs.TestLaws.{by-test}
-use Rattle.encoder.specs.Lists.{rowsIn, outside}
+use Rattle.payload.specs.Contents.{Contents, refused, groups}
+use Rattle.encoder.specs.Lists.{rowsIn, whole, outside}
+use Rattle.encoder.specs.Plans.{maxPayload, plan}
 use Rattle.encoder.specs.declared.writing.Written.{Written}
-use Rattle.encoder.specs.Writings.{Encoded, noBytes, bytesOf, roomFor, writtenNumbers, encodedNumbers}
+use Rattle.encoder.specs.Writings.{Encoded, noBytes, bytesOf, plannedBytes, encoded, roomFor, writing, writtenNumbers, encodedNumbers}
+use Rattle.encoder.proofs.PayloadLaws.{listed, length-bytes}
+use Rattle.encoder.proofs.WritingLaws.{in-range-some}
 use Rattle.sender.specs.Parts.{Parts, noParts, partsOf, primaryTime, parts}
 use Rattle.sender.specs.Packets.{Heading, headerBytes, bodyBytes, packetType, redundancyMissing, withinPacket, assembledFrom, assembled, countsFit, sending}
 
-abbrev Short : Encoded → Type 0
-Short (noBytes r) = Unit {0}
-Short (bytesOf p) = length p ≤ maxPacket
+abbrev Short : ℕ → Encoded → Type 0
+Short m (noBytes r) = Unit {0}
+Short m (bytesOf p) = length p ≤ m
 
-within-short : (q : List ℕ) → Short (withinPacket q)
+room-short : (m area : ℕ) (x : Encoded) → Short m x → Short m (roomFor area x)
+room-short m area (noBytes r) s = tt
+room-short m area (bytesOf p) s = by-test (ltb area (length p)) (λ a. rw a tt) (λ a. rw a s)
+
+count-short : (m n : ℕ) (y : Encoded) → Short m y → writtenNumbers (Written.Bytes n) ≡ encodedNumbers y → n ≤ m
+unfolding encodedNumbers
+count-short m n (noBytes q) s g = let c : n ≡ 0 = ap (λ k. k .count) g in omega (arith, c)
+count-short m n (bytesOf p) s g = let c : n ≡ length p = ap (λ k. k .count) g in omega (arith, c, s)
+
+-- Payloads
+
+encoded-short : (st : Settings) (ws bytes : List ℕ) → 0 < st .channels → outside (length bytes) (rowsIn ws) ≡ false → Short maxPayload (encoded st bytes (rowsIn ws))
+unfolding encoded
+encoded-short st ws bytes l o = by-plan (plan (st .format) (st .channels) (rowsIn ws)) refl
+  where
+    by-plan : (x : Contents) → plan (st .format) (st .channels) (rowsIn ws) ≡ x → Short maxPayload (plannedBytes (st .format) bytes (rowsIn ws) x)
+    by-plan (refused q) e = tt
+    by-plan (groups gs) e = omega (arith, length-bytes (st .format) (st .channels) ws bytes gs l o e, listed (st .format) (st .channels) ws gs e .fits)
+
+writing-short : (st : Settings) (ws bytes : List ℕ) (area : ℕ) → Short maxPayload (writing st ws bytes area)
+unfolding writing
+writing-short st ws bytes area =
+    by-test (inRange st)
+    (λ a. by-test (outside (length bytes) (rowsIn ws)) (λ b. rw (a, b) tt)
+    (λ b. by-test (whole ws) (λ c. rw (a, b, c) (room-short maxPayload area (encoded st bytes (rowsIn ws)) (encoded-short st ws bytes (in-range-some st a) b))) (λ c. rw (a, b, c) tt)))
+    (λ a. rw a tt)
+
+pub payload-count-fits : (st : Settings) (ws bytes : List ℕ) (area : ℕ) (x : Written) (n : ℕ) → x ≡ Written.Bytes n
+    → writtenNumbers x ≡ encodedNumbers (writing st ws bytes area) → n ≤ maxPayload
+payload-count-fits st ws bytes area x n e k = count-short maxPayload n (writing st ws bytes area) (writing-short st ws bytes area) (rw e at k)
+
+-- Packets
+
+within-short : (q : List ℕ) → Short maxPacket (withinPacket q)
 within-short q = by-test (ltb maxPacket (length q)) (λ a. rw a tt) (λ a. rw a (ltb-false maxPacket (length q) a))
 
-assembled-short : (st : Settings) (h : Heading) (time : ℕ) (x : Parts) → Short (assembledFrom st h time x)
+assembled-short : (st : Settings) (h : Heading) (time : ℕ) (x : Parts) → Short maxPacket (assembledFrom st h time x)
 assembled-short st h time noParts = tt
 assembled-short st h time (partsOf bs p) = by-test (redundancyMissing st bs) (λ a. rw a tt) (λ a. rw a (within-short (headerBytes h (packetType st bs) time ++ bodyBytes st bs p)))
 
-room-short : (area : ℕ) (x : Encoded) → Short x → Short (roomFor area x)
-room-short area (noBytes r) s = tt
-room-short area (bytesOf p) s = by-test (ltb area (length p)) (λ a. rw a tt) (λ a. rw a s)
-
-sending-short : (st : Settings) (h : Heading) (counts ws bytes : List ℕ) (area : ℕ) → Short (sending st h counts ws bytes area)
+sending-short : (st : Settings) (h : Heading) (counts ws bytes : List ℕ) (area : ℕ) → Short maxPacket (sending st h counts ws bytes area)
 unfolding sending assembled
 sending-short st h counts ws bytes area =
     by-test (inRange st)
     (λ a. by-test (outside (length bytes) (rowsIn ws)) (λ b. rw (a, b) tt)
-    (λ b. by-test (countsFit counts ws) (λ c. rw (a, b, c) (room-short area (assembled st h counts bytes (rowsIn ws)) (assembled-short st h (primaryTime counts (rowsIn ws)) (parts st bytes (primaryTime counts (rowsIn ws)) counts (rowsIn ws))))) (λ c. rw (a, b, c) tt)))
+    (λ b. by-test (countsFit counts ws) (λ c. rw (a, b, c) (room-short maxPacket area (assembled st h counts bytes (rowsIn ws)) (assembled-short st h (primaryTime counts (rowsIn ws)) (parts st bytes (primaryTime counts (rowsIn ws)) counts (rowsIn ws))))) (λ c. rw (a, b, c) tt)))
     (λ a. rw a tt)
 
--- the byte count is a word
 pub packet-count-fits : (st : Settings) (h : Heading) (counts ws bytes : List ℕ) (area : ℕ) (x : Written) (n : ℕ) → x ≡ Written.Bytes n
     → writtenNumbers x ≡ encodedNumbers (sending st h counts ws bytes area) → n ≤ maxPacket
-unfolding encodedNumbers
-packet-count-fits st h counts ws bytes area x n e k = by-outcome (sending st h counts ws bytes area) (sending-short st h counts ws bytes area) (rw e at k)
-  where
-    by-outcome : (y : Encoded) → Short y → writtenNumbers (Written.Bytes n) ≡ encodedNumbers y → n ≤ maxPacket
-    by-outcome (noBytes q) s g = let c : n ≡ 0 = ap (λ m. m .count) g in omega (arith, c)
-    by-outcome (bytesOf p) s g = let c : n ≡ length p = ap (λ m. m .count) g in omega (arith, c, s)
+packet-count-fits st h counts ws bytes area x n e k = count-short maxPacket n (sending st h counts ws bytes area) (sending-short st h counts ws bytes area) (rw e at k)

@@ -27,7 +27,7 @@ use Rattle.payload.specs.Frames.{stepOf}
 use Rattle.payload.specs.Contents.{Contents, refused as unread, groups, contents, sizeIn, sizesAnswer}
 use Rattle.payload.specs.Payloads.{payload, Rows, noRows, rowsOf, placedRows, payloadRows, rowsAnswer, rowsWords, askedRows}
 use Rattle.payload.proofs.PayloadLaws.{length-table, pay-refused, pay-part, pay-rows, pay-small, asked-in}
-use Rattle.packet.specs.Blocks.{Block, cut, blockRows, thenRows, blocksRows}
+use Rattle.packet.specs.Blocks.{Block, cut, typedBlockRows, thenRows, blocksRows}
 use Rattle.packet.specs.Room.{askedBlock, headedRows, blocksFrom, Headed, BlocksAsked, Taken, BlocksRoom}
 use Rattle.packet.proofs.AnswerLaws.{then-none, thenAnswer, then-answer, then-same, then-taken, Few, then-few, answer-words, then-words}
 
@@ -45,8 +45,8 @@ placed-same format ch time time' at at' (groups gs) =
 
 module _ (st : Settings) where
   block-same : (done time time' type offset offset' at at' : ℕ) (s : List ℕ)
-      → rowsAnswer (blockRows st done time (block type offset at s)) ≡ rowsAnswer (blockRows st done time' (block type offset' at' s))
-  unfolding blockRows payloadRows
+      → rowsAnswer (typedBlockRows st done time (block type offset at s)) ≡ rowsAnswer (typedBlockRows st done time' (block type offset' at' s))
+  unfolding typedBlockRows payloadRows
   block-same done time time' type offset offset' at at' s =
       by-test (eqb type (st .«payload_type»))
       (λ a. by-test (eqb (length s) 0)
@@ -84,8 +84,8 @@ module _ (st : Settings) where
           (λ a. rw (pay-rows (st .format) (st .channels) done time at s t h (eqb-true _ _ a)) (pay-small (st .format) (st .channels) done time at s t h .few))
           (λ a. rw (pay-part (st .format) (st .channels) done time at s t h (eqb-false _ _ a)) tt)
 
-  pub block-few : (done time : ℕ) (b : Block) → done ≤ maxRows → Few done (rowsAnswer (blockRows st done time b))
-  unfolding blockRows rowsAnswer
+  pub block-few : (done time : ℕ) (b : Block) → done ≤ maxRows → Few done (rowsAnswer (typedBlockRows st done time b))
+  unfolding typedBlockRows rowsAnswer
   block-few done time b h =
       by-test (eqb (b .type) (st .«payload_type»))
       (λ x. by-test (eqb (length (b .bytes)) 0)
@@ -97,7 +97,7 @@ module _ (st : Settings) where
   unfolding blocksRows rowsAnswer
   blocks-few [] done time h = omega arith
   blocks-few (b ∷ bs) done time h =
-      rw then-answer (then-few done (rowsAnswer (blockRows st done time b)) _ (block-few done time b h) (λ n k. blocks-few bs (done + n) time k))
+      rw then-answer (then-few done (rowsAnswer (typedBlockRows st done time b)) _ (block-few done time b h) (λ n k. blocks-few bs (done + n) time k))
 
   pub from-few : (done time at : ℕ) (h d : List ℕ) → done ≤ maxRows → Few done (rowsAnswer (blocksFrom st done time at h d))
   unfolding blocksFrom rowsAnswer
@@ -122,18 +122,18 @@ module _ (st : Settings) (done time at : ℕ) (h d : List ℕ) where
   unfolding blocksFrom
   from-refused r q = rw (headers-step, q)
 
-  pub from-primary : (type : ℕ) → blockHeader h ≡ BlockHeader.Primary type → blocksFrom st done time at h d ≡ blockRows st done time (block type 0 at d)
+  pub from-primary : (type : ℕ) → blockHeader h ≡ BlockHeader.Primary type → blocksFrom st done time at h d ≡ typedBlockRows st done time (block type 0 at d)
   unfolding blocksFrom blocksRows cut
-  from-primary type q = rw (headers-step, q) (then-none (blockRows st done time (block type 0 at d)))
+  from-primary type q = rw (headers-step, q) (then-none (typedBlockRows st done time (block type 0 at d)))
 
   pub from-redundant : (n : ℕ) (e : Redundant) → blockHeader h ≡ BlockHeader.Redundant e → Headed n (headersAnswer (headers (drop 4 h)))
       → blocksFrom st done time at h d
-      ≡ thenRows (blockRows st done time (block (e .«payload_type») (e .offset) at (take (e .length) d))) (λ i. blocksFrom st (done + i) time (at + e .length) (drop 4 h) (drop (e .length) d))
+      ≡ thenRows (typedBlockRows st done time (block (e .«payload_type») (e .offset) at (take (e .length) d))) (λ i. blocksFrom st (done + i) time (at + e .length) (drop 4 h) (drop (e .length) d))
   unfolding blocksFrom blocksRows cut headersAnswer
   from-redundant n e q k = rw (headers-step h, q) (rest (headers (drop 4 h)) k)
     where
       rest : (x : Headers) → Headed n (headersAnswer x) → headedRows st done time at d (prepend e x)
-          ≡ thenRows (blockRows st done time (block (e .«payload_type») (e .offset) at (take (e .length) d))) (λ i. headedRows st (done + i) time (at + e .length) (drop (e .length) d) x)
+          ≡ thenRows (typedBlockRows st done time (block (e .«payload_type») (e .offset) at (take (e .length) d))) (λ i. headedRows st (done + i) time (at + e .length) (drop (e .length) d) x)
       rest (refused r) z = absurd z
       rest (headersOf bs type) z = refl
 
@@ -153,8 +153,8 @@ module _ (st : Settings) (done area time type offset at : ℕ) (s : List ℕ) wh
   asked-some h k = rw (eq-eqb _ _ h, ne-eqb _ _ k)
 
   pub asked-block : inRange st ≡ true → rowArea ≤ rowWidth * done + area → at + length s ≤ maxPacket
-      → askedBlock st done area time type offset at s ≡ blockRows st done time (block type offset at s)
-  unfolding askedBlock blockRows
+      → askedBlock st done area time type offset at s ≡ typedBlockRows st done time (block type offset at s)
+  unfolding askedBlock typedBlockRows
   asked-block h a b = rw (asked-in st done area (difference time offset) at s h a b)
 
 -- The blocks of a call: the primary block alone, or a redundant block and the rest
@@ -167,7 +167,7 @@ module _ (st : Settings) (done area time at : ℕ) (h d : List ℕ) (a : BlocksA
     pub block-in : e .length ≤ length d
     block-in = headed-rest (length d) h e q (a .headed) .0
 
-    asked-first : (offset : ℕ) → askedBlock st done area time (e .«payload_type») offset at (take (e .length) d) ≡ blockRows st done time (block (e .«payload_type») offset at (take (e .length) d))
+    asked-first : (offset : ℕ) → askedBlock st done area time (e .«payload_type») offset at (take (e .length) d) ≡ typedBlockRows st done time (block (e .«payload_type») offset at (take (e .length) d))
     asked-first offset = asked-block st done area time (e .«payload_type») offset at (take (e .length) d) (a .settings) fits (simp length-take (omega (arith, block-in, a .inside)))
 
     pub first-few : (offset n : ℕ) → rowsAnswer (askedBlock st done area time (e .«payload_type») offset at (take (e .length) d)) ≡ PayloadRead.Rows n → done + n ≤ maxRows

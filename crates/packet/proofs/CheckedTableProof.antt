@@ -3,17 +3,18 @@ use mathlib.Core.Path.{refl}
 use Rattle.rtp.specs.Ranges.{maxChannels, inRange}
 use Rattle.rtp.specs.Header.{payloadStart, payloadEnd, fields, header}
 use Rattle.rtp.specs.Redundancy.{blockHeader, headersBy, headers, redundancyHeaders, headersSize, redundantSize}
-use Rattle.payload.specs.Frames.{g719Length, frameOf}
-use Rattle.payload.specs.Contents.{entryOf, gapAt, gapsFrom, meaning, contentsBy, contents, sizeIn, framesIn}
+use Rattle.payload.specs.Formats.{formatOf}
+use Rattle.payload.specs.Frames.{g719Length, lengthIn, frameIn}
+use Rattle.payload.specs.Contents.{minEntry, gapsSize, entrySize, entryOf, gapAt, gapsFrom, meaning, contentsBy, contents, sizeIn, framesIn}
 use Rattle.payload.specs.Rows.{timeAfter, groupRows, tableRows}
-use Rattle.payload.specs.Rows.{blockRows as frameBlockRows}
+use Rattle.payload.specs.Rows.{blockRows}
 use Rattle.payload.specs.Payloads.{payload, placedRows, payloadRows}
-use Rattle.packet.specs.Blocks.{cut, blockRows, blocksRows, redundantRows}
+use Rattle.packet.specs.Blocks.{cut, typedBlockRows, blocksRows, redundantRows}
 use Rattle.packet.specs.Readings.{typedRows, reading}
 use Rattle.packet.specs.CheckedTable.{CheckedTable}
 
 pub checked-table : CheckedTable
-unfolding maxChannels inRange payloadStart payloadEnd fields header blockHeader headersBy headers redundancyHeaders headersSize redundantSize g719Length frameOf entryOf gapAt gapsFrom meaning contentsBy contents sizeIn framesIn timeAfter groupRows tableRows frameBlockRows payload placedRows payloadRows cut blockRows blocksRows redundantRows typedRows reading
+unfolding maxChannels inRange payloadStart payloadEnd fields header blockHeader headersBy headers redundancyHeaders headersSize redundantSize formatOf g719Length lengthIn frameIn minEntry gapsSize entrySize entryOf gapAt gapsFrom meaning contentsBy contents sizeIn framesIn timeAfter groupRows tableRows blockRows payload placedRows payloadRows cut typedBlockRows blocksRows redundantRows typedRows reading
 checked-table = record {
   frame-lengths = (refl, refl, refl, refl);
   reserved-entries = (refl, refl);

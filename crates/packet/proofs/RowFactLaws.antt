@@ -20,7 +20,7 @@ use Rattle.rtp.proofs.HeaderLaws.{within}
 use Rattle.payload.specs.Rows.{Row}
 use Rattle.payload.specs.Payloads.{Rows, noRows, rowsOf}
 use Rattle.payload.proofs.RowFactLaws.{RowFine, AllRows, all-append, FineRows, payload-fine}
-use Rattle.packet.specs.Blocks.{Block, cut, blockRows, prependRows, thenRows, blocksRows, splitRows, redundantRows}
+use Rattle.packet.specs.Blocks.{Block, cut, typedBlockRows, prependRows, thenRows, blocksRows, splitRows, redundantRows}
 use Rattle.packet.specs.Readings.{payloadIn, typedRows, Outcome, refused, readAs, outcomeOf, headedBy, reading}
 use Rattle.packet.proofs.BlockLaws.{block}
 
@@ -38,8 +38,8 @@ module _ (format ch n done : ℕ) where
 
 module _ (st : Settings) (n : ℕ) where
   block-fine : (done time : ℕ) (b : Block) → done ≤ maxRows → (1 ≤ length (b .bytes) → b .at + length (b .bytes) ≤ n)
-      → FineRows (st .format) (st .channels) n done (blockRows st done time b)
-  unfolding blockRows
+      → FineRows (st .format) (st .channels) n done (typedBlockRows st done time b)
+  unfolding typedBlockRows
   block-fine done time b f e =
       by-test (eqb (b .type) (st .«payload_type»))
       (λ x. by-test (eqb (length (b .bytes)) 0)
@@ -53,7 +53,7 @@ module _ (st : Settings) (n : ℕ) where
       → FineRows (st .format) (st .channels) n done (blocksRows st done time (b ∷ bs))
   unfolding blocksRows
   more-fine done time b bs f e k =
-      then-fine (st .format) (st .channels) n done (blockRows st done time b) (λ i. blocksRows st (done + i) time bs) (block-fine done time b f e) k
+      then-fine (st .format) (st .channels) n done (typedBlockRows st done time b) (λ i. blocksRows st (done + i) time bs) (block-fine done time b f e) k
 
   -- it does not matter where an empty block is placed: it has no rows
   cut-fine : (bs : List Redundant) (done time type at : ℕ) (d : List ℕ) → done ≤ maxRows → (1 ≤ length d → at + length d ≤ n)

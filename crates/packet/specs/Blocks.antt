@@ -1,13 +1,12 @@
 -- Document 01, "Redundancy": the blocks of a redundancy payload and their rows.
 use Prim.Native.Nat.{ℕ, _+_, _-_}
 use mathlib.Core.List.{List, [], _∷_, _++_}
-use mathlib.Core.Bool.{Bool, true, false, cond}
+use mathlib.Core.Bool.{cond}
 use lib.ListN.{length, take, drop}
 use lib.Dec.{ltb, eqb}
 use Rattle.rtp.specs.Time.{difference}
 use Rattle.rtp.specs.Redundancy.{Headers, refused, headersOf, redundancyHeaders, headersSize, redundantSize}
 use Rattle.rtp.specs.declared.settings.Settings.{Settings}
-use Rattle.rtp.specs.declared.refusal.Refusal.{Refusal}
 use Rattle.rtp.specs.declared.refusal.Refusal.the-variants.{LengthMismatch}
 use Rattle.rtp.specs.declared.redundancy.Redundant.{Redundant}
 use Rattle.payload.specs.Rows.{Row}
@@ -27,8 +26,8 @@ cut (b ∷ bs) type at d =
     record { type = b .«payload_type»; offset = b .offset; at = at; bytes = take (b .length) d } ∷ cut bs type (at + b .length) (drop (b .length) d)
 
 -- a block's rows after `done` rows of the packet: none of another type, and none of a block of length 0
-unfoldable pub blockRows : Settings → ℕ → ℕ → Block → Rows
-blockRows st done time b =
+unfoldable pub typedBlockRows : Settings → ℕ → ℕ → Block → Rows
+typedBlockRows st done time b =
     cond (eqb (b .type) (st .«payload_type»))
     (cond (eqb (length (b .bytes)) 0) (rowsOf []) (payloadRows (st .format) (st .channels) done (difference time (b .offset)) (b .at) (b .bytes)))
     (rowsOf [])
@@ -45,7 +44,7 @@ thenRows (rowsOf rs) next = prependRows rs (next (length rs))
 -- the blocks' rows, one after another; the first refusal decides
 unfoldable pub blocksRows : Settings → ℕ → ℕ → List Block → Rows
 blocksRows st done time [] = rowsOf []
-blocksRows st done time (b ∷ bs) = thenRows (blockRows st done time b) (λ n. blocksRows st (done + n) time bs)
+blocksRows st done time (b ∷ bs) = thenRows (typedBlockRows st done time b) (λ n. blocksRows st (done + n) time bs)
 
 -- the payload s at `at`, whose block headers are these: their lengths are summed before any block is read
 abbrev pub splitRows : Settings → ℕ → ℕ → List ℕ → Headers → Rows

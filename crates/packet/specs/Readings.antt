@@ -1,7 +1,7 @@
 -- A packet read into rows: `reading` is the whole meaning of a call of `read`, refusals included.
 use Prim.Native.Nat.{ℕ, _-_}
 use mathlib.Core.List.{List, []}
-use mathlib.Core.Bool.{Bool, true, false, cond}
+use mathlib.Core.Bool.{cond}
 use lib.ListN.{length, take, drop}
 use lib.Dec.{ltb, eqb}
 use Rattle.rtp.specs.Sizes.{rowArea}

@@ -2,7 +2,7 @@
 use Prim.Native.Nat.{ℕ, _+_, _*_, _≤_}
 use mathlib.Core.Path.{_≡_}
 use mathlib.Core.List.{List, []}
-use mathlib.Core.Bool.{Bool, true, false, cond}
+use mathlib.Core.Bool.{true, cond}
 use lib.ListN.{length}
 use lib.Dec.{eqb}
 use Rattle.rtp.specs.Sizes.{maxPacket, maxRows, rowWidth, rowArea}
@@ -15,7 +15,7 @@ use Rattle.payload.specs.Payloads.{Rows, noRows, rowsOf, askedRows, rowsAnswer}
 use Rattle.payload.specs.declared.reading.PayloadRead.{PayloadRead}
 use Rattle.packet.specs.Blocks.{cut, blocksRows}
 
--- a block's rows as a payload of a call: the same as `blockRows` where settings, area and length are in order
+-- a block's rows as a payload of a call: the same as `typedBlockRows` where settings, area and length are in order
 unfoldable pub askedBlock : Settings → ℕ → ℕ → ℕ → ℕ → ℕ → ℕ → List ℕ → Rows
 askedBlock st done area time type offset at s =
     cond (eqb type (st .«payload_type»))

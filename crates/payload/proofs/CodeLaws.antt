@@ -1,163 +1,170 @@
--- Laws of frame codes: a code that is written reads back, and what a code reads to has a code.
-use mathlib.Core.Path.{_≡_, ap, _∙_}
-use mathlib.Core.Bool.{true}
-use Prim.Native.Nat.{ℕ, _+_, _-_, _*_, _/_, _%_, _≤_, _<_}
+-- Laws of frame codes: a code that is found stands for its frame, and where a code does, one is found.
+use mathlib.Core.Path.{_≡_, refl, subst, _∙_}
+use mathlib.Core.Bool.{Bool, true, false, cond}
+use Prim.Native.Nat.{ℕ, zero, suc, _+_, _-_, _/_, _%_, _≤_, _<_}
 use native.Mathlib.Omega.{arith}
-use lib.Dec.{ltb, leb, eqb}
-use borrow.Author.Tests.{lt-ltb, le-ltb, le-leb, lt-leb, eq-eqb, ne-eqb, ltb-true, ltb-false, leb-true, eqb-true, eqb-false}
-use Rattle.rtp.specs.Ranges.{gsmHr}
-use Rattle.rtp.proofs.TestLaws.{by-test}
+use lib.Dec.{T, ltb, leb, eqb, eqb→eq}
+use borrow.Author.Tests.{le-ltb, lt-leb, eq-eqb, ne-eqb, ltb-true, ltb-false, leb-true, leb-false, eqb-true, eqb-false}
+use Rattle.rtp.specs.Sizes.{maxFrame}
+use Rattle.rtp.proofs.TestLaws.{by-test, not-both}
+use Rattle.payload.specs.declared.formats.Format.{Format}
+use Rattle.payload.specs.declared.formats.FrameTable.{FrameTable}
 use Rattle.payload.specs.declared.frames.Coded.{Coded}
 use Rattle.payload.specs.declared.frames.Frame.{Frame}
-use Rattle.payload.specs.Frames.{noData, sound, sid, reserved, g719Length, frame, g719Frame, gsmLength, gsmFrame, frameOf}
-use Rattle.payload.specs.Codes.{noCode, lengthCode, g719Code, gsmCode, codeFor}
+use Rattle.payload.specs.Formats.{noCode, g719Format, gsmFormat, formatOf}
+use Rattle.payload.specs.Frames.{noData, sound, sid, maxClass, g719Length, gsmLength, lengthIn, frame, frameIn, frameOf}
+use Rattle.payload.specs.Codes.{isFrame, codeBelow, highestCode, codeFor}
+use Rattle.payload.proofs.TableRule.{allBelow, at}
+use Rattle.payload.proofs.FormatLaws.{each, code-placed, Small, smallTable, small-in, small-all}
 
--- the two arithmetic rows of G.719 codes
-row-one : (l : ℕ) → 8 ≤ l → l < 23 → g719Length l ≡ 80 + 10 * (l - 8)
-unfolding g719Length
-row-one l a b = let z : l ≡ 0 → ⊥ = omega arith in rw (ne-eqb l 0 z, le-ltb l 8 a, lt-ltb l 23 b)
+frame-is : (class n : ℕ) (c : Coded) → isFrame class n c ≡ true → c ≡ frame class n
+frame-is class n Coded.Reserved h = not-both false h refl
+frame-is class n (Coded.Frame f) h =
+    by-test (eqb (f .class) class)
+    (λ a. by-test (eqb (f .length) n)
+    (λ b. let p = eqb-true _ _ a in let q = eqb-true _ _ b in λ j. Coded.Frame (record { class = p j; length = q j }))
+    (λ b. not-both false (rw (a, b) at h) refl))
+    (λ a. not-both false (rw a at h) refl)
 
-row-two : (l : ℕ) → 23 ≤ l → l < 28 → g719Length l ≡ 240 + 20 * (l - 23)
-unfolding g719Length
-row-two l a b =
-    let z : l ≡ 0 → ⊥ = omega arith in
-    let y : 8 ≤ l = omega arith in
-    rw (ne-eqb l 0 z, le-ltb l 8 y, le-ltb l 23 a, lt-ltb l 28 b)
+is-frame : (class n : ℕ) (c : Coded) → c ≡ frame class n → isFrame class n c ≡ true
+is-frame class n c h = rw h (rw (eq-eqb class class refl, eq-eqb n n refl))
 
-record Length (n code : ℕ) : Type 0 where
-  back : g719Length code ≡ n
-  low : 80 ≤ n
-  high : n ≤ 320
+-- The search
 
-code-one : (n : ℕ) → 80 ≤ n → n ≤ 220 → (n - 80) % 10 ≡ 0 → Length n (8 + (n - 80) / 10)
-code-one n a b e = record { back = row-one (8 + (n - 80) / 10) (omega arith) (omega arith) ∙ omega arith; low = a; high = omega arith }
+record Found (f : Format) (class n k code : ℕ) : Type 0 where
+  below : code < k
+  back : frameIn f code ≡ frame class n
 
-code-two : (n : ℕ) → 240 ≤ n → n ≤ 320 → (n - 240) % 20 ≡ 0 → Length n (23 + (n - 240) / 20)
-code-two n a b e = record { back = row-two (23 + (n - 240) / 20) (omega arith) (omega arith) ∙ omega arith; low = omega arith; high = b }
+module _ (f : Format) (class n : ℕ) where
+  found : (k : ℕ) → codeBelow f class n k < noCode → Found f class n k (codeBelow f class n k)
+  unfolding codeBelow
+  found zero h = absurd (omega arith)
+  found (suc k) h =
+      by-test (isFrame class n (frameIn f k))
+      (λ a. rw a (record { below = omega arith; back = frame-is class n (frameIn f k) a }))
+      (λ a. let i = found k (rw a at h) in rw a (record { below = omega (arith, i .below); back = i .back }))
 
-length-back : (n : ℕ) → lengthCode n < noCode → Length n (lengthCode n)
-unfolding lengthCode
-length-back n h =
-    by-test (ltb n 80)
-    (λ a. let k = rw a at h in absurd (omega arith))
-    (λ a. by-test (leb n 220)
-    (λ b. by-test (eqb ((n - 80) % 10) 0)
-    (λ c. rw (a, b, c) (code-one n (ltb-false n 80 a) (leb-true n 220 b) (eqb-true _ _ c)))
-    (λ c. let k = rw (a, b, c) at h in absurd (omega arith)))
-    (λ b. by-test (ltb n 240)
-    (λ c. let k = rw (a, b, c) at h in absurd (omega arith))
-    (λ c. by-test (leb n 320)
-    (λ d. by-test (eqb ((n - 240) % 20) 0)
-    (λ e. rw (a, b, c, d, e) (code-two n (ltb-false n 240 c) (leb-true n 320 d) (eqb-true _ _ e)))
-    (λ e. let k = rw (a, b, c, d, e) at h in absurd (omega arith)))
-    (λ d. let k = rw (a, b, c, d) at h in absurd (omega arith)))))
+  some : (k m : ℕ) → m < k → isFrame class n (frameIn f m) ≡ true → codeBelow f class n k < k
+  unfolding codeBelow
+  some zero m h e = absurd (omega arith)
+  some (suc k) m h e =
+      by-test (isFrame class n (frameIn f k)) (λ a. rw a (omega arith))
+      (λ a. by-test (eqb m k)
+      (λ b. not-both (isFrame class n (frameIn f k)) (rw (eqb-true m k b) at e) a)
+      (λ b. let z = eqb-false m k b in rw a (omega (arith, some k m (omega arith) e))))
 
--- a length of either row has a code
-some-one : (n : ℕ) → 80 ≤ n → n ≤ 220 → (n - 80) % 10 ≡ 0 → lengthCode n < noCode
-unfolding lengthCode
-some-one n a b e = rw (le-ltb n 80 a, le-leb n 220 b, eq-eqb ((n - 80) % 10) 0 e) (omega arith)
+  within : (k : ℕ) → k ≤ noCode → codeBelow f class n k ≤ noCode
+  unfolding codeBelow
+  within zero h = omega arith
+  within (suc k) h = by-test (isFrame class n (frameIn f k)) (λ a. rw a (omega arith)) (λ a. rw a (within k (omega arith)))
 
-some-two : (n : ℕ) → 240 ≤ n → n ≤ 320 → (n - 240) % 20 ≡ 0 → lengthCode n < noCode
-unfolding lengthCode
-some-two n a b e =
-    let y : 80 ≤ n = omega arith in
-    let z : 220 < n = omega arith in
-    rw (le-ltb n 80 y, lt-leb n 220 z, le-ltb n 240 a, le-leb n 320 b, eq-eqb ((n - 240) % 20) 0 e) (omega arith)
+  small : T (smallTable f) → highestCode f class n < noCode → Small (record { class = class; length = n })
+  small t h = let i = found (f .codes) h in small-in f t (highestCode f class n) (i .below) (record { class = class; length = n }) (i .back)
 
--- the length of a code that is not reserved, other than 0, has a code
-length-some : (l : ℕ) → (g719Length l ≡ reserved → ⊥) → (g719Length l ≡ 0 → ⊥) → lengthCode (g719Length l) < noCode
-unfolding g719Length
-length-some l r z =
-    by-test (eqb l 0)
-    (λ a. absurd (z (simp a)))
-    (λ a. by-test (ltb l 8) (λ b. absurd (r (simp (a, b))))
-    (λ b. by-test (ltb l 23)
-    (λ c. let x = ltb-false l 8 b in let y = ltb-true l 23 c in rw (a, b, c) (some-one (80 + 10 * (l - 8)) (omega arith) (omega arith) (omega arith)))
-    (λ c. by-test (ltb l 28)
-    (λ d. let x = ltb-false l 23 c in let y = ltb-true l 28 d in rw (a, b, c, d) (some-two (240 + 20 * (l - 23)) (omega arith) (omega arith) (omega arith)))
-    (λ d. absurd (r (simp (a, b, c, d)))))))
-
--- what a frame is made of
-record Same (a m b n : ℕ) : Type 0 where
-  class : a ≡ b
-  length : m ≡ n
-
-same-coded : (f g : Frame) → Coded.Frame f ≡ Coded.Frame g → f ≡ g
-same-coded f g h = cc
-
-same-frame : (a m b n : ℕ) → frame a m ≡ frame b n → Same a m b n
-same-frame a m b n h =
-    let e : _≡_ {A = Frame} (record { class = a; length = m }) (record { class = b; length = n }) = same-coded _ _ h in
-    record { class = ap (λ (f : Frame). f .class) e; length = ap (λ (f : Frame). f .length) e }
-
--- G.719
-
-g719-back : (class n : ℕ) → g719Code class n < noCode → g719Frame (g719Length (g719Code class n)) ≡ frame class n
-unfolding g719Length
-g719-back class n h =
-    by-test (eqb class noData)
-    (λ a. by-test (eqb n 0)
-    (λ b. rw (a, b) (rw (eqb-true class noData a, eqb-true n 0 b)))
-    (λ b. let k = rw (a, b) at h in absurd (omega arith)))
-    (λ a. by-test (eqb class sound)
-    (λ b. rw (a, b) (some class n (eqb-true class sound b) (length-back n (rw (a, b) at h))))
-    (λ b. let k = rw (a, b) at h in absurd (omega arith)))
-  where
-    some : (class n : ℕ) → class ≡ sound → Length n (lengthCode n) → g719Frame (g719Length (lengthCode n)) ≡ frame class n
-    some class n a k =
-        let y : n ≡ reserved → ⊥ = omega arith in
-        let z : n ≡ 0 → ⊥ = omega arith in
-        rw (k .back, ne-eqb n reserved y, ne-eqb n 0 z, a)
-
-g719-some : (l class n : ℕ) → g719Frame (g719Length l) ≡ frame class n → g719Code class n < noCode
-g719-some l class n h =
-    by-test (eqb (g719Length l) reserved)
-    (λ a. let k = rw a at h in let z : _≡_ {A = ℕ} 0 1 = cc in absurd (omega arith))
-    (λ a. by-test (eqb (g719Length l) 0)
-    (λ b. let k = same-frame noData 0 class n (rw (a, b) at h) in rw (← (k .class), ← (k .length)) (omega arith))
-    (λ b.
-    let k = same-frame sound (g719Length l) class n (rw (a, b) at h) in
-    rw (← (k .class), ← (k .length)) (length-some l (eqb-false _ _ a) (eqb-false _ _ b))))
-
--- GSM-HR
-
-gsm-back : (class n : ℕ) → gsmCode class n < noCode → (gsmFrame (gsmCode class n) ≡ frame class n) × (gsmCode class n < 8)
-gsm-back class n h =
-    by-test (eqb class noData)
-    (λ a. by-test (eqb n 0)
-    (λ b. rw (a, b) (rw (eqb-true class noData a, eqb-true n 0 b), omega arith))
-    (λ b. let k = rw (a, b) at h in absurd (omega arith)))
-    (λ a. by-test (eqb n gsmLength)
-    (λ b. by-test (eqb class sound)
-    (λ c. rw (a, b, c) (rw (eqb-true class sound c, eqb-true n gsmLength b), omega arith))
-    (λ c. by-test (eqb class sid)
-    (λ d. rw (a, b, c, d) (rw (eqb-true class sid d, eqb-true n gsmLength b), omega arith))
-    (λ d. let k = rw (a, b, c, d) at h in absurd (omega arith))))
-    (λ b. let k = rw (a, b) at h in absurd (omega arith)))
-
-gsm-some : (k class n : ℕ) → gsmFrame k ≡ frame class n → gsmCode class n < noCode
-gsm-some k class n h =
-    by-test (eqb k 0)
-    (λ a. let f = same-frame sound gsmLength class n (rw a at h) in rw (← (f .class), ← (f .length)) (omega arith))
-    (λ a. by-test (eqb k 2)
-    (λ b. let f = same-frame sid gsmLength class n (rw (a, b) at h) in rw (← (f .class), ← (f .length)) (omega arith))
-    (λ b. by-test (eqb k 7)
-    (λ c. let f = same-frame noData 0 class n (rw (a, b, c) at h) in rw (← (f .class), ← (f .length)) (omega arith))
-    (λ c. let f = rw (a, b, c) at h in let z : _≡_ {A = ℕ} 0 1 = cc in absurd (omega arith))))
+  -- no other class and nothing longer has a code
+  none : T (smallTable f) → f .codes ≤ noCode → (Small (record { class = class; length = n }) → ⊥) → noCode ≡ highestCode f class n
+  none t few o =
+      by-test (ltb (highestCode f class n) noCode)
+      (λ a. absurd (o (small t (ltb-true (highestCode f class n) noCode a))))
+      (λ a. omega (arith, within (f .codes) few, ltb-false (highestCode f class n) noCode a))
 
 -- Over the formats
 
-pub code-back : (format class n : ℕ) → codeFor format class n < noCode → frameOf format (codeFor format class n) ≡ frame class n
-unfolding codeFor frameOf
-code-back format class n h =
-    by-test (eqb format gsmHr) (λ a. rw a (gsm-back class n (rw a at h) .0)) (λ a. rw a (g719-back class n (rw a at h)))
+module _ (format class n : ℕ) where
+  module _ (h : codeFor format class n < noCode) where
+    pub code-back : frameOf format (codeFor format class n) ≡ frame class n
+    unfolding codeFor
+    code-back = found (formatOf format) class n (formatOf format .codes) h .back
 
--- a GSM-HR code has 3 bits
-pub code-small : (format class n : ℕ) → eqb format gsmHr ≡ true → codeFor format class n < noCode → codeFor format class n < 8
-unfolding codeFor
-code-small format class n a h = rw a (gsm-back class n (rw a at h) .1)
+    pub code-below : codeFor format class n < formatOf format .codes
+    unfolding codeFor
+    code-below = found (formatOf format) class n (formatOf format .codes) h .below
 
-pub code-some : (format k class n : ℕ) → frameOf format k ≡ frame class n → codeFor format class n < noCode
-unfolding codeFor frameOf
-code-some format k class n h =
-    by-test (eqb format gsmHr) (λ a. rw a (gsm-some k class n (rw a at h))) (λ a. rw a (g719-some k class n (rw a at h)))
+    pub code-small : Small (record { class = class; length = n })
+    unfolding codeFor
+    code-small = small (formatOf format) class n (small-all format) h
+
+  pub code-some : (k : ℕ) → k < formatOf format .codes → frameOf format k ≡ frame class n → codeFor format class n < noCode
+  unfolding codeFor
+  code-some k h e =
+      omega (arith, some (formatOf format) class n (formatOf format .codes) k h (is-frame class n (frameOf format k) e), code-placed format .few)
+
+-- The tables, searched by arithmetic
+
+-- the G.719 code of a length, by the two arithmetic rows
+unfoldable pub lengthCode : ℕ → ℕ
+lengthCode n =
+    cond (ltb n 80) noCode
+    (cond (leb n 220) (cond (eqb ((n - 80) % 10) 0) (8 + (n - 80) / 10) noCode)
+    (cond (ltb n 240) noCode
+    (cond (leb n 320) (cond (eqb ((n - 240) % 20) 0) (23 + (n - 240) / 20) noCode) noCode)))
+
+abbrev pub g719Code : ℕ → ℕ → ℕ
+g719Code class n = cond (eqb class noData) (cond (eqb n 0) 0 noCode) (cond (eqb class sound) (lengthCode n) noCode)
+
+abbrev pub gsmCode : ℕ → ℕ → ℕ
+gsmCode class n =
+    cond (eqb class noData) (cond (eqb n 0) 7 noCode)
+    (cond (eqb n gsmLength) (cond (eqb class sound) 0 (cond (eqb class sid) 2 noCode)) noCode)
+
+-- by one test at every class and length that has a code
+abbrev agrees : Format → (ℕ → ℕ → ℕ) → Bool
+agrees f quick = allBelow (λ class. allBelow (λ n. eqb (quick class n) (highestCode f class n)) (suc maxFrame)) (suc maxClass)
+
+searched : (f : Format) (quick : ℕ → ℕ → ℕ) → T (smallTable f) → f .codes ≤ noCode → T (agrees f quick)
+    → ((class n : ℕ) → maxClass < class → quick class n ≡ noCode) → ((class n : ℕ) → maxFrame < n → quick class n ≡ noCode)
+    → (class n : ℕ) → quick class n ≡ highestCode f class n
+searched f quick t few a over long class n =
+    by-test (leb class maxClass)
+    (λ b. by-test (leb n maxFrame)
+    (λ c. let x = leb-true class maxClass b in let y = leb-true n maxFrame c in
+    eqb→eq _ _ (at (λ n. eqb (quick class n) (highestCode f class n)) (suc maxFrame) (at (λ class. allBelow (λ n. eqb (quick class n) (highestCode f class n)) (suc maxFrame)) (suc maxClass) a class (omega arith)) n (omega arith)))
+    (λ c. let y = leb-false n maxFrame c in long class n y ∙ none f class n t few (λ s. omega (arith, s .short, y))))
+    (λ b. let y = leb-false class maxClass b in over class n y ∙ none f class n t few (λ s. omega (arith, s .classes, y)))
+
+pub g719-code : (class n : ℕ) → g719Code class n ≡ highestCode (g719Format false) class n
+unfolding codeBelow frameIn lengthIn g719Length lengthCode
+g719-code = searched (g719Format false) g719Code tt (omega arith) tt
+    (λ c n h. let a : c ≡ 0 → ⊥ = omega arith in let b : c ≡ 1 → ⊥ = omega arith in rw (ne-eqb c 0 a, ne-eqb c 1 b))
+    (λ c n h. longer c n h)
+  where
+    longer : (c n : ℕ) → maxFrame < n → g719Code c n ≡ noCode
+    longer c n h =
+        let a : n ≡ 0 → ⊥ = omega arith in
+        let b : 80 ≤ n = omega arith in
+        let d : 220 < n = omega arith in
+        let e : 240 ≤ n = omega arith in
+        by-test (eqb c noData) (λ i. rw (i, ne-eqb n 0 a))
+        (λ i. by-test (eqb c sound) (λ k. rw (i, k, le-ltb n 80 b, lt-leb n 220 d, le-ltb n 240 e, lt-leb n 320 h)) (λ k. rw (i, k)))
+
+pub sound-code : (n : ℕ) → lengthCode n ≡ highestCode (g719Format false) sound n
+sound-code n = g719-code sound n
+
+pub gsm-code : (class n : ℕ) → gsmCode class n ≡ highestCode gsmFormat class n
+unfolding codeBelow frameIn lengthIn
+gsm-code = searched gsmFormat gsmCode tt (omega arith) tt
+    (λ c n h. over c n h) (λ c n h. longer c n h)
+  where
+    over : (c n : ℕ) → maxClass < c → gsmCode c n ≡ noCode
+    over c n h =
+        let x : c ≡ 0 → ⊥ = omega arith in
+        let y : c ≡ 1 → ⊥ = omega arith in
+        let z : c ≡ 2 → ⊥ = omega arith in
+        by-test (eqb n gsmLength) (λ i. rw (ne-eqb c 0 x, i, ne-eqb c 1 y, ne-eqb c 2 z)) (λ i. rw (ne-eqb c 0 x, i))
+
+    longer : (c n : ℕ) → maxFrame < n → gsmCode c n ≡ noCode
+    longer c n h =
+        let x : n ≡ 0 → ⊥ = omega arith in
+        let y : n ≡ gsmLength → ⊥ = omega arith in
+        by-test (eqb c noData) (λ i. rw (i, ne-eqb n 0 x)) (λ i. rw (i, ne-eqb n gsmLength y))
+
+-- the code by a format's table
+abbrev tableCode : FrameTable → ℕ → ℕ → ℕ
+tableCode FrameTable.G719 class n = highestCode (g719Format false) class n
+tableCode FrameTable.GsmHr class n = highestCode gsmFormat class n
+tableCode FrameTable.Empty class n = noCode
+
+pub table-code : (format class n : ℕ) (t : FrameTable) → formatOf format .table ≡ t → tableCode t class n ≡ codeFor format class n
+unfolding codeFor codeBelow frameIn lengthIn
+table-code format class n t h = subst (λ (u : FrameTable). tableCode u class n ≡ codeFor format class n) h
+    (each (λ f. tableCode (f .table) class n ≡ highestCode f class n) (λ b. refl) refl refl format)

@@ -1,12 +1,12 @@
 -- Laws of a table of contents: its first entry and the rest, and its bounds.
-use mathlib.Core.Path.{_≡_, refl, ap, sym, _∙_, subst}
+use mathlib.Core.Path.{_≡_, refl, ap}
 use mathlib.Core.List.{List, [], _∷_}
-use mathlib.Core.Bool.{Bool, true, false, cond}
-use Prim.Native.Nat.{ℕ, zero, suc, _+_, _-_, _*_, _/_, _%_, _≤_, _<_}
+use mathlib.Core.Bool.{true, false}
+use Prim.Native.Nat.{ℕ, zero, suc, _+_, _-_, _*_, _≤_, _<_}
 use native.Mathlib.Omega.{arith}
 use native.Mathlib.Nat.{mul-le-mul-left, add-zero}
 use lib.ListN.{length, drop, length-drop}
-use lib.Dec.{ltb, leb, eqb}
+use lib.Dec.{ltb}
 use borrow.Author.Tests.{lt-ltb, le-ltb, ltb-true, ltb-false}
 use Rattle.rtp.specs.Sizes.{maxRows, maxFrame}
 use Rattle.rtp.specs.declared.refusal.Refusal.{Refusal}
@@ -16,8 +16,8 @@ use Rattle.payload.specs.declared.contents.Entry.{Entry}
 use Rattle.payload.specs.declared.contents.EntryRead.{EntryRead}
 use Rattle.payload.specs.declared.contents.Sizes.{Sizes}
 use Rattle.payload.specs.declared.contents.ContentsRead.{ContentsRead}
-use Rattle.payload.specs.Contents.{entrySize, entryOf, Group, Contents, refused, groups, gapsFrom, meaning, prepend, contentsStep, contentsBy, contents, rowsIn, sizeIn, framesIn, sizesAnswer}
-use Rattle.payload.proofs.EntryLaws.{Fair, fair}
+use Rattle.payload.specs.Contents.{entrySize, entryOf, Contents, refused, groups, gapsFrom, meaning, prepend, contentsStep, contentsBy, contents, rowCount, sizeIn, framesIn, sizesAnswer}
+use Rattle.payload.proofs.EntryLaws.{fair}
 
 -- Fuel
 
@@ -71,7 +71,7 @@ abbrev pub Within : ℕ → ℕ → ContentsRead → Type 0
 Within rows n (ContentsRead.Contents t) = Small rows n t
 Within rows n (ContentsRead.Refused k) = Unit {0}
 
--- The sizesAnswer by the first entry
+-- The table and its sizes by the first entry
 
 -- an entry's numbers before those of what follows
 abbrev pub ahead : ℕ → Entry → ContentsRead → ContentsRead
@@ -80,27 +80,38 @@ ahead ch e (ContentsRead.Contents t) =
     ContentsRead.Contents (record { rows = e .blocks * ch + t .rows; size = e .size + t .size; frames = e .blocks * ch * e .length + t .frames })
 
 module _ (format ch rows : ℕ) (s : List ℕ) where
+  pub contents-refused : (n : Refusal) → entryOf format s ≡ EntryRead.Refused n → contents format ch rows s ≡ refused n
+  contents-refused n h = rw (contents-step, h)
+
   pub at-refused : (n : Refusal) → entryOf format s ≡ EntryRead.Refused n → sizesAnswer format ch (contents format ch rows s) ≡ ContentsRead.Refused n
   unfolding sizesAnswer
-  at-refused n h = rw (contents-step, h)
+  at-refused n h = rw (contents-refused n h)
 
-  pub at-many : (e : Entry) → entryOf format s ≡ EntryRead.Entry e → maxRows < rows + e .blocks * ch → sizesAnswer format ch (contents format ch rows s) ≡ ContentsRead.Refused TooManyRows
-  unfolding sizesAnswer
-  at-many e h l = rw (contents-step, h) (simp (lt-ltb _ _ l))
+  module _ (e : Entry) (h : entryOf format s ≡ EntryRead.Entry e) where
+    pub at-many : maxRows < rows + e .blocks * ch → sizesAnswer format ch (contents format ch rows s) ≡ ContentsRead.Refused TooManyRows
+    unfolding sizesAnswer
+    at-many l = rw (contents-step, h) (simp (lt-ltb _ _ l))
 
-  pub at-last : (e : Entry) → entryOf format s ≡ EntryRead.Entry e → rows + e .blocks * ch ≤ maxRows → e .more ≡ false
-      → sizesAnswer format ch (contents format ch rows s) ≡ ContentsRead.Contents (record { rows = e .blocks * ch; size = e .size; frames = e .blocks * ch * e .length })
-  unfolding sizesAnswer rowsIn sizeIn framesIn
-  at-last e h l m = let k = fair format s e h in rw (contents-step, h) (simp (le-ltb _ _ l, m, blocks-of, len-of, add-zero, k .sized))
+    more-answer : e .size ≡ entrySize format (e .blocks) → (p : Contents) → sizesAnswer format ch (prepend (meaning format s e) p) ≡ ahead ch e (sizesAnswer format ch p)
+    unfolding sizesAnswer rowCount sizeIn framesIn
+    more-answer z (refused n) = refl
+    more-answer z (groups es) = simp (blocks-of, len-of, z)
 
-  more-answer : (e : Entry) → e .size ≡ entrySize format (e .blocks) → (p : Contents) → sizesAnswer format ch (prepend (meaning format s e) p) ≡ ahead ch e (sizesAnswer format ch p)
-  unfolding sizesAnswer rowsIn sizeIn framesIn
-  more-answer e z (refused n) = refl
-  more-answer e z (groups es) = simp (blocks-of, len-of, z)
+    module _ (l : rows + e .blocks * ch ≤ maxRows) where
+      pub contents-last : e .more ≡ false → contents format ch rows s ≡ groups (meaning format s e ∷ [])
+      contents-last m = rw (contents-step, h) (simp (le-ltb _ _ l, m))
 
-  pub at-more : (e : Entry) → entryOf format s ≡ EntryRead.Entry e → rows + e .blocks * ch ≤ maxRows → e .more ≡ true
-      → sizesAnswer format ch (contents format ch rows s) ≡ ahead ch e (sizesAnswer format ch (contents format ch (rows + e .blocks * ch) (drop (e .size) s)))
-  at-more e h l m = rw (contents-step, h) (simp (le-ltb _ _ l, m) (more-answer e (fair format s e h .sized) _))
+      pub at-last : e .more ≡ false
+          → sizesAnswer format ch (contents format ch rows s) ≡ ContentsRead.Contents (record { rows = e .blocks * ch; size = e .size; frames = e .blocks * ch * e .length })
+      unfolding sizesAnswer rowCount sizeIn framesIn
+      at-last m = let k = fair format s e h in rw (contents-last m) (simp (blocks-of, len-of, add-zero, k .sized))
+
+      pub contents-more : e .more ≡ true → contents format ch rows s ≡ prepend (meaning format s e) (contents format ch (rows + e .blocks * ch) (drop (e .size) s))
+      contents-more m = rw (contents-step format ch rows s, h) (simp (le-ltb _ _ l, m))
+
+      pub at-more : e .more ≡ true
+          → sizesAnswer format ch (contents format ch rows s) ≡ ahead ch e (sizesAnswer format ch (contents format ch (rows + e .blocks * ch) (drop (e .size) s)))
+      at-more m = rw (contents-more m) (more-answer (fair format s e h .sized) _)
 
 -- the bounds, by induction on the fuel
 

@@ -1,29 +1,28 @@
 -- Laws of a group's rows.
-use mathlib.Core.Path.{_≡_, refl, ap, sym, _∙_, subst}
+use mathlib.Core.Path.{_≡_, refl, ap, sym, _∙_}
 use mathlib.Core.List.{List, [], _∷_, _++_}
-use mathlib.Core.Bool.{Bool, true, false}
 use Prim.Native.Nat.{ℕ, zero, suc, _+_, _-_, _*_, _^_, _%_, _≤_, _<_}
 use native.Mathlib.Omega.{arith}
 use native.Mathlib.Nat.{suc-mul, add-mul, zero-mul}
 use native.Mathlib.Numerals.{sub-one}
 use lib.ListN.{length, take, drop, length-append}
-use lib.Dec.{eqb}
 use borrow.Rule.Slice.PartMut.{putMid}
 use Rattle.rtp.specs.Sizes.{rowWidth}
 use Rattle.rtp.specs.Areas.{over}
-use Rattle.rtp.specs.Ranges.{g719Interleaved}
 use Rattle.rtp.proofs.AreaLaws.{over-none, over-part}
 use Rattle.rtp.proofs.TestLaws.{by-test}
-use Rattle.payload.specs.Contents.{gapEnd, gapAt, gapsFrom}
-use Rattle.payload.specs.Rows.{words, placed, after, timeAfter, blockRows, groupRows}
+use Rattle.payload.specs.Formats.{formatOf}
+use Rattle.payload.specs.Contents.{gapsSize, entrySize, gapAt, gapsFrom}
+use Rattle.payload.specs.Rows.{words, placed, nextPlace, timeAfter, blockRows, groupRows}
 use Rattle.payload.specs.Room.{BlockRoom, GroupRoom}
 use Rattle.payload.proofs.RowLaws.{length-words, words-append, length-block, one-more}
 
 one-more-frames : (n ch len : ℕ) → (n ≡ 0 → ⊥) → n * ch * len ≡ (n - 1) * ch * len + ch * len
 one-more-frames n ch len h = ap (λ (x : ℕ). x * len) (one-more n ch h) ∙ add-mul ((n - 1) * ch) ch len
 
-pub gap-end-more : (format m n : ℕ) → m ≤ n → gapEnd format m ≤ gapEnd format n
-gap-end-more format m n h = by-test (eqb format g719Interleaved) (λ a. simp a (omega arith)) (λ a. simp a (omega arith))
+pub size-more : (format m n : ℕ) → m ≤ n → entrySize format m ≤ entrySize format n
+unfolding entrySize gapsSize
+size-more format m n h = by-test (formatOf format .displaced) (λ a. rw a (omega arith)) (λ a. rw a (omega arith))
 
 module _ (format : ℕ) (s : List ℕ) (k n ch class start len area : ℕ) (r : GroupRoom format s k n ch class start len area) (h : n ≡ 0 → ⊥) where
   pub group-area : rowWidth * ch ≤ area
@@ -35,8 +34,8 @@ module _ (format : ℕ) (s : List ℕ) (k n ch class start len area : ℕ) (r : 
   pub group-block : BlockRoom ch 0 class start len area
   group-block = record { area-fits = group-area; classes = r .classes; channels = omega arith; frames-fit = group-frames }
 
-  pub group-entry : gapEnd format (k + 1) ≤ length s
-  group-entry = omega (arith, gap-end-more format (k + 1) (k + n) (omega arith))
+  pub group-entry : entrySize format (k + 1) ≤ length s
+  group-entry = omega (arith, size-more format (k + 1) (k + n) (omega arith))
 
   pub group-next : GroupRoom format s (k + 1) (n - 1) ch class (start + ch * len) len (area - rowWidth * ch)
   group-next = record {
@@ -44,7 +43,7 @@ module _ (format : ℕ) (s : List ℕ) (k n ch class start len area : ℕ) (r : 
     classes = r .classes;
     channels = r .channels;
     frames-fit = omega (arith, one-more-frames n ch len h);
-    entry-fits = omega (arith, gap-end-more format (k + 1 + (n - 1)) (k + n) (omega arith));
+    entry-fits = omega (arith, size-more format (k + 1 + (n - 1)) (k + n) (omega arith));
     few = omega arith;
   }
 
@@ -61,7 +60,7 @@ pub length-group : (step ch time class start len : ℕ) (gs : List ℕ) → leng
 unfolding groupRows
 length-group step ch time class start len [] = simp zero-mul
 length-group step ch time class start len (g ∷ gs) =
-    let e = length-group step ch (after step time g) class (start + ch * len) len gs in
+    let e = length-group step ch (nextPlace step time g) class (start + ch * len) len gs in
     simp (length-append, length-block, suc-mul) (omega (arith, e))
 
 module _ (format step ch time class start len k n : ℕ) (s l : List ℕ) where

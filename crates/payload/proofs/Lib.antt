@@ -1,4 +1,5 @@
 pub mod TableRule
+pub mod FormatLaws
 pub mod EntryLaws
 pub mod ContentsLaws
 pub mod RowLaws

@@ -18,7 +18,7 @@ use Rattle.payload.specs.declared.contents.Sizes.{Sizes}
 use Rattle.payload.specs.declared.contents.ContentsRead.{ContentsRead}
 use Rattle.payload.specs.declared.reading.PayloadRead.{PayloadRead}
 use Rattle.payload.specs.Frames.{stepOf}
-use Rattle.payload.specs.Contents.{Group, Contents, refused, groups, contents, rowsIn, sizeIn, framesIn, sizesAnswer}
+use Rattle.payload.specs.Contents.{Group, Contents, refused, groups, contents, rowCount, sizeIn, framesIn, sizesAnswer}
 use Rattle.payload.specs.Rows.{tableRows, timeAfter}
 use Rattle.payload.specs.Payloads.{exact, payload, Rows, noRows, rowsOf, placedRows, payloadRows, rowsWords, rowsAnswer, askedRows}
 use Rattle.payload.specs.Room.{TableRoom, contentsWords}
@@ -26,8 +26,8 @@ use Rattle.payload.proofs.ContentsLaws.{Small, Within, within}
 use Rattle.payload.proofs.GroupLaws.{length-group}
 
 -- as many rows as the table says
-pub length-table : (step ch time start : ℕ) (gs : List Group) → length (tableRows step ch time start gs) ≡ rowsIn ch gs
-unfolding tableRows rowsIn
+pub length-table : (step ch time start : ℕ) (gs : List Group) → length (tableRows step ch time start gs) ≡ rowCount ch gs
+unfolding tableRows rowCount
 length-table step ch time start [] = refl
 length-table step ch time start (g ∷ gs) =
     let e = length-table step ch (timeAfter step time (g .gaps)) (start + length (g .gaps) * ch * g .length) gs in

@@ -14,12 +14,14 @@ use Rattle.rtp.proofs.TestLaws.{by-test}
 use Rattle.payload.specs.declared.frames.Coded.{Coded}
 use Rattle.payload.specs.declared.contents.Entry.{Entry}
 use Rattle.payload.specs.declared.contents.EntryRead.{EntryRead}
+use Rattle.payload.specs.Formats.{formatOf}
 use Rattle.payload.specs.Frames.{frameOf, stepOf}
 use Rattle.payload.specs.Codes.{noCode, codeFor}
 use Rattle.payload.specs.Contents.{minEntry, codeIn, blocksIn, entrySize, codedEntry, entryOf, Group, Contents, refused, groups, meaning, prepend, contentsStep, contents, sizeIn, framesIn, sizesAnswer}
-use Rattle.payload.specs.Rows.{Row, placed, after, timeAfter, blockRows, groupRows, tableRows}
+use Rattle.payload.specs.Rows.{Row, placed, nextPlace, timeAfter, blockRows, groupRows, tableRows}
 use Rattle.payload.specs.Payloads.{exact, payload, Rows, noRows, rowsOf, placedRows, payloadRows}
 use Rattle.payload.proofs.CodeLaws.{code-some}
+use Rattle.payload.proofs.EntryLaws.{code-in}
 use Rattle.payload.proofs.ContentsLaws.{contents-step, shorter, Within, within}
 use Rattle.payload.proofs.PayloadLaws.{length-table}
 
@@ -52,16 +54,16 @@ abbrev EntryCoded : ℕ → EntryRead → Type 0
 EntryCoded format (EntryRead.Refused r) = Unit {0}
 EntryCoded format (EntryRead.Entry e) = codeFor format (e .class) (e .length) < noCode
 
-frame-coded : (format code blocks size : ℕ) (m : Bool) (c : Coded) → frameOf format code ≡ c → EntryCoded format (codedEntry m blocks size c)
-frame-coded format code blocks size m Coded.Reserved q = tt
-frame-coded format code blocks size m (Coded.Frame f) q = by-test (eqb blocks 0) (λ a. rw a tt) (λ a. rw a (code-some format code (f .class) (f .length) q))
+frame-coded : (format code blocks size : ℕ) (m : Bool) (c : Coded) → code < formatOf format .codes → frameOf format code ≡ c → EntryCoded format (codedEntry m blocks size c)
+frame-coded format code blocks size m Coded.Reserved l q = tt
+frame-coded format code blocks size m (Coded.Frame f) l q = by-test (eqb blocks 0) (λ a. rw a tt) (λ a. rw a (code-some format (f .class) (f .length) code l q))
 
 entry-coded : (format : ℕ) (s : List ℕ) → EntryCoded format (entryOf format s)
 unfolding entryOf
 entry-coded format s =
     by-test (ltb (length s) (minEntry format)) (λ a. rw a tt)
     (λ a. by-test (ltb (length s) (entrySize format (blocksIn format s))) (λ b. rw (a, b) tt)
-    (λ b. rw (a, b) (frame-coded format (codeIn format (byteAt s 0)) _ _ _ (frameOf format (codeIn format (byteAt s 0))) refl)))
+    (λ b. rw (a, b) (frame-coded format (codeIn format (byteAt s 0)) _ _ _ (frameOf format (codeIn format (byteAt s 0))) (code-in format (byteAt s 0)) refl)))
 
 coded-more : (format : ℕ) (g : Group) (p : Contents) → codeFor format (g .class) (g .length) < noCode → CodedIn format p → CodedIn format (prepend g p)
 coded-more format g (refused r) h k = tt
@@ -103,7 +105,7 @@ module _ (format n : ℕ) where
       let m : suc (length gs) * ch * len ≡ length gs * ch * len + ch * len = rw suc-mul (add-mul (length gs * ch) ch len) in
       all-append _ (blockRows ch 0 (placed step time g) class start len) _
       (block-fine ch ch 0 (placed step time g) class start len h (omega arith) (omega arith) (omega arith))
-      (group-fine step ch (after step time g) class (start + ch * len) len gs h (omega arith))
+      (group-fine step ch (nextPlace step time g) class (start + ch * len) len gs h (omega arith))
 
   table-fine : (step ch time start : ℕ) (gs : List Group) → AllCoded format gs → start + framesIn ch gs ≤ n
       → AllRows (RowFine format ch n) (tableRows step ch time start gs)

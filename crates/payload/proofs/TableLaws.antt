@@ -1,50 +1,31 @@
 -- Laws of a table's rows, and of the room that they need.
-use mathlib.Core.Path.{_≡_, refl, ap, sym, _∙_, subst}
+use mathlib.Core.Path.{_≡_, ap, sym, _∙_, subst}
 use mathlib.Core.List.{List, [], _∷_, _++_, append-nil}
-use mathlib.Core.Bool.{Bool, true, false}
-use Prim.Native.Nat.{ℕ, zero, suc, _+_, _-_, _*_, _/_, _^_, _≤_, _<_}
+use mathlib.Core.Bool.{true, false}
+use Prim.Native.Nat.{ℕ, _+_, _-_, _*_, _^_, _≤_, _<_}
 use native.Mathlib.Omega.{arith}
+use native.Mathlib.Nat.{zero-add}
 use lib.ListN.{length, take, drop}
-use lib.Dec.{ltb, eqb}
-use borrow.Author.Tests.{le-ltb, ltb-true, ltb-false, eqb-true}
+use lib.Dec.{ltb}
+use borrow.Author.Tests.{ltb-true, ltb-false}
 use borrow.Rule.Slice.PartMut.{putMid}
 use Rattle.rtp.specs.Sizes.{rowWidth, maxRows}
 use Rattle.rtp.specs.Areas.{over}
-use Rattle.rtp.specs.Ranges.{g719Interleaved}
 use Rattle.rtp.specs.declared.refusal.Refusal.{Refusal}
 use Rattle.rtp.proofs.TestLaws.{by-test}
 use Rattle.rtp.proofs.RedundancyLaws.{Bytes}
 use Rattle.rtp.proofs.AreaLaws.{over-none, over-part, part-to-end}
 use Rattle.payload.specs.declared.contents.Entry.{Entry}
 use Rattle.payload.specs.declared.contents.EntryRead.{EntryRead}
-use Rattle.payload.specs.declared.contents.Sizes.{Sizes}
 use Rattle.payload.specs.declared.contents.ContentsRead.{ContentsRead}
 use Rattle.payload.specs.Frames.{stepOf}
-use Rattle.payload.specs.Contents.{entryOf, entrySize, gapEnd, gapsFrom, Group, Contents, refused, groups, meaning, prepend, contents, sizesAnswer}
+use Rattle.payload.specs.Contents.{entryOf, gapsFrom, Contents, refused, groups, meaning, prepend, contents, sizesAnswer}
 use Rattle.payload.specs.Rows.{words, timeAfter, groupRows, tableRows}
 use Rattle.payload.specs.Room.{GroupRoom, TableRoom, contentsWords}
-use Rattle.payload.proofs.EntryLaws.{Fair, fair}
-use Rattle.payload.proofs.ContentsLaws.{contents-step, length-gaps, at-many, at-last, at-more, ahead}
+use Rattle.payload.proofs.EntryLaws.{fair}
+use Rattle.payload.proofs.ContentsLaws.{contents-refused, contents-last, contents-more, length-gaps, at-many, at-last, at-more, ahead}
 use Rattle.payload.proofs.RowLaws.{length-words, words-append}
 use Rattle.payload.proofs.GroupLaws.{length-group}
-
-module _ (format ch rows : ℕ) (s : List ℕ) where
-  pub contents-refused : (n : Refusal) → entryOf format s ≡ EntryRead.Refused n → contents format ch rows s ≡ refused n
-  contents-refused n h = rw (contents-step, h)
-
-  pub contents-last : (e : Entry) → entryOf format s ≡ EntryRead.Entry e → rows + e .blocks * ch ≤ maxRows → e .more ≡ false → contents format ch rows s ≡ groups (meaning format s e ∷ [])
-  contents-last e h l m = rw (contents-step, h) (simp (le-ltb _ _ l, m))
-
-  pub contents-more : (e : Entry) → entryOf format s ≡ EntryRead.Entry e → rows + e .blocks * ch ≤ maxRows → e .more ≡ true
-      → contents format ch rows s ≡ prepend (meaning format s e) (contents format ch (rows + e .blocks * ch) (drop (e .size) s))
-  contents-more e h l m = rw (contents-step format ch rows s, h) (simp (le-ltb _ _ l, m))
-
--- an entry's gaps reach no further than the entry
-gaps-within : (format : ℕ) (s : List ℕ) (e : Entry) → Fair format s e → gapEnd format (0 + e .blocks) ≤ length s
-gaps-within format s e f =
-    by-test (eqb format g719Interleaved)
-    (λ a. let z : e .size ≡ 2 + (e .blocks + 1) / 2 = rw (eqb-true format g719Interleaved a) at (f .sized) in simp a (omega arith))
-    (λ a. simp a (omega arith))
 
 room-ahead : (start area ch : ℕ) (e : Entry) (r : ContentsRead) → TableRoom ch start area (ahead ch e r)
     → (rowWidth * (e .blocks * ch) ≤ area) × (start + e .blocks * ch * e .length < 2 ^ 32) × TableRoom ch (start + e .blocks * ch * e .length) (area - rowWidth * (e .blocks * ch)) r
@@ -88,7 +69,7 @@ module _ (format ch rows start area : ℕ) (s : List ℕ) (e : Entry) (h : entry
         classes = f .classes;
         channels = room-channels;
         frames-fit = room-here .1;
-        entry-fits = gaps-within format s e f;
+        entry-fits = simp zero-add (rw (f .sized) at (f .within));
         few = omega (arith, f .few bs);
       }
 

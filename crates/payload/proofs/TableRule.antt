@@ -1,14 +1,15 @@
--- A rule of a table, proved at all of its entries by one test that is computed, one entry after the other.
--- Assumes nothing.
-use mathlib.Core.Path.{_≡_, _∙_, subst, sym}
-use mathlib.Core.Bool.{Bool, true, false}
+-- A rule proved at all numbers below a bound, or at all entries of a table, by one computation.
+use mathlib.Core.Path.{_≡_, ap, sym, subst, _∙_}
 use mathlib.Core.List.{List, [], _∷_}
+use mathlib.Core.Bool.{Bool, true, false}
 use Prim.Native.Nat.{ℕ, zero, suc, _+_, _<_}
-use native.Mathlib.Nat.{add-zero, zero-add, add-suc, suc-add, le-of-suc-le-suc, not-suc-le-zero}
-use lib.Dec.{T}
-use lib.ListN.{length, getD}
+use native.Mathlib.Omega.{arith}
+use lib.Dec.{T, eqb}
+use lib.ListN.{getD}
+use borrow.Author.Tests.{eqb-true, eqb-false}
+use Rattle.rtp.proofs.TestLaws.{by-test}
 
-abbrev pub both : Bool → Bool → Bool
+abbrev both : Bool → Bool → Bool
 both true b = b
 both false b = false
 
@@ -20,17 +21,28 @@ both-right : (a b : Bool) → T (both a b) → T b
 both-right true b t = t
 both-right false b t = absurd t
 
--- the test f passes at each entry of the list and its place, counted from i
-abbrev pub every : (ℕ → ℕ → Bool) → ℕ → List ℕ → Bool
-every f i [] = true
-every f i (x ∷ xs) = both (f i x) (every f (suc i) xs)
+-- the test passes at each number below n
+abbrev pub allBelow : (ℕ → Bool) → ℕ → Bool
+allBelow p zero = true
+allBelow p (suc n) = both (p n) (allBelow p n)
 
-from : (f : ℕ → ℕ → Bool) (xs : List ℕ) (i : ℕ) → T (every f i xs) → (k : ℕ) → k < length xs → T (f (i + k) (getD xs k 0))
-from f [] i t k h = absurd (not-suc-le-zero h)
-from f (x ∷ xs) i t zero h = subst (λ (m : ℕ). T (f m x)) (sym (add-zero i)) (both-left (f i x) (every f (suc i) xs) t)
-from f (x ∷ xs) i t (suc k) h =
-    subst (λ (m : ℕ). T (f m (getD xs k 0))) (suc-add i k ∙ sym (add-suc i k))
-    (from f xs (suc i) (both-right (f i x) (every f (suc i) xs) t) k (le-of-suc-le-suc h))
+pub at : (p : ℕ → Bool) (n : ℕ) → T (allBelow p n) → (k : ℕ) → k < n → T (p k)
+at p zero t k h = absurd (omega arith)
+at p (suc n) t k h =
+    by-test (eqb k n)
+    (λ e. subst (λ (m : ℕ). T (p m)) (sym (eqb-true k n e)) (both-left (p n) (allBelow p n) t))
+    (λ e. let z = eqb-false k n e in at p n (both-right (p n) (allBelow p n) t) k (omega arith))
 
-pub at : (f : ℕ → ℕ → Bool) (xs : List ℕ) → T (every f 0 xs) → (k : ℕ) → k < length xs → T (f k (getD xs k 0))
-at f xs t k h = subst (λ (m : ℕ). T (f m (getD xs k 0))) (zero-add k) (from f xs 0 t k h)
+-- n entries of a table by their rule, from the i-th on
+abbrev pub entries : (ℕ → ℕ) → ℕ → ℕ → List ℕ
+entries rule i zero = []
+entries rule i (suc n) = rule i ∷ entries rule (suc i) n
+
+entry-from : (rule : ℕ → ℕ) (i n k : ℕ) → k < n → getD (entries rule i n) k 0 ≡ rule (i + k)
+entry-from rule i zero k h = absurd (omega arith)
+entry-from rule i (suc n) zero h = ap rule (omega arith)
+entry-from rule i (suc n) (suc k) h = entry-from rule (suc i) n k (omega arith) ∙ ap rule (omega arith)
+
+-- so a table that is computed to these entries keeps the rule at each of them
+pub entry : (rule : ℕ → ℕ) (n k : ℕ) → k < n → getD (entries rule 0 n) k 0 ≡ rule k
+entry rule n k h = entry-from rule 0 n k h ∙ ap rule (omega arith)

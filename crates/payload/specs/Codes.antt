@@ -1,29 +1,27 @@
--- Frame codes for writing: the code of a class and a length, over the formats.
-use Prim.Native.Nat.{ℕ, _+_, _-_, _*_, _/_, _%_}
-use mathlib.Core.Bool.{Bool, true, false, cond}
-use lib.Dec.{ltb, leb, eqb}
-use Rattle.rtp.specs.Ranges.{gsmHr}
-use Rattle.payload.specs.Frames.{noData, sound, sid, gsmLength}
+-- Frame codes for writing: the inverse of a format's frame table.
+use Prim.Native.Nat.{ℕ, zero, suc}
+use mathlib.Core.Bool.{Bool, false, cond}
+use lib.Dec.{eqb}
+use Rattle.payload.specs.declared.formats.Format.{Format}
+use Rattle.payload.specs.declared.frames.Coded.{Coded}
+use Rattle.payload.specs.Formats.{formatOf}
+use Rattle.payload.specs.Frames.{frameIn}
+pub use Rattle.payload.specs.Formats.{noCode}
 
--- no code: a class and a length that the format has not
-abbrev pub noCode : ℕ
-noCode = 32
+-- a code stands for a frame of this class and length
+abbrev pub isFrame : ℕ → ℕ → Coded → Bool
+isFrame class n Coded.Reserved = false
+isFrame class n (Coded.Frame f) = cond (eqb (f .class) class) (eqb (f .length) n) false
 
--- the G.719 code L of a length in bytes, by the two arithmetic rows
-unfoldable pub lengthCode : ℕ → ℕ
-lengthCode n =
-    cond (ltb n 80) noCode
-    (cond (leb n 220) (cond (eqb ((n - 80) % 10) 0) (8 + (n - 80) / 10) noCode)
-    (cond (ltb n 240) noCode
-    (cond (leb n 320) (cond (eqb ((n - 240) % 20) 0) (23 + (n - 240) / 20) noCode) noCode)))
+-- the highest code below k that stands for a frame of this class and length, or none
+unfoldable pub codeBelow : Format → ℕ → ℕ → ℕ → ℕ
+codeBelow f class n zero = noCode
+codeBelow f class n (suc k) = cond (isFrame class n (frameIn f k)) k (codeBelow f class n k)
 
-abbrev pub g719Code : ℕ → ℕ → ℕ
-g719Code class n = cond (eqb class noData) (cond (eqb n 0) 0 noCode) (cond (eqb class sound) (lengthCode n) noCode)
+-- .. of all codes
+abbrev pub highestCode : Format → ℕ → ℕ → ℕ
+highestCode f class n = codeBelow f class n (f .codes)
 
-abbrev pub gsmCode : ℕ → ℕ → ℕ
-gsmCode class n =
-    cond (eqb class noData) (cond (eqb n 0) 7 noCode)
-    (cond (eqb n gsmLength) (cond (eqb class sound) 0 (cond (eqb class sid) 2 noCode)) noCode)
-
+-- the code of a class and a length; a class and a length that the format has not have none
 unfoldable pub codeFor : ℕ → ℕ → ℕ → ℕ
-codeFor format class n = cond (eqb format gsmHr) (gsmCode class n) (g719Code class n)
+codeFor format class n = highestCode (formatOf format) class n

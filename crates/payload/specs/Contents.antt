@@ -1,37 +1,40 @@
 -- Document 01, "G.719 tables of contents" and "GSM-HR tables": entries and tables, over the formats.
 use Prim.Native.Nat.{ℕ, zero, suc, _+_, _-_, _*_, _/_, _%_}
 use mathlib.Core.List.{List, [], _∷_}
-use mathlib.Core.Bool.{Bool, true, false, cond}
+use mathlib.Core.Bool.{Bool, cond}
 use lib.ListN.{length, drop}
 use lib.Dec.{ltb, leb, eqb}
 use Rattle.rtp.specs.Sizes.{maxRows}
 use Rattle.rtp.specs.Numbers.{byteAt}
-use Rattle.rtp.specs.Ranges.{g719Interleaved, gsmHr}
 use Rattle.rtp.specs.declared.refusal.Refusal.{Refusal}
 use Rattle.rtp.specs.declared.refusal.Refusal.the-variants.{ContentsTruncated, ReservedCode, NoFrameBlocks, TooManyRows}
 use Rattle.payload.specs.declared.frames.Coded.{Coded}
 use Rattle.payload.specs.declared.contents.Entry.{Entry}
 use Rattle.payload.specs.declared.contents.EntryRead.{EntryRead}
 use Rattle.payload.specs.declared.contents.ContentsRead.{ContentsRead}
+use Rattle.payload.specs.Formats.{formatOf}
 use Rattle.payload.specs.Frames.{frameOf}
 
 -- One entry
 
 -- the bytes of an entry before its displacements
-abbrev pub minEntry : ℕ → ℕ
-minEntry format = cond (eqb format gsmHr) 1 2
+unfoldable pub minEntry : ℕ → ℕ
+minEntry format = cond (formatOf format .counted) 2 1
 
--- the frame code in the first byte: after F, L of 5 bits or a type of 3 bits; the bits below are reserved
+-- the frame code in the first byte: after F and above the reserved bits
 abbrev pub codeIn : ℕ → ℕ → ℕ
-codeIn format first = cond (eqb format gsmHr) (first / 16 % 8) (first / 4 % 32)
+codeIn format first = first / formatOf format .unit % formatOf format .codes
 
 -- the number of frame-blocks: the second byte, or one
 abbrev pub blocksIn : ℕ → List ℕ → ℕ
-blocksIn format s = cond (eqb format gsmHr) 1 (byteAt s 1)
+blocksIn format s = cond (formatOf format .counted) (byteAt s 1) 1
 
--- the bytes of an entry: interleaved has one 4-bit displacement per frame-block, and four padding bits if the number is odd
-abbrev pub entrySize : ℕ → ℕ → ℕ
-entrySize format blocks = cond (eqb format gsmHr) 1 (cond (eqb format g719Interleaved) (2 + (blocks + 1) / 2) 2)
+-- the bytes of n displacements: 4 bits for each frame-block, and four padding bits if the number is odd
+unfoldable pub gapsSize : ℕ → ℕ → ℕ
+gapsSize format n = cond (formatOf format .displaced) ((n + 1) / 2) 0
+
+unfoldable pub entrySize : ℕ → ℕ → ℕ
+entrySize format blocks = minEntry format + gapsSize format blocks
 
 -- an entry of so many frame-blocks and bytes whose code stands for a frame, or is reserved
 abbrev pub codedEntry : Bool → ℕ → ℕ → Coded → EntryRead
@@ -63,13 +66,9 @@ pub data Contents : Type 0 where
 abbrev pub halfAt : List ℕ → ℕ → ℕ
 halfAt s k = cond (eqb (k % 2) 0) (byteAt s (k / 2) / 16) (byteAt s (k / 2) % 16)
 
--- how far n displacements reach into an entry
-abbrev pub gapEnd : ℕ → ℕ → ℕ
-gapEnd format n = cond (eqb format g719Interleaved) (2 + (n + 1) / 2) 0
-
 -- the frame-blocks left out before frame-block k of the entry at the front of s: the displacement; the first one, DIS1, is passed over
 unfoldable pub gapAt : ℕ → List ℕ → ℕ → ℕ
-gapAt format s k = cond (eqb k 0) 0 (cond (eqb format g719Interleaved) (halfAt (drop 2 s) k) 0)
+gapAt format s k = cond (eqb k 0) 0 (cond (formatOf format .displaced) (halfAt (drop (minEntry format) s) k) 0)
 
 -- the gaps of n frame-blocks from k on
 unfoldable pub gapsFrom : ℕ → List ℕ → ℕ → ℕ → List ℕ
@@ -101,9 +100,9 @@ unfoldable pub contents : ℕ → ℕ → ℕ → List ℕ → Contents
 contents format ch rows s = contentsBy (suc (length s)) format ch rows s
 
 -- the table's rows, its bytes and the bytes of the frames that follow
-unfoldable pub rowsIn : ℕ → List Group → ℕ
-rowsIn ch [] = 0
-rowsIn ch (g ∷ gs) = length (g .gaps) * ch + rowsIn ch gs
+unfoldable pub rowCount : ℕ → List Group → ℕ
+rowCount ch [] = 0
+rowCount ch (g ∷ gs) = length (g .gaps) * ch + rowCount ch gs
 
 unfoldable pub sizeIn : ℕ → List Group → ℕ
 sizeIn format [] = 0
@@ -115,4 +114,4 @@ framesIn ch (g ∷ gs) = length (g .gaps) * ch * g .length + framesIn ch gs
 
 unfoldable pub sizesAnswer : ℕ → ℕ → Contents → ContentsRead
 sizesAnswer format ch (refused r) = ContentsRead.Refused r
-sizesAnswer format ch (groups gs) = ContentsRead.Contents (record { rows = rowsIn ch gs; size = sizeIn format gs; frames = framesIn ch gs })
+sizesAnswer format ch (groups gs) = ContentsRead.Contents (record { rows = rowCount ch gs; size = sizeIn format gs; frames = framesIn ch gs })

@@ -1,12 +1,17 @@
--- Document 01, "G.719 tables of contents" and "GSM-HR tables": frame codes, classes, lengths and steps.
+-- Document 01, "G.719 tables of contents" and "GSM-HR tables": frame codes, classes and lengths.
 use Prim.Native.Nat.{ℕ, _+_, _-_, _*_}
-use mathlib.Core.Bool.{Bool, true, false, cond}
+use mathlib.Core.List.{List, [], _∷_}
+use mathlib.Core.Bool.{cond}
 use lib.Dec.{ltb, eqb}
-use Rattle.rtp.specs.Ranges.{gsmHr}
+use lib.ListN.{getD}
+use Rattle.payload.specs.declared.formats.Format.{Format}
+use Rattle.payload.specs.declared.formats.FrameTable.{FrameTable}
 use Rattle.payload.specs.declared.frames.Frame.{Frame}
 use Rattle.payload.specs.declared.frames.Coded.{Coded}
+use Rattle.payload.specs.Formats.{formatOf}
+pub use Rattle.payload.specs.Formats.{stepOf}
 
--- frame classes, document 01's sorts
+-- frame classes, document 01's sorts; the last is the largest
 abbrev pub noData : ℕ
 noData = 0
 
@@ -16,7 +21,10 @@ sound = 1
 abbrev pub sid : ℕ
 sid = 2
 
--- the mark of a reserved length code
+abbrev pub maxClass : ℕ
+maxClass = sid
+
+-- the mark of a reserved code
 abbrev pub reserved : ℕ
 reserved = 65535
 
@@ -28,29 +36,34 @@ g719Length l =
     (cond (ltb l 23) (80 + 10 * (l - 8))
     (cond (ltb l 28) (240 + 20 * (l - 23)) reserved)))
 
--- a frame of a class and a length
-abbrev pub frame : ℕ → ℕ → Coded
-frame class length = Coded.Frame (record { class = class; length = length })
-
--- G.719: a length of 0 is no data, any other is sound
-abbrev pub g719Frame : ℕ → Coded
-g719Frame length = cond (eqb length reserved) Coded.Reserved (cond (eqb length 0) (frame noData 0) (frame sound length))
-
 -- the bytes of a GSM-HR frame
 abbrev pub gsmLength : ℕ
 gsmLength = 14
 
--- GSM-HR: type 0 is sound, 2 is SID, 7 is no data, the others are reserved
-abbrev pub gsmFrame : ℕ → Coded
-gsmFrame type =
-    cond (eqb type 0) (frame sound gsmLength)
-    (cond (eqb type 2) (frame sid gsmLength)
-    (cond (eqb type 7) (frame noData 0) Coded.Reserved))
+-- GSM-HR's lengths by type: 0 and 2 are frames, 7 is no data, the others are reserved
+abbrev pub gsmLengths : List ℕ
+gsmLengths = gsmLength ∷ reserved ∷ gsmLength ∷ reserved ∷ reserved ∷ reserved ∷ reserved ∷ 0 ∷ []
 
--- the frame of a code, over the formats
-unfoldable pub frameOf : ℕ → ℕ → Coded
-frameOf format code = cond (eqb format gsmHr) (gsmFrame code) (g719Frame (g719Length code))
+-- the length of a code in a frame table: 0 is no data
+unfoldable pub lengthIn : FrameTable → ℕ → ℕ
+lengthIn FrameTable.G719 code = g719Length code
+lengthIn FrameTable.GsmHr code = getD gsmLengths code reserved
+lengthIn FrameTable.Empty code = reserved
 
--- the ticks of a frame-block
-abbrev pub stepOf : ℕ → ℕ
-stepOf format = cond (eqb format gsmHr) 160 960
+-- a frame of a class and a length
+abbrev pub frame : ℕ → ℕ → Coded
+frame class length = Coded.Frame (record { class = class; length = length })
+
+-- a code of a length, where `sid` is the code that is a SID
+abbrev pub codedFrame : ℕ → ℕ → ℕ → Coded
+codedFrame sidCode code length =
+    cond (eqb length reserved) Coded.Reserved
+    (cond (eqb length 0) (frame noData 0)
+    (cond (eqb code sidCode) (frame sid length) (frame sound length)))
+
+-- the frame of a code
+unfoldable pub frameIn : Format → ℕ → Coded
+frameIn f code = codedFrame (f .sid) code (lengthIn (f .table) code)
+
+abbrev pub frameOf : ℕ → ℕ → Coded
+frameOf format code = frameIn (formatOf format) code

@@ -1,7 +1,7 @@
 -- A payload read into rows.
-use Prim.Native.Nat.{ℕ, _+_, _*_, _≤_, _<_}
+use Prim.Native.Nat.{ℕ, _+_, _*_}
 use mathlib.Core.List.{List, []}
-use mathlib.Core.Bool.{Bool, true, false, cond}
+use mathlib.Core.Bool.{cond}
 use lib.ListN.{length}
 use lib.Dec.{ltb, eqb}
 use Rattle.rtp.specs.Sizes.{maxPacket, rowWidth, rowArea}
@@ -10,9 +10,8 @@ use Rattle.rtp.specs.declared.settings.Settings.{Settings}
 use Rattle.rtp.specs.declared.refusal.Refusal.{Refusal}
 use Rattle.rtp.specs.declared.refusal.Refusal.the-variants.{PacketLength, LengthMismatch, SettingsOutOfRange, AreaTooShort}
 use Rattle.payload.specs.declared.reading.PayloadRead.{PayloadRead}
-use Rattle.payload.specs.declared.contents.ContentsRead.{ContentsRead}
 use Rattle.payload.specs.Frames.{stepOf}
-use Rattle.payload.specs.Contents.{Contents, refused, groups, contents, rowsIn, sizeIn, framesIn, gapEnd}
+use Rattle.payload.specs.Contents.{Contents, refused, groups, contents, sizeIn, framesIn}
 use Rattle.payload.specs.Rows.{Row, words, tableRows}
 
 -- a table and just the frames that it tells of, in n bytes

@@ -1,31 +1,38 @@
--- What the functions that write rows ask of their callers inside this crate: room in the area, and numbers that fit its words.
+-- What functions ask of their callers inside this crate: a code of a table; room in an area, and numbers that fit its words.
 use Prim.Native.Nat.{ℕ, _+_, _*_, _≤_, _<_, _^_}
 use mathlib.Core.List.{List, []}
 use lib.ListN.{length}
 use Rattle.rtp.specs.Sizes.{rowWidth}
 use Rattle.payload.specs.declared.contents.ContentsRead.{ContentsRead}
-use Rattle.payload.specs.Frames.{stepOf}
-use Rattle.payload.specs.Contents.{Contents, refused, groups, gapEnd}
+use Rattle.payload.specs.declared.formats.FrameTable.{FrameTable}
+use Rattle.payload.specs.Frames.{stepOf, maxClass}
+use Rattle.payload.specs.Contents.{entrySize, Contents, refused, groups}
 use Rattle.payload.specs.Rows.{words, tableRows}
+
+-- a code that a frame table has
+abbrev pub InTable : FrameTable → ℕ → Type 0
+InTable FrameTable.G719 code = code < 32
+InTable FrameTable.GsmHr code = code < 8
+InTable FrameTable.Empty code = Unit {0}
 
 pub record RowRoom (channel class start size area : ℕ) : Type 0 where
   pub area-fits : rowWidth ≤ area
-  pub classes : class ≤ 2
+  pub classes : class ≤ maxClass
   pub channels : channel < 256
   pub frames-fit : start + size < 2 ^ 32
 
 pub record BlockRoom (count channel class start size area : ℕ) : Type 0 where
   pub area-fits : rowWidth * count ≤ area
-  pub classes : class ≤ 2
+  pub classes : class ≤ maxClass
   pub channels : channel + count ≤ 256
   pub frames-fit : start + count * size < 2 ^ 32
 
 pub record GroupRoom (format : ℕ) (s : List ℕ) (k count ch class start size area : ℕ) : Type 0 where
   pub area-fits : rowWidth * (count * ch) ≤ area
-  pub classes : class ≤ 2
+  pub classes : class ≤ maxClass
   pub channels : ch ≤ 256
   pub frames-fit : start + count * ch * size < 2 ^ 32
-  pub entry-fits : gapEnd format (k + count) ≤ length s
+  pub entry-fits : entrySize format (k + count) ≤ length s
   pub few : k + count < 256
 
 abbrev pub TableRoom : ℕ → ℕ → ℕ → ContentsRead → Type 0

@@ -47,12 +47,12 @@ abbrev pub placed : ℕ → ℕ → ℕ → ℕ
 placed step t gap = (t + gap * step) % 2 ^ 32
 
 -- the place after it
-abbrev pub after : ℕ → ℕ → ℕ → ℕ
-after step t gap = (placed step t gap + step) % 2 ^ 32
+abbrev pub nextPlace : ℕ → ℕ → ℕ → ℕ
+nextPlace step t gap = (placed step t gap + step) % 2 ^ 32
 
 unfoldable pub timeAfter : ℕ → ℕ → List ℕ → ℕ
 timeAfter step t [] = t
-timeAfter step t (g ∷ gs) = timeAfter step (after step t g) gs
+timeAfter step t (g ∷ gs) = timeAfter step (nextPlace step t g) gs
 
 -- a frame-block: a row for each of n channels from c on, one frame after another
 unfoldable pub blockRows : ℕ → ℕ → ℕ → ℕ → ℕ → ℕ → List Row
@@ -64,7 +64,7 @@ blockRows (suc n) c time class start len =
 unfoldable pub groupRows : ℕ → ℕ → ℕ → ℕ → ℕ → ℕ → List ℕ → List Row
 groupRows step ch time class start len [] = []
 groupRows step ch time class start len (g ∷ gs) =
-    blockRows ch 0 (placed step time g) class start len ++ groupRows step ch (after step time g) class (start + ch * len) len gs
+    blockRows ch 0 (placed step time g) class start len ++ groupRows step ch (nextPlace step time g) class (start + ch * len) len gs
 
 -- a table's groups, one after another: a later group's first frame-block follows the last directly
 unfoldable pub tableRows : ℕ → ℕ → ℕ → ℕ → List Group → List Row

@@ -1,14 +1,19 @@
 // Frame codes for writing.
-use rtp::settings::GSM_HR;
+use crate::formats;
+use crate::formats::FrameTable;
+use crate::frames::GSM_HR_FRAME;
 ghost use mathlib.Core.Path.{_≡_};
-ghost use Rattle.payload.specs.Codes.{lengthCode, codeFor};
+ghost use mathlib.Core.Bool.{false};
+ghost use Rattle.payload.specs.Formats.{g719Format, gsmFormat};
+ghost use Rattle.payload.specs.Frames.{sound};
+ghost use Rattle.payload.specs.Codes.{highestCode, codeFor};
 
 // No code: a class and a length that the format has not.
 pub const NO_CODE: u32 = 32;
 
-// The G.719 code of a length.
+// The G.719 code of a length of sound.
 fn length_code(n: u32) -> u32
-    ensures { λ r. ⌜ r ≡ lengthCode n ⌝ }
+    ensures { λ r. ⌜ r ≡ highestCode (g719Format false) sound n ⌝ }
 {
     if n < 80 {
         return NO_CODE;
@@ -31,28 +36,9 @@ fn length_code(n: u32) -> u32
     NO_CODE
 }
 
-// The code of a class and a length.
-pub fn code_for(format: u8, class: u32, n: u32) -> u32
-    ensures { λ r. ⌜ r ≡ codeFor format class n ⌝ }
+fn g719_code(class: u32, n: u32) -> u32
+    ensures { λ r. ⌜ r ≡ highestCode (g719Format false) class n ⌝ }
 {
-    if format == GSM_HR {
-        if class == 0 {
-            if n == 0 {
-                return 7;
-            }
-            return NO_CODE;
-        }
-        if n == 14 {
-            if class == 1 {
-                return 0;
-            }
-            if class == 2 {
-                return 2;
-            }
-            return NO_CODE;
-        }
-        return NO_CODE;
-    }
     if class == 0 {
         if n == 0 {
             return 0;
@@ -63,4 +49,36 @@ pub fn code_for(format: u8, class: u32, n: u32) -> u32
         return length_code(n);
     }
     NO_CODE
+}
+
+fn gsm_hr_code(class: u32, n: u32) -> u32
+    ensures { λ r. ⌜ r ≡ highestCode gsmFormat class n ⌝ }
+{
+    if class == 0 {
+        if n == 0 {
+            return 7;
+        }
+        return NO_CODE;
+    }
+    if n == (GSM_HR_FRAME as u32) {
+        if class == 1 {
+            return 0;
+        }
+        if class == 2 {
+            return 2;
+        }
+    }
+    NO_CODE
+}
+
+// The code of a class and a length. The frame tables are searched by arithmetic.
+pub fn code_for(format: u8, class: u32, n: u32) -> u32
+    ensures { λ r. ⌜ r ≡ codeFor format class n ⌝ }
+{
+    let table = formats::format_of(format).table;
+    match table {
+        FrameTable::G719 => g719_code(class, n),
+        FrameTable::GsmHr => gsm_hr_code(class, n),
+        FrameTable::Empty => NO_CODE,
+    }
 }

@@ -1,15 +1,15 @@
 // Tables of contents.
+use crate::formats;
 use crate::frames;
 use crate::frames::Coded;
 use rtp::bytes;
 use rtp::refusal::Refusal;
-use rtp::settings::G719_INTERLEAVED;
-use rtp::settings::GSM_HR;
 use rtp::sizes::MAX_ROWS;
 ghost use mathlib.Core.Path.{_≡_};
 ghost use Prim.Native.Nat.{_+_, _<_, _≤_};
 ghost use lib.ListN.{length};
-ghost use Rattle.payload.specs.Contents.{minEntry, codeIn, blocksIn, entrySize, entryOf, contents, sizesAnswer, gapAt, gapEnd};
+ghost use Rattle.payload.specs.Contents.{minEntry, codeIn, blocksIn, entrySize, entryOf, contents, sizesAnswer, gapAt};
+ghost use Rattle.payload.specs.Formats.{formatOf};
 
 // One table entry: whether another follows, the frames' class and length, the number of frame-blocks, and the entry's own bytes.
 pub struct Entry {
@@ -38,21 +38,21 @@ pub enum ContentsRead {
 }
 
 // The bytes that an entry has at least.
-fn min_entry(format: u8) -> usize
+pub fn min_entry(format: u8) -> usize
     ensures { λ r. ⌜ r ≡ minEntry format ⌝ }
 {
-    if format == GSM_HR { 1 } else { 2 }
+    if formats::format_of(format).counted {
+        return 2;
+    }
+    1
 }
 
 // The frame code in an entry's first byte.
 fn code_in(format: u8, first: usize) -> usize
-    ensures { λ r. ⌜ (r ≡ codeIn format first) × (r < 32) ⌝ }
+    ensures { λ r. ⌜ (r ≡ codeIn format first) × (r < formatOf format .codes) ⌝ }
 {
-    if format == GSM_HR {
-        first / 16 % 8
-    } else {
-        first / 4 % 32
-    }
+    let facts = formats::format_of(format);
+    first / facts.unit % facts.codes
 }
 
 // The number of frame-blocks of the entry at the front of s.
@@ -60,23 +60,21 @@ fn blocks_in(format: u8, s: &[u8]) -> usize
     requires { ⌜ minEntry format ≤ length (now s) ⌝ }
     ensures { λ r. ⌜ (r ≡ blocksIn format (now (s .entry))) × (r < 256) ⌝ }
 {
-    if format == GSM_HR {
-        return 1;
+    if formats::format_of(format).counted {
+        return bytes::wide(s[1]);
     }
-    bytes::wide(s[1])
+    1
 }
 
 // The bytes of an entry with so many frame-blocks.
 pub fn entry_size(format: u8, blocks: usize) -> usize
     ensures { λ r. ⌜ r ≡ entrySize format blocks ⌝ }
 {
-    if format == GSM_HR {
-        return 1;
+    let size = min_entry(format);
+    if formats::format_of(format).displaced {
+        return size + (blocks / 2 + blocks % 2);
     }
-    if format == G719_INTERLEAVED {
-        return 2 + (blocks / 2 + blocks % 2);
-    }
-    2
+    size
 }
 
 // The entry at the front of s.
@@ -146,14 +144,14 @@ pub fn read_contents(format: u8, channels: u8, rows: u32, s: &[u8]) -> ContentsR
 
 // The frame-blocks left out before frame-block k of the entry at the front of s.
 pub(crate) fn gap(format: u8, s: &[u8], k: usize) -> u32
-    requires { ⌜ gapEnd format (k + 1) ≤ length (now s) ⌝ }
+    requires { ⌜ entrySize format (k + 1) ≤ length (now s) ⌝ }
     ensures { λ r. ⌜ (r ≡ gapAt format (now (s .entry)) k) × (r < 16) ⌝ }
 {
     if k == 0 {
         return 0;
     }
-    if format == G719_INTERLEAVED {
-        let pair = s[2 + k / 2] as u32;
+    if formats::format_of(format).displaced {
+        let pair = s[min_entry(format) + k / 2] as u32;
         if k % 2 == 0 { pair / 16 } else { pair % 16 }
     } else {
         0

@@ -1,8 +1,11 @@
 // Frame tables: class, length and step of the frames of each format.
-use rtp::settings::GSM_HR;
+use crate::formats;
+use crate::formats::FrameTable;
 ghost use mathlib.Core.Path.{_≡_};
 ghost use Prim.Native.Nat.{_*_, _<_};
-ghost use Rattle.payload.specs.Frames.{g719Length, frameOf, stepOf};
+ghost use Rattle.payload.specs.Frames.{stepOf, g719Length, lengthIn, frameOf};
+ghost use Rattle.payload.specs.Formats.{formatOf};
+ghost use Rattle.payload.specs.Room.{InTable};
 
 // Frame classes: no data, sound, and a description of silence.
 pub const NO_DATA: usize = 0;
@@ -50,6 +53,21 @@ const G719_LENGTHS: [usize; 32] = [
     65535,
 ];
 
+// The bytes of a GSM-HR frame.
+pub(crate) const GSM_HR_FRAME: usize = 14;
+
+// GSM-HR frame lengths by type.
+const GSM_HR_LENGTHS: [usize; 8] = [
+    GSM_HR_FRAME,
+    RESERVED,
+    GSM_HR_FRAME,
+    RESERVED,
+    RESERVED,
+    RESERVED,
+    RESERVED,
+    0,
+];
+
 pub struct Frame {
     pub class: usize,
     pub length: usize,
@@ -61,40 +79,40 @@ pub enum Coded {
     Reserved,
 }
 
-pub(crate) fn g719_length(code: usize) -> usize
+fn g719_length(code: usize) -> usize
     requires { ⌜ code < 32 ⌝ }
     ensures { λ r. ⌜ r ≡ g719Length code ⌝ }
 {
     G719_LENGTHS[code]
 }
 
+fn gsm_hr_length(code: usize) -> usize
+    requires { ⌜ code < 8 ⌝ }
+    ensures { λ r. ⌜ r ≡ lengthIn FrameTable.GsmHr code ⌝ }
+{
+    GSM_HR_LENGTHS[code]
+}
+
+// The length of a code in a frame table.
+fn length_in(table: FrameTable, code: usize) -> usize
+    requires { ⌜ InTable table code ⌝ }
+    ensures { λ r. ⌜ r ≡ lengthIn table code ⌝ }
+{
+    match table {
+        FrameTable::G719 => g719_length(code),
+        FrameTable::GsmHr => gsm_hr_length(code),
+        FrameTable::Empty => RESERVED,
+    }
+}
+
 // The frame that a code of a format stands for.
 pub(crate) fn frame_of(format: u8, code: usize) -> Coded
-    requires { ⌜ code < 32 ⌝ }
+    requires { ⌜ code < formatOf format .codes ⌝ }
     ensures { λ r. ⌜ r ≡ frameOf format code ⌝ }
 {
-    if format == GSM_HR {
-        if code == 0 {
-            return Coded::Frame(Frame {
-                class: SOUND,
-                length: 14,
-            });
-        }
-        if code == 2 {
-            return Coded::Frame(Frame {
-                class: SID,
-                length: 14,
-            });
-        }
-        if code == 7 {
-            return Coded::Frame(Frame {
-                class: NO_DATA,
-                length: 0,
-            });
-        }
-        return Coded::Reserved;
-    }
-    let length = g719_length(code);
+    let facts = formats::format_of(format);
+    let table = facts.table;
+    let length = length_in(table, code);
     if length == RESERVED {
         return Coded::Reserved;
     }
@@ -103,6 +121,9 @@ pub(crate) fn frame_of(format: u8, code: usize) -> Coded
             class: NO_DATA,
             length: 0,
         });
+    }
+    if code == facts.sid {
+        return Coded::Frame(Frame { class: SID, length });
     }
     Coded::Frame(Frame {
         class: SOUND,
@@ -114,7 +135,7 @@ pub(crate) fn frame_of(format: u8, code: usize) -> Coded
 pub fn step_of(format: u8) -> u32
     ensures { λ r. ⌜ r ≡ stepOf format ⌝ }
 {
-    if format == GSM_HR { 160 } else { 960 }
+    formats::format_of(format).step
 }
 
 // The ticks of so many frame-blocks.
@@ -122,9 +143,5 @@ pub(crate) fn ticks(format: u8, blocks: u32) -> u32
     requires { ⌜ blocks < 16 ⌝ }
     ensures { λ r. ⌜ r ≡ blocks * stepOf format ⌝ }
 {
-    if format == GSM_HR {
-        blocks * 160
-    } else {
-        blocks * 960
-    }
+    blocks * step_of(format)
 }

@@ -12,43 +12,43 @@ use Rattle.playout.specs.declared.verdict.Verdict.{Verdict}
 use Rattle.playout.specs.declared.verdict.Verdict.the-variants.{Late, Far, Repeated, Better, NoRoom, Inserted}
 use Rattle.playout.specs.Sizes.{slots}
 use Rattle.playout.specs.Copies.{Copy, better}
-use Rattle.playout.specs.Entries.{Entry, Held, view, entryOf, sideOfEntry, held, freeSlot, always, placed}
+use Rattle.playout.specs.Entries.{Entry, Held, view, entryOf, sideOfEntry, findBy, freeSlot, always, placed}
 use Rattle.playout.specs.Verdicts.{isLate, isFar, Judged, keeps, lays, judgeHeld, judge, Counts, counted, Judgement, tally, Gathered, judgeAll}
-use Rattle.playout.proofs.MergeLaws.{put-longer, put-level}
+use Rattle.playout.proofs.InsertionLaws.{put-longer, put-level}
 
 -- the entry that holds the pair of a copy
-abbrev pub heldOf : Copy → List Entry → Option Entry
-heldOf c es = held (sideOfEntry (entryOf c 0)) es
+abbrev pub findPair : Copy → List Entry → Option Entry
+findPair c es = findBy (sideOfEntry (entryOf c 0)) es
 
 module _ (h : Held) (s : List ℕ) (c : Copy) where
   -- a case for each verdict, with what it says
   pub judge-cases : (P : Judged → Type 0)
       → (isLate h c ≡ true → P (keeps h s Late))
       → (isLate h c ≡ false → isFar h c ≡ true → P (keeps h s Far))
-      → (isLate h c ≡ false → isFar h c ≡ false → (e : Entry) → heldOf c (h .entries) ≡ some e → better c (view s e) ≡ false → P (keeps h s Repeated))
-      → (isLate h c ≡ false → isFar h c ≡ false → (e : Entry) → heldOf c (h .entries) ≡ some e → better c (view s e) ≡ true → P (lays c (e .slot) h s Better))
-      → (isLate h c ≡ false → isFar h c ≡ false → heldOf c (h .entries) ≡ none → slots ≤ length (h .entries) → P (keeps h s NoRoom))
-      → (isLate h c ≡ false → isFar h c ≡ false → heldOf c (h .entries) ≡ none → length (h .entries) < slots → P (lays c (freeSlot (h .entries)) h s Inserted))
+      → (isLate h c ≡ false → isFar h c ≡ false → (e : Entry) → findPair c (h .entries) ≡ some e → better c (view s e) ≡ false → P (keeps h s Repeated))
+      → (isLate h c ≡ false → isFar h c ≡ false → (e : Entry) → findPair c (h .entries) ≡ some e → better c (view s e) ≡ true → P (lays c (e .slot) h s Better))
+      → (isLate h c ≡ false → isFar h c ≡ false → findPair c (h .entries) ≡ none → slots ≤ length (h .entries) → P (keeps h s NoRoom))
+      → (isLate h c ≡ false → isFar h c ≡ false → findPair c (h .entries) ≡ none → length (h .entries) < slots → P (lays c (freeSlot (h .entries)) h s Inserted))
       → P (judge h s c)
   unfolding judge judgeHeld
   judge-cases P late far repeated better-one no-room inserted = at (isLate h c) refl (isFar h c) refl
     where
-      found : isLate h c ≡ false → isFar h c ≡ false → (e : Entry) → heldOf c (h .entries) ≡ some e → (b : Bool) → better c (view s e) ≡ b → P (cond b (lays c (e .slot) h s Better) (keeps h s Repeated))
+      found : isLate h c ≡ false → isFar h c ≡ false → (e : Entry) → findPair c (h .entries) ≡ some e → (b : Bool) → better c (view s e) ≡ b → P (cond b (lays c (e .slot) h s Better) (keeps h s Repeated))
       found u v e w true q = better-one u v e w q
       found u v e w false q = repeated u v e w q
 
-      missing : isLate h c ≡ false → isFar h c ≡ false → heldOf c (h .entries) ≡ none → (b : Bool) → ltb (length (h .entries)) slots ≡ b → P (cond b (lays c (freeSlot (h .entries)) h s Inserted) (keeps h s NoRoom))
+      missing : isLate h c ≡ false → isFar h c ≡ false → findPair c (h .entries) ≡ none → (b : Bool) → ltb (length (h .entries)) slots ≡ b → P (cond b (lays c (freeSlot (h .entries)) h s Inserted) (keeps h s NoRoom))
       missing u v w true q = inserted u v w (ltb-true (length (h .entries)) slots q)
       missing u v w false q = no-room u v w (ltb-false (length (h .entries)) slots q)
 
-      by-held : isLate h c ≡ false → isFar h c ≡ false → (o : Option Entry) → heldOf c (h .entries) ≡ o → P (judgeHeld c h s o)
+      by-held : isLate h c ≡ false → isFar h c ≡ false → (o : Option Entry) → findPair c (h .entries) ≡ o → P (judgeHeld c h s o)
       by-held u v none w = missing u v w (ltb (length (h .entries)) slots) refl
       by-held u v (some e) w = found u v e w (better c (view s e)) refl
 
-      at : (l : Bool) → isLate h c ≡ l → (f : Bool) → isFar h c ≡ f → P (cond l (keeps h s Late) (cond f (keeps h s Far) (judgeHeld c h s (heldOf c (h .entries)))))
+      at : (l : Bool) → isLate h c ≡ l → (f : Bool) → isFar h c ≡ f → P (cond l (keeps h s Late) (cond f (keeps h s Far) (judgeHeld c h s (findPair c (h .entries)))))
       at true u f v = late u
       at false u true v = far u v
-      at false u false v = by-held u v (heldOf c (h .entries)) refl
+      at false u false v = by-held u v (findPair c (h .entries)) refl
 
   -- the last pair stays
   pub judge-last : (judge h s c .held .drawn ≡ h .drawn) × (judge h s c .held .lastTime ≡ h .lastTime) × (judge h s c .held .lastChannel ≡ h .lastChannel)

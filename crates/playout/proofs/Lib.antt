@@ -1,10 +1,10 @@
-pub mod MergeLaws
-pub mod CountLaws
+pub mod InsertionLaws
+pub mod DistinctLaws
 pub mod RankLaws
 pub mod WrapLaws
 pub mod StoreLaws
 pub mod SlotLaws
 pub mod JudgeLaws
-pub mod SoundLaws
+pub mod HeldLaws
 pub mod PlayoutLaws
-pub mod ExactLaws
+pub mod PremiseLaws

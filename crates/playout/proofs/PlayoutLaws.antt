@@ -14,15 +14,15 @@ use Rattle.playout.specs.declared.verdict.Verdict.the-variants.{Late, Fa
 use Rattle.playout.specs.Sizes.{slots, storeSize}
 use Rattle.playout.specs.Pairs.{half, ahead}
 use Rattle.playout.specs.Copies.{Copy, side, rank, betterFrame, better}
-use Rattle.playout.specs.Entries.{Entry, Held, view, views, entryOf, put, held, freeSlot}
+use Rattle.playout.specs.Entries.{Entry, Held, view, views, entryOf, put, findBy, freeSlot}
 use Rattle.playout.specs.Verdicts.{allWithin, fits, judge, Counts, noCounts, counted, tally, Gathered, judgeAll}
 use Rattle.playout.specs.Lists.{Ascending, SamePair, Playout, WithinStretch, Distinct, AtMost}
-use Rattle.playout.proofs.MergeLaws.{Cmp, cmp, Ranks, byKey, Asc, Chain, Agree, asc-chain, chain-asc, asc-one, put-longer, put-same, held-map, put-cong, Bests, bests-none, bests-like, bests-put, bests-one}
+use Rattle.playout.proofs.InsertionLaws.{Cmp, cmp, Ranks, byKey, Asc, Chain, Agree, asc-chain, chain-asc, asc-one, put-longer, put-same, find-map, put-cong, Bests, bests-none, bests-like, bests-put, bests-one}
 use Rattle.playout.proofs.RankLaws.{greater-self, greater-chain, greater-turn, better-equal}
 use Rattle.playout.proofs.WrapLaws.{Near, place, same-place, place-near, order-place}
 use Rattle.playout.proofs.SlotLaws.{laid-views}
-use Rattle.playout.proofs.JudgeLaws.{heldOf, judge-cases, judge-last}
-use Rattle.playout.proofs.SoundLaws.{IsFrame, Frames, Sound, fresh, fresh-sound, entryPlace, Sorted, rising-sorted, found-clash, free-clash, judge-sound}
+use Rattle.playout.proofs.JudgeLaws.{findPair, judge-cases, judge-last}
+use Rattle.playout.proofs.HeldLaws.{IsFrame, Frames, HeldFacts, fresh, fresh-facts, entryPlace, Sorted, rising-sorted, found-clash, free-clash, judge-facts}
 
 -- ---- a verdict after which the best of the copy's pair is held
 abbrev pub Settled : Verdict → Type 0
@@ -34,16 +34,16 @@ Settled NoRoom = ⊥
 Settled Inserted = Unit {0}
 
 module _ (h : Held) (s : List ℕ) (c : Copy) where
-  held-views : held (side c) (views s (h .entries)) ≡ Option·map (view s) (heldOf c (h .entries))
+  find-views : findBy (side c) (views s (h .entries)) ≡ Option·map (view s) (findPair c (h .entries))
   unfolding view entryOf
-  held-views = held-map (side c) (view s) (h .entries)
+  find-views = find-map (side c) (view s) (h .entries)
 
   -- the copies held, with this one in its place
-  pub judge-views : Sound h s → IsFrame c → Settled (judge h s c .verdict) → views (judge h s c .store) (judge h s c .held .entries) ≡ put side better c (views s (h .entries))
+  pub judge-views : HeldFacts h s → IsFrame c → Settled (judge h s c .verdict) → views (judge h s c .store) (judge h s c .held .entries) ≡ put side better c (views s (h .entries))
   judge-views S F =
       judge-cases h s c (λ j. Settled (j .verdict) → views (j .store) (j .held .entries) ≡ put side better c (views s (h .entries)))
       (λ u z. absurd z) (λ u v z. absurd z)
-      (λ u v e w q z. sym (put-same side better c (views s (h .entries)) (view s e) (held-views ∙ ap (Option·map (view s)) w) q))
+      (λ u v e w q z. sym (put-same side better c (views s (h .entries)) (view s e) (find-views ∙ ap (Option·map (view s)) w) q))
       (λ u v e w q z. let f = found-clash h s c S F e w in laid-views c (h .entries) s (S .room) (F .size) (e .slot) (f .0) (S .own-slots) (λ y m. S .each y m .size) (f .1) (λ y p. rw (← (Option·some-injective e y (sym w ∙ unfold entryOf in p))) q))
       (λ u v w q z. absurd z)
       (λ u v w q z. let f = free-clash h s c S F q in laid-views c (h .entries) s (S .room) (F .size) (freeSlot (h .entries)) (f .0) (S .own-slots) (λ y m. S .each y m .size) (f .1) (λ y p. absurd (none≢some y (sym w ∙ unfold entryOf in p))))
@@ -111,7 +111,7 @@ module _ (b : ℕ) (lb : b < 2 ^ 32) where
   distinct (h ∷ t) s = (λ e m p. omega (arith, s .0 e m, place-same h e p), distinct t (s .1))
 
   -- ---- one copy judged, where nothing was drawn
-  module _ (h : Held) (s : List ℕ) (c : Copy) (S : Sound h s) (fresh-one : h .drawn ≡ false) {P : Copy → Type 0} (okc : InStretch b c) (ok : (x : Copy) → P x → InStretch b x) (B : Best P (views s (h .entries))) where
+  module _ (h : Held) (s : List ℕ) (c : Copy) (S : HeldFacts h s) (fresh-one : h .drawn ≡ false) {P : Copy → Type 0} (okc : InStretch b c) (ok : (x : Copy) → P x → InStretch b x) (B : Best P (views s (h .entries))) where
     okl : (y : Copy) → List·Memᴰ y (views s (h .entries)) → InStretch b y
     okl y m = ok y (B .from y m)
 
@@ -121,7 +121,7 @@ module _ (b : ℕ) (lb : b < 2 ^ 32) where
     pub put-is : put side better c (views s (h .entries)) ≡ put (byKey (copyPlace b)) better c (views s (h .entries))
     put-is = put-cong side (byKey (copyPlace b)) better c (views s (h .entries)) (λ y m. order-place b lb (near-copy b c okc) (near-copy b y (okl y m)))
 
-    pub settled : (heldOf c (h .entries) ≡ none → length (h .entries) < slots) → Settled (judge h s c .verdict)
+    pub settled : (findPair c (h .entries) ≡ none → length (h .entries) < slots) → Settled (judge h s c .verdict)
     settled room =
         judge-cases h s c (λ j. Settled (j .verdict))
         (λ u. true≢false (sym u ∙ rw fresh-one))
@@ -134,12 +134,12 @@ module _ (b : ℕ) (lb : b < 2 ^ 32) where
     more = rw put-is (bests-put (copyPlace b) better ranks c B)
 
     -- a pair that is not held has room
-    pub room-for : (accepted : List Copy) → AtMost slots accepted → List·Memᴰ c accepted → ((x : Copy) → P x → List·Memᴰ x accepted) → heldOf c (h .entries) ≡ none → length (h .entries) < slots
+    pub room-for : (accepted : List Copy) → AtMost slots accepted → List·Memᴰ c accepted → ((x : Copy) → P x → List·Memᴰ x accepted) → findPair c (h .entries) ≡ none → length (h .entries) < slots
     room-for accepted few m own w =
         omega (
           arith,
           few (put side better c (views s (h .entries))) (λ d n. mine d (more .from d n)) (distinct (put side better c (views s (h .entries))) (more .asc)),
-          put-longer side better c (views s (h .entries)) (held-views h s c ∙ ap (Option·map (view s)) w),
+          put-longer side better c (views s (h .entries)) (find-views h s c ∙ ap (Option·map (view s)) w),
           length-map (h .entries) (view s),
         )
       where
@@ -165,7 +165,7 @@ module _ (b : ℕ) (lb : b < 2 ^ 32) (accepted : List Copy) (ok : (x : Copy) →
     abbrev Gathers : (Copy → Type 0) → List Copy → Counts → Gathered → Type 0
     Gathers P cs n g = Best b lb (λ x. List·Memᴰ x cs ⊎ P x) (views (g .store) (g .held .entries)) × NoLoss n (tally n (g .judgements))
 
-    gathers : {P : Copy → Type 0} (cs : List Copy) (h : Held) (s : List ℕ) (n : Counts) → Sound h s → h .drawn ≡ false → ((x : Copy) → List·Memᴰ x cs → List·Memᴰ x accepted) → ((x : Copy) → P x → List·Memᴰ x accepted) → Best b lb P (views s (h .entries)) → Gathers P cs n (judgeAll h s cs)
+    gathers : {P : Copy → Type 0} (cs : List Copy) (h : Held) (s : List ℕ) (n : Counts) → HeldFacts h s → h .drawn ≡ false → ((x : Copy) → List·Memᴰ x cs → List·Memᴰ x accepted) → ((x : Copy) → P x → List·Memᴰ x accepted) → Best b lb P (views s (h .entries)) → Gathers P cs n (judgeAll h s cs)
     unfolding judgeAll tally
     gathers [] h s n S d all own B = (bests-like (copyPlace b) better (ranks b lb) (λ x p. inr p) (λ x q. ⊎-elim (λ m. absurd (nowhere m)) (λ p. p) q) B, (refl, refl, refl))
     gathers {P} (c ∷ cs) h s n S d all own B =
@@ -174,7 +174,7 @@ module _ (b : ℕ) (lb : b < 2 ^ 32) (accepted : List Copy) (ok : (x : Copy) →
         let z = settled b lb h s c S d (ok c m) okp B (room-for b lb h s c S d (ok c m) okp B accepted few m own) in
         let N : Best b lb (λ x. (x ≡ c) ⊎ P x) (views (judge h s c .store) (judge h s c .held .entries)) = rw (judge-views h s c S (ok c m .frame) z) (more b lb h s c S d (ok c m) okp B) in
         let r =
-        gathers cs (judge h s c .held) (judge h s c .store) (counted n (judge h s c .verdict)) (judge-sound h s c S (ok c m .frame)) (judge-last h s c .0 ∙ d) (λ x k. all x (there k))
+        gathers cs (judge h s c .held) (judge h s c .store) (counted n (judge h s c .verdict)) (judge-facts h s c S (ok c m .frame)) (judge-last h s c .0 ∙ d) (λ x k. all x (there k))
         (λ x o. ⊎-elim (λ (q : x ≡ c). Memᴰ·cast q m) (own x) o) N in
         let k = settled-counts n (judge h s c .verdict) z in
         (bests-like (copyPlace b) better (ranks b lb) (λ x. merge x) (λ x. split x) (r .0), (r .1 .0 ∙ k .0, r .1 .1 ∙ k .1, r .1 .2 ∙ k .2))
@@ -228,7 +228,7 @@ in-stretch cs F W x m = record { frame = F x m; near = W .within x m }
 
 module _ (s : List ℕ) (cs : List Copy) (l : storeSize ≤ length s) (F : Frames cs) (W : WithinStretch cs) (few : AtMost slots cs) where
   whole : Gathers (W .base) (W .word) cs (in-stretch cs F W) few (λ x. ⊥) cs noCounts (gathered s cs)
-  whole = gathers (W .base) (W .word) cs (in-stretch cs F W) few cs fresh s noCounts (fresh-sound s l) refl (λ x m. m) (λ x p. absurd p) (bests-none (copyPlace (W .base)) better (ranks (W .base) (W .word)) (λ x p. p))
+  whole = gathers (W .base) (W .word) cs (in-stretch cs F W) few cs fresh s noCounts (fresh-facts s l) refl (λ x m. m) (λ x p. absurd p) (bests-none (copyPlace (W .base)) better (ranks (W .base) (W .word)) (λ x p. p))
 
   pub playout-of : Playout cs (views (gathered s cs .store) (gathered s cs .held .entries))
   playout-of =

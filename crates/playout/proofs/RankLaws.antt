@@ -10,9 +10,10 @@ use lib.ListN.{length, drop, getD, drop-of-length-le}
 use lib.Seq.{drop-cons}
 use lib.Dec.{eqb}
 use borrow.Author.Tests.{eqb-true, eqb-false, eq-eqb, ne-eqb}
+use Rattle.payload.specs.Frames.{maxClass}
 use Rattle.playout.specs.Copies.{Copy, greaterAt, greater, rank, betterFrame, better}
 use Rattle.playout.specs.Lists.{SamePair}
-use Rattle.playout.proofs.MergeLaws.{Cmp, cmp}
+use Rattle.playout.proofs.InsertionLaws.{Cmp, cmp}
 
 -- what a comparison at two heads says, and back
 module _ (x y : ℕ) (r : Bool) where
@@ -86,7 +87,7 @@ greater-equal (x ∷ xs) (y ∷ ys) p q = go (greater-equal xs ys) (at-false x y
 
 -- the class of a frame: sound or SID
 abbrev pub FrameClass : ℕ → Type 0
-FrameClass k = (1 ≤ k) × (k ≤ 2)
+FrameClass k = (1 ≤ k) × (k ≤ maxClass)
 
 class-of : (m n : ℕ) → FrameClass m → FrameClass n → _≡_ {A = ℕ} (cond (eqb m 1) 1 0) (cond (eqb n 1) 1 0) → m ≡ n
 class-of m n p q e = go (eqb m 1) (eqb n 1) refl refl e

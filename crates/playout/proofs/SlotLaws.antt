@@ -13,9 +13,9 @@ use lib.Dec.{eqb}
 use borrow.Author.Tests.{eqb-true, eqb-false}
 use Rattle.playout.specs.Sizes.{slots, slotSize, storeSize}
 use Rattle.playout.specs.Copies.{Copy, side, better}
-use Rattle.playout.specs.Entries.{Entry, frameOf, view, views, entryOf, sideOfEntry, putAt, put, heldAt, held, taken, lowest, freeSlot, always, placed, stored}
-use Rattle.playout.proofs.MergeLaws.{put-from, held-mem, Cmp, cmp}
-use Rattle.playout.proofs.CountLaws.{no-more, Differ}
+use Rattle.playout.specs.Entries.{Entry, frameOf, view, views, entryOf, sideOfEntry, putAt, put, findAt, findBy, slotUsed, lowest, freeSlot, always, placed, stored}
+use Rattle.playout.proofs.InsertionLaws.{put-from, find-mem, Cmp, cmp}
+use Rattle.playout.proofs.DistinctLaws.{no-more, Differ}
 use Rattle.playout.proofs.StoreLaws.{part-same, part-before, part-after}
 
 map-same : {A B : Type 0} (f g : A → B) (l : List A) → ((y : A) → List·Memᴰ y l → f y ≡ g y) → map f l ≡ map g l
@@ -31,15 +31,15 @@ OwnSlots es = Differ slotOf es
 
 -- An entry e put into place. It has the slot of the entry that it replaces, and of no other.
 abbrev pub Clash : Entry → List Entry → Type 0
-Clash e es = (y : Entry) → List·Memᴰ y es → e .slot ≡ y .slot → held (sideOfEntry e) es ≡ some y
+Clash e es = (y : Entry) → List·Memᴰ y es → e .slot ≡ y .slot → findBy (sideOfEntry e) es ≡ some y
 
 module _ (e : Entry) where
   -- an entry that lies before e has another slot
-  apart : (h : Entry) (t : List Entry) → OwnSlots (h ∷ t) → (e .slot ≡ h .slot → held (sideOfEntry e) t ≡ some h) → e .slot ≡ h .slot → ⊥
-  apart h t S q w = S .0 h (held-mem (sideOfEntry e) t h (q w)) refl
+  apart : (h : Entry) (t : List Entry) → OwnSlots (h ∷ t) → (e .slot ≡ h .slot → findBy (sideOfEntry e) t ≡ some h) → e .slot ≡ h .slot → ⊥
+  apart h t S q w = S .0 h (find-mem (sideOfEntry e) t h (q w)) refl
 
   pub put-slots : (es : List Entry) → OwnSlots es → Clash e es → OwnSlots (put sideOfEntry always e es)
-  unfolding put held
+  unfolding put findBy
   put-slots [] S q = (λ f m. absurd (nowhere m), tt)
   put-slots (h ∷ t) S q = go (sideOfEntry e h) (put-slots t (S .1)) q
     where
@@ -47,18 +47,18 @@ module _ (e : Entry) where
       past n f (inl r) w = n (sym (w ∙ ap slotOf r))
       past n f (inr m) w = S .0 f m w
 
-      go : (o : Ordering) → (Clash e t → OwnSlots (put sideOfEntry always e t)) → ((y : Entry) → List·Memᴰ y (h ∷ t) → e .slot ≡ y .slot → heldAt o h (held (sideOfEntry e) t) ≡ some y) → OwnSlots (putAt sideOfEntry always o e h t (put sideOfEntry always e t))
+      go : (o : Ordering) → (Clash e t → OwnSlots (put sideOfEntry always e t)) → ((y : Entry) → List·Memᴰ y (h ∷ t) → e .slot ≡ y .slot → findAt o h (findBy (sideOfEntry e) t) ≡ some y) → OwnSlots (putAt sideOfEntry always o e h t (put sideOfEntry always e t))
       go Ordering·lt ih q = (λ f m w. none≢some f (q f m w), S)
       go Ordering·eq ih q = (λ f m w. S .0 f m (ap slotOf (Option·some-injective h f (q f (there m) w))), S .1)
       go Ordering·gt ih q = (λ f m. past (apart h t S (q h (here refl))) f (put-from sideOfEntry always e t f m), ih (λ y m. q y (there m)))
 
   module _ (f g : Entry → Copy) (c : Copy) (fe : f e ≡ c) (agree : (y : Entry) → side c (g y) ≡ sideOfEntry e y) where
-    put-view : (es : List Entry) → OwnSlots es → Clash e es → ((k : Entry) → held (sideOfEntry e) es ≡ some k → better c (g k) ≡ true) → ((y : Entry) → List·Memᴰ y es → (e .slot ≡ y .slot → ⊥) → f y ≡ g y) → map f (put sideOfEntry always e es) ≡ put side better c (map g es)
-    unfolding put held
+    put-view : (es : List Entry) → OwnSlots es → Clash e es → ((k : Entry) → findBy (sideOfEntry e) es ≡ some k → better c (g k) ≡ true) → ((y : Entry) → List·Memᴰ y es → (e .slot ≡ y .slot → ⊥) → f y ≡ g y) → map f (put sideOfEntry always e es) ≡ put side better c (map g es)
+    unfolding put findBy
     put-view [] S q b same = ap (λ (x : Copy). x ∷ []) fe
     put-view (h ∷ t) S q b same = rw (agree h) (go (sideOfEntry e h) (λ q b. put-view t (S .1) q b (λ y m. same y (there m))) q b)
       where
-        go : (o : Ordering) → (Clash e t → ((k : Entry) → held (sideOfEntry e) t ≡ some k → better c (g k) ≡ true) → map f (put sideOfEntry always e t) ≡ put side better c (map g t)) → ((y : Entry) → List·Memᴰ y (h ∷ t) → e .slot ≡ y .slot → heldAt o h (held (sideOfEntry e) t) ≡ some y) → ((k : Entry) → heldAt o h (held (sideOfEntry e) t) ≡ some k → better c (g k) ≡ true) → map f (putAt sideOfEntry always o e h t (put sideOfEntry always e t)) ≡ putAt side better o c (g h) (map g t) (put side better c (map g t))
+        go : (o : Ordering) → (Clash e t → ((k : Entry) → findBy (sideOfEntry e) t ≡ some k → better c (g k) ≡ true) → map f (put sideOfEntry always e t) ≡ put side better c (map g t)) → ((y : Entry) → List·Memᴰ y (h ∷ t) → e .slot ≡ y .slot → findAt o h (findBy (sideOfEntry e) t) ≡ some y) → ((k : Entry) → findAt o h (findBy (sideOfEntry e) t) ≡ some k → better c (g k) ≡ true) → map f (putAt sideOfEntry always o e h t (put sideOfEntry always e t)) ≡ putAt side better o c (g h) (map g t) (put side better c (map g t))
         go Ordering·lt ih q b = ap₂ _∷_ fe (map-same f g (h ∷ t) (λ y m. same y m (λ w. none≢some y (q y m w))))
         go Ordering·eq ih q b =
             rw (b h refl)
@@ -66,20 +66,20 @@ module _ (e : Entry) where
         go Ordering·gt ih q b = ap₂ _∷_ (same h (here refl) (apart h t S (q h (here refl)))) (ih (λ y m. q y (there m)) b)
 
 -- ---- the lowest free slot
-taken-in : (k : ℕ) (es : List Entry) → taken k es ≡ true → List·Memᴰ k (map slotOf es)
-unfolding taken
-taken-in k [] e = absurd (false≢true e)
-taken-in k (h ∷ t) e = go (eqb k (h .slot)) refl (taken-in k t) e
+used-in : (k : ℕ) (es : List Entry) → slotUsed k es ≡ true → List·Memᴰ k (map slotOf es)
+unfolding slotUsed
+used-in k [] e = absurd (false≢true e)
+used-in k (h ∷ t) e = go (eqb k (h .slot)) refl (used-in k t) e
   where
-    go : (b : Bool) → eqb k (h .slot) ≡ b → (taken k t ≡ true → List·Memᴰ k (map slotOf t)) → (b || taken k t) ≡ true → List·Memᴰ k (h .slot ∷ map slotOf t)
+    go : (b : Bool) → eqb k (h .slot) ≡ b → (slotUsed k t ≡ true → List·Memᴰ k (map slotOf t)) → (b || slotUsed k t) ≡ true → List·Memᴰ k (h .slot ∷ map slotOf t)
     go true q ih e = here (eqb-true k (h .slot) q)
     go false q ih e = there (ih e)
 
-pub untaken : (k : ℕ) (es : List Entry) → taken k es ≡ false → (y : Entry) → List·Memᴰ y es → k ≡ y .slot → ⊥
-unfolding taken
-untaken k (h ∷ t) e y m w = go (eqb k (h .slot)) refl (untaken k t) e (cases m)
+pub slot-unused : (k : ℕ) (es : List Entry) → slotUsed k es ≡ false → (y : Entry) → List·Memᴰ y es → k ≡ y .slot → ⊥
+unfolding slotUsed
+slot-unused k (h ∷ t) e y m w = go (eqb k (h .slot)) refl (slot-unused k t) e (cases m)
   where
-    go : (b : Bool) → eqb k (h .slot) ≡ b → (taken k t ≡ false → (y : Entry) → List·Memᴰ y t → k ≡ y .slot → ⊥) → (b || taken k t) ≡ false → (y ≡ h) ⊎ List·Memᴰ y t → ⊥
+    go : (b : Bool) → eqb k (h .slot) ≡ b → (slotUsed k t ≡ false → (y : Entry) → List·Memᴰ y t → k ≡ y .slot → ⊥) → (b || slotUsed k t) ≡ false → (y ≡ h) ⊎ List·Memᴰ y t → ⊥
     go true q ih e o = true≢false e
     go false q ih e (inl r) = eqb-false k (h .slot) q (w ∙ ap slotOf r)
     go false q ih e (inr m) = ih e y m w
@@ -107,23 +107,23 @@ below-length (suc n) = ap suc (below-length n)
 
 module _ (es : List Entry) (l : length es < slots) where
   abbrev Free : ℕ → Type 0
-  Free k = (k < slots) × (taken k es ≡ false)
+  Free k = (k < slots) × (slotUsed k es ≡ false)
 
   lowest-free : (n k : ℕ) → k + n ≡ slots → ((j : ℕ) → j < k → List·Memᴰ j (map slotOf es)) → Free (lowest n k es)
   unfolding lowest
   lowest-free zero k e all =
       absurd (omega (arith, no-more (λ (j : ℕ). j) (below k) (map slotOf es) (below-differ k) (λ j m. all j (in-below k j m)), below-length k, length-map es slotOf))
-  lowest-free (suc n) k e all = go (taken k es) refl (lowest-free n (suc k) (omega arith))
+  lowest-free (suc n) k e all = go (slotUsed k es) refl (lowest-free n (suc k) (omega arith))
     where
-      more : taken k es ≡ true → (j : ℕ) → (j ≡ k) ⊎ (j < k) → List·Memᴰ j (map slotOf es)
-      more q j (inl h) = Memᴰ·cast h (taken-in k es q)
+      more : slotUsed k es ≡ true → (j : ℕ) → (j ≡ k) ⊎ (j < k) → List·Memᴰ j (map slotOf es)
+      more q j (inl h) = Memᴰ·cast h (used-in k es q)
       more q j (inr h) = all j h
 
-      go : (b : Bool) → taken k es ≡ b → (((j : ℕ) → j < suc k → List·Memᴰ j (map slotOf es)) → Free (lowest n (suc k) es)) → Free (cond b (lowest n (suc k) es) k)
+      go : (b : Bool) → slotUsed k es ≡ b → (((j : ℕ) → j < suc k → List·Memᴰ j (map slotOf es)) → Free (lowest n (suc k) es)) → Free (cond b (lowest n (suc k) es) k)
       go true q ih = ih (λ j h. more q j (eq-or-lt-of-le (le-of-suc-le-suc h)))
       go false q ih = (omega arith, q)
 
-  pub free-slot : (freeSlot es < slots) × (taken (freeSlot es) es ≡ false)
+  pub free-slot : (freeSlot es < slots) × (slotUsed (freeSlot es) es ≡ false)
   unfolding freeSlot
   free-slot = lowest-free slots 0 refl (λ j h. absurd (omega arith))
 
@@ -154,6 +154,6 @@ module _ (c : Copy) (es : List Entry) (s : List ℕ) (room : storeSize ≤ lengt
       go Ordering·eq q = absurd (n (sym q))
       go Ordering·gt q = part-after s (slotSize * k) (c .bytes) (length (c .bytes)) in-store (omega arith) (slotSize * y .slot) (y .length) (omega arith)
 
-  pub laid-views : OwnSlots es → ((y : Entry) → List·Memᴰ y es → y .length ≤ slotSize) → Clash (entryOf c k) es → ((e : Entry) → held (sideOfEntry (entryOf c k)) es ≡ some e → better c (view s e) ≡ true) → views (stored s k (c .bytes)) (placed c k es) ≡ put side better c (views s es)
+  pub laid-views : OwnSlots es → ((y : Entry) → List·Memᴰ y es → y .length ≤ slotSize) → Clash (entryOf c k) es → ((e : Entry) → findBy (sideOfEntry (entryOf c k)) es ≡ some e → better c (view s e) ≡ true) → views (stored s k (c .bytes)) (placed c k es) ≡ put side better c (views s es)
   unfolding placed view entryOf
   laid-views S l q b = put-view (entryOf c k) (view (stored s k (c .bytes))) (view s) c view-stored (λ y. refl) es S q b (λ y m. view-other y (l y m))

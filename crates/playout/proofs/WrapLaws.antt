@@ -6,7 +6,7 @@ use native.Mathlib.Omega.{arith}
 use lib.Dec.{ltb, eqb}
 use borrow.Author.Tests.{ltb-true, lt-ltb, le-ltb, eqb-true, eqb-false}
 use Rattle.playout.specs.Pairs.{half, ahead, after, order}
-use Rattle.playout.proofs.MergeLaws.{Cmp, cmp, compare-is}
+use Rattle.playout.proofs.InsertionLaws.{Cmp, cmp, compare-is}
 
 pub ahead-self : (t : ℕ) → ahead t t < half
 unfolding ahead

@@ -42,7 +42,7 @@ entryOf c slot = record { time = c .time; channel = c .channel; class = c .class
 abbrev pub sideOfEntry : Entry → Entry → Ordering
 sideOfEntry e h = order (e .time) (e .channel) (h .time) (h .channel)
 
--- Sorted insertion that keeps the best of each pair, and what is held of a pair: over any comparison.
+-- Sorted insertion that keeps the best of each pair, and the item of a pair: over any comparison.
 module _ {A : Type 0} (cmp : A → A → Ordering) (beats : A → A → Bool) where
   abbrev pub putAt : Ordering → A → A → List A → List A → List A
   putAt Ordering·lt c h t r = c ∷ h ∷ t
@@ -54,23 +54,23 @@ module _ {A : Type 0} (cmp : A → A → Ordering) (beats : A → A → Bool) wh
   put c (h ∷ t) = putAt (cmp c h) c h t (put c t)
 
 module _ {A : Type 0} where
-  abbrev pub heldAt : Ordering → A → Option A → Option A
-  heldAt Ordering·lt h r = none
-  heldAt Ordering·eq h r = some h
-  heldAt Ordering·gt h r = r
+  abbrev pub findAt : Ordering → A → Option A → Option A
+  findAt Ordering·lt h r = none
+  findAt Ordering·eq h r = some h
+  findAt Ordering·gt h r = r
 
-  unfoldable pub held : (A → Ordering) → List A → Option A
-  held to [] = none
-  held to (h ∷ t) = heldAt (to h) h (held to t)
+  unfoldable pub findBy : (A → Ordering) → List A → Option A
+  findBy to [] = none
+  findBy to (h ∷ t) = findAt (to h) h (findBy to t)
 
 -- the lowest slot that no entry has
-unfoldable pub taken : ℕ → List Entry → Bool
-taken k [] = false
-taken k (e ∷ es) = eqb k (e .slot) || taken k es
+unfoldable pub slotUsed : ℕ → List Entry → Bool
+slotUsed k [] = false
+slotUsed k (e ∷ es) = eqb k (e .slot) || slotUsed k es
 
 unfoldable pub lowest : ℕ → ℕ → List Entry → ℕ
 lowest zero k es = k
-lowest (suc n) k es = cond (taken k es) (lowest n (suc k) es) k
+lowest (suc n) k es = cond (slotUsed k es) (lowest n (suc k) es) k
 
 unfoldable pub freeSlot : List Entry → ℕ
 freeSlot es = lowest slots 0 es

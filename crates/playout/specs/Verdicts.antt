@@ -10,7 +10,7 @@ use Rattle.playout.specs.declared.verdict.Verdict.the-variants.{Late, Fa
 use Rattle.playout.specs.Sizes.{slots}
 use Rattle.playout.specs.Pairs.{half, ahead, order, isAfter}
 use Rattle.playout.specs.Copies.{Copy, better}
-use Rattle.playout.specs.Entries.{Entry, Held, view, entryOf, sideOfEntry, held, freeSlot, placed, stored}
+use Rattle.playout.specs.Entries.{Entry, Held, view, entryOf, sideOfEntry, findBy, freeSlot, placed, stored}
 
 -- a pair was drawn, and this one is not after it
 abbrev pub isLate : Held → Copy → Bool
@@ -56,7 +56,7 @@ unfoldable pub judge : Held → List ℕ → Copy → Judged
 judge h s c =
     cond (isLate h c) (keeps h s Late)
     (cond (isFar h c) (keeps h s Far)
-    (judgeHeld c h s (held (sideOfEntry (entryOf c 0)) (h .entries))))
+    (judgeHeld c h s (findBy (sideOfEntry (entryOf c 0)) (h .entries))))
 
 -- how often each verdict was given
 pub record Counts : Type 0 where

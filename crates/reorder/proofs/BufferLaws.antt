@@ -13,7 +13,7 @@ use Rattle.rtp.proofs.TestLaws.{by-test, not-both}
 use Rattle.rtp.proofs.RangeLaws.{few-channels}
 use Rattle.playout.specs.Sizes.{slots, slotSize, storeSize}
 use Rattle.playout.specs.Entries.{Entry, Held}
-use Rattle.playout.proofs.SoundLaws.{Sound}
+use Rattle.playout.proofs.HeldLaws.{HeldFacts}
 use Rattle.reorder.specs.declared.buffer.Buffer.{Buffer}
 use Rattle.reorder.specs.Bits.{heldIn, wordsOf}
 use Rattle.reorder.specs.Layout.{entryTag, padTo, column, encode, decode}
@@ -21,7 +21,7 @@ use Rattle.reorder.specs.WellFormed.{wellFormed}
 use Rattle.reorder.specs.Arrays.{Column, Machine}
 use Rattle.reorder.proofs.LayoutLaws.{column-length, decode-encode}
 use Rattle.reorder.proofs.WellFormedLaws.{facts, times-word, well-formed}
-use Rattle.reorder.proofs.StateLaws.{Good, good-sound}
+use Rattle.reorder.proofs.StateLaws.{Good, good-facts}
 
 -- a well-formed buffer's model
 
@@ -57,7 +57,7 @@ column-word f es h = (column-length f es, pad-bound slots (map f es) (map-bound 
 module _ (st : Settings) (h : Held) (s : List ℕ) (g : Good st h s) where
   pub good-machine : Machine (encode st h)
   good-machine =
-      let S = good-sound st h s g in
+      let S = good-facts st h s g in
       record {
         times = column-word (λ e. e .time) (h .entries) (g .words);
         tags = column-word entryTag (h .entries) (λ e m. let i = S .each e m in omega (arith, i .octet, i .class .1));

@@ -11,13 +11,13 @@ use lib.ListN.{length}
 use Rattle.rtp.specs.declared.settings.Settings.{Settings}
 use Rattle.playout.specs.Sizes.{slots}
 use Rattle.playout.specs.Pairs.{order, isAfter}
-use Rattle.playout.specs.Entries.{Entry, Held, sideOfEntry, taken}
+use Rattle.playout.specs.Entries.{Entry, Held, sideOfEntry, slotUsed}
 use Rattle.playout.specs.Verdicts.{allWithin}
-use Rattle.playout.proofs.SoundLaws.{Rising, Stretch, all-within}
+use Rattle.playout.proofs.HeldLaws.{Rising, Stretch, all-within}
 use Rattle.playout.proofs.PlayoutLaws.{within-all}
 use Rattle.reorder.specs.Model.{Model, ascending, inStretch, slotsApart, allowed, afterLast, entryFine, entriesFine, lastFine, fine}
 use Rattle.reorder.proofs.PositionLaws.{after-gt}
-use Rattle.reorder.proofs.WordLaws.{slotsOf, SlotFacts, own-few, own-distinct, distinct-own, Distinct, countIn, count-here, distinct-none, distinct-tail, distinct-cons, taken-count}
+use Rattle.reorder.proofs.WordLaws.{slotsOf, SlotFacts, own-few, own-distinct, distinct-own, Distinct, countIn, count-here, distinct-none, distinct-tail, distinct-cons, used-count}
 use Rattle.reorder.proofs.LayoutLaws.{Octets}
 
 -- The facts
@@ -74,12 +74,12 @@ apart-distinct [] h = distinct-none
 apart-distinct (e ∷ es) h =
     let a = both h in
     let b = both (a .0) in
-    let z : countIn (e .slot) (slotsOf es) ≡ 0 = eqb-true (countIn (e .slot) (slotsOf es)) 0 (untaken (eqb (countIn (e .slot) (slotsOf es)) 0) (taken (e .slot) es) (taken-count (e .slot) es) (b .1)) in
+    let z : countIn (e .slot) (slotsOf es) ≡ 0 = eqb-true (countIn (e .slot) (slotsOf es)) 0 (slot-unused (eqb (countIn (e .slot) (slotsOf es)) 0) (slotUsed (e .slot) es) (used-count (e .slot) es) (b .1)) in
     distinct-cons (e .slot) (slotsOf es) (apart-distinct es (a .1)) (ltb-true (e .slot) slots (b .0)) z
   where
-    untaken : (v t : Bool) → t ≡ not v → not t ≡ true → v ≡ true
-    untaken true t q n = refl
-    untaken false t q n = sym (ap not q) ∙ n
+    slot-unused : (v t : Bool) → t ≡ not v → not t ≡ true → v ≡ true
+    slot-unused true t q n = refl
+    slot-unused false t q n = sym (ap not q) ∙ n
 
 pub distinct-apart : (es : List Entry) → Distinct (slotsOf es) → slotsApart es ≡ true
 unfolding slotsApart
@@ -87,7 +87,7 @@ distinct-apart [] d = refl
 distinct-apart (e ∷ es) d =
     let n : countIn (e .slot) (slotsOf es) ≡ 0 = omega (arith, d .once (e .slot), count-here (e .slot) (slotsOf es)) in
     and (and (lt-ltb (e .slot) slots (d .within (e .slot) (omega (arith, count-here (e .slot) (slotsOf es)))))
-    (ap not (taken-count (e .slot) es ∙ ap (λ (k : ℕ). not (eqb k 0)) n)))
+    (ap not (used-count (e .slot) es ∙ ap (λ (k : ℕ). not (eqb k 0)) n)))
     (distinct-apart es (distinct-tail (e .slot) (slotsOf es) d))
 
 module _ (m : Model) where

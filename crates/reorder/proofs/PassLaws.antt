@@ -13,7 +13,7 @@ use Rattle.playout.specs.Sizes.{slots}
 use Rattle.playout.specs.Pairs.{half, ahead, order, isAfter}
 use Rattle.playout.specs.Entries.{Entry, sideOfEntry}
 use Rattle.playout.specs.Verdicts.{allWithin}
-use Rattle.playout.proofs.SoundLaws.{Stretch, all-within}
+use Rattle.playout.proofs.HeldLaws.{Stretch, all-within}
 use Rattle.playout.proofs.PlayoutLaws.{within-all}
 use Rattle.reorder.specs.declared.buffer.Buffer.{Buffer}
 use Rattle.reorder.specs.declared.buffer.Fixed.{Fixed}

@@ -13,16 +13,16 @@ use Rattle.payload.specs.Rows.{tagChannel}
 use Rattle.playout.specs.Sizes.{slots}
 use Rattle.playout.specs.Pairs.{half, ahead, after, order, sideOf}
 use Rattle.playout.specs.declared.order.Side.{Side}
-use Rattle.playout.specs.Entries.{Entry, sideOfEntry, putAt, put, heldAt, held, always}
+use Rattle.playout.specs.Entries.{Entry, sideOfEntry, putAt, put, findAt, findBy, always}
 use Rattle.playout.specs.Verdicts.{allWithin, fits}
-use Rattle.playout.proofs.MergeLaws.{Cmp, cmp}
+use Rattle.playout.proofs.InsertionLaws.{Cmp, cmp}
 use Rattle.reorder.specs.declared.columns.Place.{Place}
 use Rattle.reorder.specs.Columns.{placeAt, placeFrom, withinFrom, fitsFrom}
 use Rattle.reorder.specs.Layout.{entryTag, column}
 use Rattle.reorder.proofs.ColumnLaws.{inserted}
 use Rattle.reorder.proofs.LayoutLaws.{noEntry, Octets, column-at, column-first, at-member, tag-channel}
 
--- A place in a list: what it says of `held` and of `put`
+-- A place in a list: what it says of `findBy` and of `put`
 
 abbrev pub placeWithin : Place → ℕ → Type 0
 placeWithin (Place.FoundAt i) n = i < n
@@ -44,7 +44,7 @@ samePair e (Place.InsertAt i) es = Unit {0}
 pub record AtPlace (e : Entry) (es : List Entry) (p : Place) : Type 0 where
   pub within : placeWithin p (length es)
   pub same : samePair e p es
-  pub held : held (sideOfEntry e) es ≡ heldBy p es
+  pub held : findBy (sideOfEntry e) es ≡ heldBy p es
   pub put : put sideOfEntry always e es ≡ putBy e p es
 
 order-same : (t c h d : ℕ) → order t c h d ≡ Ordering·eq → (t ≡ h) × (c ≡ d)
@@ -79,12 +79,12 @@ module _ (e : Entry) where
   placeIn (x ∷ es) = placeAt (sideOf (sideOfEntry e x)) 0 (later (placeIn es))
 
   at-place : (es : List Entry) → AtPlace e es (placeIn es)
-  unfolding placeIn later held put inserted
+  unfolding placeIn later findBy put inserted
   at-place [] = record { within = omega arith; same = tt; held = refl; put = refl }
   at-place (x ∷ es) = let g = go (sideOfEntry e x) refl (placeIn es) (at-place es) in record { within = g .0; same = g .1; held = g .2; put = g .3 }
     where
       go : (o : Ordering) → sideOfEntry e x ≡ o → (p : Place) → AtPlace e es p
-          → placeWithin (placeAt (sideOf o) 0 (later p)) (suc (length es)) × samePair e (placeAt (sideOf o) 0 (later p)) (x ∷ es) × (heldAt o x (held (sideOfEntry e) es) ≡ heldBy (placeAt (sideOf o) 0 (later p)) (x ∷ es))
+          → placeWithin (placeAt (sideOf o) 0 (later p)) (suc (length es)) × samePair e (placeAt (sideOf o) 0 (later p)) (x ∷ es) × (findAt o x (findBy (sideOfEntry e) es) ≡ heldBy (placeAt (sideOf o) 0 (later p)) (x ∷ es))
           × (putAt sideOfEntry always o e x es (put sideOfEntry always e es) ≡ putBy e (placeAt (sideOf o) 0 (later p)) (x ∷ es))
       go Ordering·lt q p a = (omega arith, tt, refl, refl)
       go Ordering·eq q p a = (omega arith, order-same (e .time) (e .channel) (x .time) (x .channel) q, refl, refl)

@@ -9,9 +9,9 @@ use lib.ListN.{length, getD}
 use Rattle.playout.specs.Pairs.{order}
 use Rattle.playout.specs.Entries.{Entry}
 use Rattle.playout.specs.Verdicts.{isLate, isFar}
-use Rattle.playout.proofs.MergeLaws.{Asc, Cmp, cmp}
+use Rattle.playout.proofs.InsertionLaws.{Asc, Cmp, cmp}
 use Rattle.playout.proofs.WrapLaws.{Near, place, order-place, order-after}
-use Rattle.playout.proofs.SoundLaws.{entryPlace, Sorted, sorted-with}
+use Rattle.playout.proofs.HeldLaws.{entryPlace, Sorted, sorted-with}
 use Rattle.rtp.proofs.RangeLaws.{few-channels}
 use Rattle.reorder.specs.declared.buffer.Buffer.{Buffer}
 use Rattle.reorder.specs.declared.laying.FrameHead.{FrameHead}
@@ -22,7 +22,7 @@ use Rattle.reorder.specs.Laying.{channelIn, copyIn}
 use Rattle.reorder.specs.Judging.{Judgeable}
 use Rattle.reorder.proofs.LayoutLaws.{noEntry, at-member}
 use Rattle.reorder.proofs.WellFormedLaws.{decode-length}
-use Rattle.reorder.proofs.StateLaws.{good-sound, fit-frame}
+use Rattle.reorder.proofs.StateLaws.{good-facts, fit-frame}
 use Rattle.reorder.proofs.BufferLaws.{buffer-good}
 use Rattle.reorder.proofs.VerdictLaws.{entries-at}
 
@@ -56,7 +56,7 @@ module _ (b : Buffer) (head : FrameHead) (frame store : List ℕ) (ask : Judgeab
       → Parted (b .times) (b .tags) (head .time) (channelIn head) n
   parts late far n count i j l h k =
       let few = few-channels (b .settings) (ask .settings) in
-      let S = good-sound (b .settings) (decode b) store (buffer-good b (ask .machine) (ask .settings) (ask .fine) store (ask .room)) in
+      let S = good-facts (b .settings) (decode b) store (buffer-good b (ask .machine) (ask .settings) (ask .fine) store (ask .room)) in
       let F = fit-frame (b .settings) (copyIn head frame) (record { frame = ask .class; channel = ask .channel; octet = omega (arith, ask .channel, few); word = word }) in
       let T = sorted-with (decode b) store (copyIn head frame) S F late far in
       let size = decode-length b (ask .machine) (ask .fine) in

@@ -1,4 +1,4 @@
--- Laws of the state between calls: what a well-formed buffer holds is sound, and judging and drawing keep it so.
+-- Laws of the state between calls: the facts of what a well-formed buffer holds, and that judging and drawing keep them.
 use mathlib.Core.Path.{_≡_, refl, ap, sym, _∙_, subst}
 use mathlib.Core.Logic.{_⊎_, inl, inr, ⊎-elim}
 use mathlib.Core.List.{List, [], _∷_, List·Memᴰ, List·Memᴰ·head as here, List·Memᴰ·tail as there, List·Memᴰ·not-nil as nowhere}
@@ -12,11 +12,11 @@ use Rattle.rtp.specs.declared.settings.Settings.{Settings}
 use Rattle.rtp.proofs.TestLaws.{not-both}
 use Rattle.playout.specs.Sizes.{slots, slotSize, storeSize}
 use Rattle.playout.specs.Copies.{Copy}
-use Rattle.playout.specs.Entries.{Entry, Held, view, entryOf, sideOfEntry, put, held, always, placed, freeSlot}
+use Rattle.playout.specs.Entries.{Entry, Held, view, entryOf, sideOfEntry, put, findBy, always, placed, freeSlot}
 use Rattle.playout.specs.Verdicts.{Judged, judge, judgeAll}
-use Rattle.playout.proofs.MergeLaws.{put-from}
+use Rattle.playout.proofs.InsertionLaws.{put-from}
 use Rattle.playout.proofs.JudgeLaws.{judge-cases, judge-last, judge-room}
-use Rattle.playout.proofs.SoundLaws.{IsFrame, Frames, IsEntry, Sound, fresh, judge-sound, judge-length, drawnFirst, draw-sound}
+use Rattle.playout.proofs.HeldLaws.{IsFrame, Frames, IsEntry, HeldFacts, fresh, judge-facts, judge-length, drawnFirst, draw-facts}
 use Rattle.reorder.specs.Model.{allowed}
 use Rattle.reorder.proofs.WordLaws.{SlotFacts}
 use Rattle.reorder.proofs.ModelLaws.{EntryFacts, Facts}
@@ -30,8 +30,8 @@ pub record Good (st : Settings) (h : Held) (s : List ℕ) : Type 0 where
   pub last-octet : h .lastChannel < 256
   pub room : storeSize ≤ length s
 
-pub good-sound : (st : Settings) (h : Held) (s : List ℕ) → Good st h s → Sound h s
-good-sound st h s g = record {
+pub good-facts : (st : Settings) (h : Held) (s : List ℕ) → Good st h s → HeldFacts h s
+good-facts st h s g = record {
   rising = g .facts .rising;
   stretch = g .facts .stretch;
   each = λ e m.
@@ -77,7 +77,7 @@ module _ (st : Settings) (h : Held) (s : List ℕ) (c : Copy) (g : Good st h s) 
   pub judge-good : Good st (judge h s c .held) (judge h s c .store)
   unfolding entryOf
   judge-good =
-      let S = judge-sound h s c (good-sound st h s g) (fit-frame st c f) in
+      let S = judge-facts h s c (good-facts st h s g) (fit-frame st c f) in
       let L = judge-last h s c in
       record {
         facts = record {
@@ -109,7 +109,7 @@ judgeAll-good st (c ∷ cs) h s g f = judgeAll-good st cs (judge h s c .held) (j
 -- the first entry is drawn
 pub draw-good : (st : Settings) (h : Held) (s : List ℕ) (e : Entry) (es : List Entry) → h .entries ≡ e ∷ es → Good st h s → Good st (drawnFirst e es) s
 draw-good st h s e es q g =
-    let S = draw-sound h s e es q (good-sound st h s g) in
+    let S = draw-facts h s e es q (good-facts st h s g) in
     let old : (x : Entry) → List·Memᴰ x es → EntryFacts st x = λ x m. g .facts .each x (subst (λ (l : List Entry). List·Memᴰ x l) (sym q) (there m)) in
     let first : EntryFacts st e = g .facts .each e (subst (λ (l : List Entry). List·Memᴰ e l) (sym q) (here refl)) in
     let few : length (e ∷ es) ≤ slots = subst (λ (l : List Entry). length l ≤ slots) q (g .facts .room) in

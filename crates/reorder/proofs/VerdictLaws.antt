@@ -15,7 +15,7 @@ use Rattle.playout.specs.declared.verdict.Verdict.{Verdict}
 use Rattle.playout.specs.declared.verdict.Verdict.the-variants.{Late, Far, Repeated, Better, NoRoom, Inserted}
 use Rattle.playout.specs.Sizes.{slots, slotSize, storeSize}
 use Rattle.playout.specs.Copies.{Copy, better}
-use Rattle.playout.specs.Entries.{Entry, view, entryOf, sideOfEntry, put, held, always, freeSlot, placed, stored}
+use Rattle.playout.specs.Entries.{Entry, view, entryOf, sideOfEntry, put, findBy, always, freeSlot, placed, stored}
 use Rattle.playout.specs.Verdicts.{Judged, isLate, fits, isFar, keeps, lays, judgeHeld, judge}
 use Rattle.reorder.specs.declared.buffer.Buffer.{Buffer}
 use Rattle.reorder.specs.declared.columns.Place.{Place}
@@ -77,13 +77,13 @@ module _ (b : Buffer) (m : Machine b) (w : wellFormed b ≡ true) (head : FrameH
   unfolding judge
   step-late t =
       kept Late
-      (ap (λ (v : Bool). cond v (keeps (decode b) store Late) (cond (isFar (decode b) c) (keeps (decode b) store Far) (judgeHeld c (decode b) store (held (sideOfEntry (entryOf c 0)) es)))) t)
+      (ap (λ (v : Bool). cond v (keeps (decode b) store Late) (cond (isFar (decode b) c) (keeps (decode b) store Far) (judgeHeld c (decode b) store (findBy (sideOfEntry (entryOf c 0)) es)))) t)
 
   module _ (late : isLate (decode b) c ≡ false) where
-    judge-timely : judge (decode b) store c ≡ cond (isFar (decode b) c) (keeps (decode b) store Far) (judgeHeld c (decode b) store (held (sideOfEntry (entryOf c 0)) es))
+    judge-timely : judge (decode b) store c ≡ cond (isFar (decode b) c) (keeps (decode b) store Far) (judgeHeld c (decode b) store (findBy (sideOfEntry (entryOf c 0)) es))
     unfolding judge
     judge-timely =
-        ap (λ (v : Bool). cond v (keeps (decode b) store Late) (cond (isFar (decode b) c) (keeps (decode b) store Far) (judgeHeld c (decode b) store (held (sideOfEntry (entryOf c 0)) es)))) late
+        ap (λ (v : Bool). cond v (keeps (decode b) store Late) (cond (isFar (decode b) c) (keeps (decode b) store Far) (judgeHeld c (decode b) store (findBy (sideOfEntry (entryOf c 0)) es)))) late
 
     module _ (n : ℕ) (count : n ≡ heldIn (b .occupied)) where
       size : n ≡ length es
@@ -109,7 +109,7 @@ module _ (b : Buffer) (m : Machine b) (w : wellFormed b ≡ true) (head : FrameH
       pub step-far : isFar (decode b) c ≡ true → JudgedAs b b c store store Far
       step-far f =
           kept Far
-          (judge-timely ∙ ap (λ (v : Bool). cond v (keeps (decode b) store Far) (judgeHeld c (decode b) store (held (sideOfEntry (entryOf c 0)) es))) f)
+          (judge-timely ∙ ap (λ (v : Bool). cond v (keeps (decode b) store Far) (judgeHeld c (decode b) store (findBy (sideOfEntry (entryOf c 0)) es))) f)
 
       module _ (p : Place) (found : p ≡ placeFrom (b .times) (b .tags) (head .time) (channelIn head) n 0) where
         at : (k : ℕ) → AtPlace (entryOf c k) es p
@@ -120,7 +120,7 @@ module _ (b : Buffer) (m : Machine b) (w : wellFormed b ≡ true) (head : FrameH
             ∙ ap₂ (λ (xs ys : List ℕ). placeFrom xs ys (head .time) (channelIn head) n 0) (sym (ap (λ (a : Buffer). a .times) back)) (sym (ap (λ (a : Buffer). a .tags) back))
             ∙ ap (λ (k : ℕ). placeFrom (column (λ e. e .time) es) (column entryTag es) (head .time) (channelIn head) k 0) size)
 
-        judge-near : isFar (decode b) c ≡ false → (o : Option Entry) → held (sideOfEntry (entryOf c 0)) es ≡ o → judge (decode b) store c ≡ judgeHeld c (decode b) store o
+        judge-near : isFar (decode b) c ≡ false → (o : Option Entry) → findBy (sideOfEntry (entryOf c 0)) es ≡ o → judge (decode b) store c ≡ judgeHeld c (decode b) store o
         judge-near far o q =
             judge-timely
             ∙ ap₂ (λ (v : Bool) (o : Option Entry). cond v (keeps (decode b) store Far) (judgeHeld c (decode b) store o)) far q

@@ -13,8 +13,8 @@ use lib.Dec.{eqb}
 use lib.ListN.{length, getD, length-map}
 use lib.Seq.{getD-set-same, getD-set-other}
 use Rattle.playout.specs.Sizes.{slots}
-use Rattle.playout.specs.Entries.{Entry, taken, lowest, freeSlot}
-use Rattle.playout.proofs.CountLaws.{Differ, no-more}
+use Rattle.playout.specs.Entries.{Entry, slotUsed, lowest, freeSlot}
+use Rattle.playout.proofs.DistinctLaws.{Differ, no-more}
 use Rattle.reorder.specs.Bits.{bitAt, markOf, heldIn, weight, wordAt, wordsOf, marked, unmarked, lowestFrom, lowestFree}
 use Rattle.reorder.proofs.BitLaws.{bit-same, bit-other, ones-add}
 use Rattle.reorder.proofs.ColumnLaws.{inserted}
@@ -269,30 +269,30 @@ held-slots es o = held-count (slotsOf es) (own-distinct es o) ∙ length-map es 
 
 -- The lowest free slot
 
-pub taken-count : (k : ℕ) (es : List Entry) → taken k es ≡ not (eqb (countIn k (slotsOf es)) 0)
-unfolding taken countIn
-taken-count k [] = refl
-taken-count k (e ∷ es) = go (eqb k (e .slot)) (countIn k (slotsOf es)) (taken-count k es)
+pub used-count : (k : ℕ) (es : List Entry) → slotUsed k es ≡ not (eqb (countIn k (slotsOf es)) 0)
+unfolding slotUsed countIn
+used-count k [] = refl
+used-count k (e ∷ es) = go (eqb k (e .slot)) (countIn k (slotsOf es)) (used-count k es)
   where
-    go : (b : Bool) (n : ℕ) → taken k es ≡ not (eqb n 0) → (b || taken k es) ≡ not (eqb (cond b 1 0 + n) 0)
+    go : (b : Bool) (n : ℕ) → slotUsed k es ≡ not (eqb n 0) → (b || slotUsed k es) ≡ not (eqb (cond b 1 0 + n) 0)
     go true n h = sym (ap not (ne-eqb (1 + n) 0 (omega arith)))
     go false n h = h ∙ ap (λ (m : ℕ). not (eqb m 0)) (let e : n ≡ 0 + n = omega arith in e)
 
 module _ (es : List Entry) (own : SlotFacts es) where
-  mark-test : (k : ℕ) (v : Bool) → taken k es ≡ v → eqb (markOf (wordsOf (slotsOf es)) k) 0 ≡ not v
+  mark-test : (k : ℕ) (v : Bool) → slotUsed k es ≡ v → eqb (markOf (wordsOf (slotsOf es)) k) 0 ≡ not v
   mark-test k v h =
-      ap (λ (n : ℕ). eqb n 0) (mark-count (slotsOf es) (own-distinct es own) k) ∙ sym (not-not (eqb (countIn k (slotsOf es)) 0)) ∙ ap not (sym (taken-count k es) ∙ h)
+      ap (λ (n : ℕ). eqb n 0) (mark-count (slotsOf es) (own-distinct es own) k) ∙ sym (not-not (eqb (countIn k (slotsOf es)) 0)) ∙ ap not (sym (used-count k es) ∙ h)
 
   -- a slot that no entry has is not marked
-  pub mark-untaken : (k : ℕ) → taken k es ≡ false → markOf (wordsOf (slotsOf es)) k ≡ 0
-  mark-untaken k h = eqb-true (markOf (wordsOf (slotsOf es)) k) 0 (mark-test k false h)
+  pub mark-unused : (k : ℕ) → slotUsed k es ≡ false → markOf (wordsOf (slotsOf es)) k ≡ 0
+  mark-unused k h = eqb-true (markOf (wordsOf (slotsOf es)) k) 0 (mark-test k false h)
 
   lowest-is : (n k : ℕ) → lowestFrom (wordsOf (slotsOf es)) n k ≡ lowest n k es
   unfolding lowestFrom lowest
   lowest-is zero k = refl
-  lowest-is (suc n) k = go (taken k es) refl (lowest-is n (suc k))
+  lowest-is (suc n) k = go (slotUsed k es) refl (lowest-is n (suc k))
     where
-      go : (v : Bool) → taken k es ≡ v → lowestFrom (wordsOf (slotsOf es)) n (suc k) ≡ lowest n (suc k) es
+      go : (v : Bool) → slotUsed k es ≡ v → lowestFrom (wordsOf (slotsOf es)) n (suc k) ≡ lowest n (suc k) es
           → cond (eqb (markOf (wordsOf (slotsOf es)) k) 0) k (lowestFrom (wordsOf (slotsOf es)) n (k + 1)) ≡ cond v (lowest n (suc k) es) k
       go true h ih = rw (mark-test k true h, add-one k) ih
       go false h ih = rw (mark-test k false h)

@@ -8,7 +8,7 @@ use Rattle.payload.specs.Frames.{noData}
 use Rattle.payload.specs.Codes.{noCode, codeFor}
 use Rattle.playout.specs.Sizes.{slots}
 use Rattle.playout.specs.Pairs.{order, isAfter}
-use Rattle.playout.specs.Entries.{Entry, Held, sideOfEntry, taken}
+use Rattle.playout.specs.Entries.{Entry, Held, sideOfEntry, slotUsed}
 use Rattle.playout.specs.Verdicts.{allWithin}
 
 -- the settings, and the entries in time order with the last pair drawn; the store goes beside it
@@ -30,7 +30,7 @@ inStretch (e ∷ es) = allWithin (e .time) (e ∷ es)
 -- slots distinct, each one of the 192
 unfoldable pub slotsApart : List Entry → Bool
 slotsApart [] = true
-slotsApart (e ∷ es) = ltb (e .slot) slots && not (taken (e .slot) es) && slotsApart es
+slotsApart (e ∷ es) = ltb (e .slot) slots && not (slotUsed (e .slot) es) && slotsApart es
 
 -- a class other than no data, and a length, such as reading under the format can give
 abbrev pub allowed : ℕ → ℕ → ℕ → Bool

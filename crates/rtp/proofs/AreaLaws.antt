@@ -4,7 +4,7 @@ use mathlib.Core.List.{List, [], _∷_, _++_, append-assoc, append-nil}
 use Prim.Native.Nat.{ℕ, zero, suc, _+_, _-_, _*_, _≤_, _<_}
 use native.Mathlib.Omega.{arith}
 use lib.ListN.{length, take, drop, set, length-append, length-drop, drop-of-length-le}
-use lib.Seq.{take-all, take-at, drop-at, drop-drop}
+use lib.Seq.{take-all, take-at, drop-at, drop-drop, length-take-le}
 use borrow.Rule.Slice.PartMut.{putMid}
 use Rattle.rtp.specs.Areas.{over}
 
@@ -49,3 +49,10 @@ part-length m l n h = rw (take-all (length m - n) (drop n m) (simp length-drop (
 -- a part to the end
 pub part-to-end : (n : ℕ) (s : List ℕ) → take (length s - n) (drop n s) ≡ drop n s
 part-to-end n s = take-all (length s - n) (drop n s) (simp length-drop (omega arith))
+
+-- a part cut out by its start and its end, and how long it is
+pub part-cut : (n k : ℕ) (s : List ℕ) → take (n + k - n) (drop n s) ≡ take k (drop n s)
+part-cut n k s = let e : n + k - n ≡ k = omega arith in ap (λ (m : ℕ). take m (drop n s)) e
+
+pub part-size : (s : List ℕ) (start n : ℕ) → start + n ≤ length s → length (take n (drop start s)) ≡ n
+part-size s start n h = length-take-le n (drop start s) (simp length-drop (omega arith))

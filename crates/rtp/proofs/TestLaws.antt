@@ -30,3 +30,7 @@ and-then a b p q = ap (λ (x : Bool). cond x b false) p ∙ q
 pub either : (a b : Bool) → cond a false b ≡ true → (a ≡ false) × (b ≡ true)
 either true b h = not-both false h refl
 either false b h = (refl, h)
+
+pub neither : (t b : Bool) → cond t true b ≡ false → (t ≡ false) × (b ≡ false)
+neither true b h = not-both true refl h
+neither false b h = (refl, h)

@@ -1,11 +1,5 @@
-pub mod HeaderBackLaws
-pub mod SameFrameLaws
-pub mod PayloadBackLaws
-pub mod PartLaws
-pub mod BlocksBackLaws
-pub mod PacketTheorem
 pub mod WordLaws
 pub mod ListsLaws
 pub mod PutLaws
-pub mod AgreeLaws
+pub mod ListPartLaws
 pub mod SendingLaws

@@ -17,13 +17,13 @@ use Rattle.rtp.proofs.TestLaws.{by-test}
 use Rattle.payload.specs.Contents.{Contents, refused, groups}
 use Rattle.payload.specs.Rows.{rowsIn}
 use Rattle.encoder.specs.declared.writing.Written.{Written}
-use Rattle.encoder.specs.Lists.{whole}
+use Rattle.encoder.specs.Lists.{whole, firstTime}
 use Rattle.encoder.specs.Plans.{maxPayload, plan}
 use Rattle.encoder.specs.Writings.{Numbers, writtenNumbers, plannedNumbers, refusedNumbers, measured}
-use Rattle.encoder.specs.Claims.{firstTime}
 use Rattle.encoder.proofs.PayloadLaws.{listed}
+use Rattle.sender.specs.Packets.{blockHeaderBytes}
 use Rattle.sender.specs.Parts.{maxOffset, maxBlock, primaryTime}
-use Rattle.sender.specs.Room.{blockHeaderOf, offsetOf, redundantNumbers, addNumbers, listsNumbers, listsHeaders, HeaderFits, HeadersFit, listBytes, listsPayloads, headersSize}
+use Rattle.sender.specs.Room.{offsetOf, redundantNumbers, addNumbers, listsNumbers, listsHeaders, HeaderFits, HeadersFit, listBytes, listsPayloads, listHeadersSize}
 use Rattle.sender.proofs.WordLaws.{rows-drop}
 
 -- The answer in numbers
@@ -151,13 +151,13 @@ module _ (st : Settings) (time : ℕ) where
   headers-one (n ∷ m ∷ ns) ws h = absurd (omega arith)
 
   pub headers-more : (counts ws : List ℕ) → 2 ≤ length counts → let n = rowWidth * getD counts 0 0 in
-      listsHeaders st time counts ws ≡ blockHeaderOf (st .«payload_type») (offsetOf time (take n ws)) (measured st (take n ws) .count) ++ listsHeaders st time (drop 1 counts) (drop n ws)
+      listsHeaders st time counts ws ≡ blockHeaderBytes (st .«payload_type») (offsetOf time (take n ws)) (measured st (take n ws) .count) ++ listsHeaders st time (drop 1 counts) (drop n ws)
   unfolding listsHeaders
   headers-more [] ws h = absurd (omega arith)
   headers-more (n ∷ []) ws h = absurd (omega arith)
   headers-more (n ∷ m ∷ ns) ws h = refl
 
-  pub length-headers : (counts ws : List ℕ) → length (listsHeaders st time counts ws) ≡ headersSize (length counts)
+  pub length-headers : (counts ws : List ℕ) → length (listsHeaders st time counts ws) ≡ listHeadersSize (length counts)
   unfolding listsHeaders
   length-headers [] ws = refl
   length-headers (n ∷ []) ws = refl

@@ -17,10 +17,10 @@ use Rattle.encoder.specs.Lists.{outside}
 use Rattle.encoder.specs.Writings.{Encoded, noBytes, bytesOf, roomFor, Numbers, encodedNumbers, encodedBytes}
 use Rattle.sender.specs.Parts.{maxRedundant, total, primaryTime, Part, Parts, noParts, partsOf, parts}
 use Rattle.sender.specs.Packets.{Heading, headerBytes, headersBytes, blocksBytes, bodyBytes, packetType, redundancyMissing, withinPacket, assembledFrom, countsFit, assembled, sending}
-use Rattle.sender.specs.Room.{Counted, listsNumbers, withinNumbers, packetNumbers, listsHeaders, listsPayloads, headersSize, PayloadsRoom, BlocksRoom, BytesRoom, PacketRoom}
+use Rattle.sender.specs.Room.{Counted, listsNumbers, withinNumbers, packetNumbers, listsHeaders, listsPayloads, listHeadersSize, PayloadsRoom, BlocksRoom, BytesRoom, PacketRoom}
 use Rattle.sender.proofs.ListsLaws.{number-some, length-headers}
 use Rattle.rtp.proofs.RangeLaws.{ranged}
-use Rattle.sender.proofs.AgreeLaws.{none-numbers, bytes-numbers, partsSize, Agrees, agrees}
+use Rattle.sender.proofs.ListPartLaws.{none-numbers, bytes-numbers, partsSize, Agrees, agrees}
 
 -- How many bytes
 
@@ -118,7 +118,7 @@ module _ (st : Settings) (h : Heading) (time : ℕ) (bytes counts ws : List ℕ)
         room = omega (arith, w .1);
         blocks = record {
           headers = record { counted = r .counted; some = r .some; fit = d .fit; room = omega (arith, w .1) };
-          payloads = payloads-room (area - minPacket - headersSize (length counts)) (omega (arith, w .1));
+          payloads = payloads-room (area - minPacket - listHeadersSize (length counts)) (omega (arith, w .1));
         };
         packet = rw a (all-bytes _ _ (w .0) ∙ ap (λ (s : List ℕ). headerBytes h (st .«redundancy_type») time ++ s) e);
       })

@@ -6,13 +6,14 @@ use Prim.Native.Nat.{ℕ, zero, suc, _+_, _-_, _*_, _%_, _≤_, _<_}
 use native.Mathlib.Omega.{arith}
 use lib.ListN.{length, getD, take, drop, length-drop}
 use lib.Seq.{length-take-le}
+use lib.Dec.{ltb}
 use Rattle.rtp.specs.Sizes.{rowWidth}
+use Rattle.rtp.proofs.TestLaws.{neither}
 use Rattle.payload.specs.Rows.{Row, rowOf, rowsIn}
 use Rattle.encoder.specs.Lists.{outside}
 pub use Rattle.encoder.proofs.BlockLaws.{rows-drop}
 use Rattle.sender.specs.Parts.{total}
 use Rattle.sender.specs.Room.{Counted}
-use Rattle.sender.proofs.SameFrameLaws.{outside-take, outside-drop}
 
 -- Rows of the first words, and of the others
 
@@ -30,6 +31,22 @@ rows-take zero ws = unfold rowsIn in refl
 rows-take (suc n) ws =
     let e : rowWidth * suc n ≡ suc (suc (suc (suc (rowWidth * n)))) = omega arith in
     ap (λ (k : ℕ). rowsIn (take k ws)) e ∙ more-rows n (λ l. rows-take n l) ws
+
+-- Rows inside their bytes, some of a list
+
+pub outside-take : (m n : ℕ) (rs : List Row) → outside m rs ≡ false → outside m (take n rs) ≡ false
+unfolding outside
+outside-take m zero rs h = refl
+outside-take m (suc n) [] h = refl
+outside-take m (suc n) (r ∷ rs) h =
+    let i = neither (ltb m (r .start + r .length)) (outside m rs) h in
+    rw (i .0) (outside-take m n rs (i .1))
+
+pub outside-drop : (m n : ℕ) (rs : List Row) → outside m rs ≡ false → outside m (drop n rs) ≡ false
+unfolding outside
+outside-drop m zero rs h = h
+outside-drop m (suc n) [] h = refl
+outside-drop m (suc n) (r ∷ rs) h = outside-drop m n rs (neither (ltb m (r .start + r .length)) (outside m rs) h .1)
 
 -- The counts and their words
 

@@ -1,4 +1,3 @@
 pub mod Parts
 pub mod Packets
-pub mod Claims
 pub mod Room

@@ -34,13 +34,12 @@ abbrev pub headerBytes : Heading → ℕ → ℕ → List ℕ
 headerBytes h type time = 128 ∷ (markerBit (h .marker) + type) ∷ (two (h .sequence) ++ (four time ++ four (h .source)))
 
 -- the four bytes of a redundant block's header: F and type, offset 14 bits, length 10 bits
-abbrev pub blockHeaderBytes : ℕ → Part → List ℕ
-blockHeaderBytes type b =
-    (128 + type) ∷ (b .offset / 64) ∷ (4 * (b .offset % 64) + length (b .bytes) / 256) ∷ (length (b .bytes) % 256) ∷ []
+abbrev pub blockHeaderBytes : ℕ → ℕ → ℕ → List ℕ
+blockHeaderBytes type offset size = (128 + type) ∷ (offset / 64) ∷ (4 * (offset % 64) + size / 256) ∷ (size % 256) ∷ []
 
 unfoldable pub headersBytes : ℕ → List Part → List ℕ
 headersBytes type [] = type ∷ []
-headersBytes type (b ∷ bs) = blockHeaderBytes type b ++ headersBytes type bs
+headersBytes type (b ∷ bs) = blockHeaderBytes type (b .offset) (length (b .bytes)) ++ headersBytes type bs
 
 unfoldable pub blocksBytes : List Part → List ℕ → List ℕ
 blocksBytes [] p = p

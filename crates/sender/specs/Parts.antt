@@ -1,14 +1,14 @@
 -- Document 01, "To write a packet": the frame lists of a packet, 0 to 4 redundant ones and then the primary one, as blocks.
-use Prim.Native.Nat.{ℕ, _+_, _*_}
-use mathlib.Core.List.{List, [], _∷_, _++_}
-use mathlib.Core.Bool.{Bool, true, false, cond}
+use Prim.Native.Nat.{ℕ, _+_}
+use mathlib.Core.List.{List, [], _∷_}
+use mathlib.Core.Bool.{cond}
 use lib.ListN.{length, take, drop}
 use lib.Dec.{ltb}
 use Rattle.rtp.specs.Time.{difference}
 use Rattle.rtp.specs.declared.settings.Settings.{Settings}
 use Rattle.payload.specs.Rows.{Row}
 use Rattle.encoder.specs.Writings.{Encoded, noBytes, bytesOf, encoded}
-use Rattle.encoder.specs.Claims.{firstTime}
+use Rattle.encoder.specs.Lists.{firstTime}
 
 -- the most redundant blocks of a packet, the largest offset and the most bytes of one
 abbrev pub maxRedundant : ℕ

@@ -1,5 +1,5 @@
 -- What the functions that write a packet ask of one another inside this crate: the lists of a packet as words, one after another.
-use Prim.Native.Nat.{ℕ, _+_, _-_, _*_, _/_, _%_, _≤_, _<_}
+use Prim.Native.Nat.{ℕ, _+_, _-_, _*_, _%_, _≤_, _<_}
 use mathlib.Core.Path.{_≡_}
 use mathlib.Core.List.{List, [], _∷_, _++_}
 use mathlib.Core.Bool.{true, false, cond}
@@ -10,15 +10,10 @@ use Rattle.rtp.specs.Ranges.{inRange, noRedundancy}
 use Rattle.rtp.specs.Time.{difference}
 use Rattle.rtp.specs.declared.settings.Settings.{Settings}
 use Rattle.rtp.specs.declared.refusal.Refusal.the-variants.{Unwritable}
-use Rattle.encoder.specs.Lists.{rowsIn, outside}
+use Rattle.encoder.specs.Lists.{rowsIn, outside, firstTime}
 use Rattle.encoder.specs.Writings.{Encoded, noBytes, bytesOf, encoded, encodedBytes, Numbers, refusedNumbers, measured}
-use Rattle.encoder.specs.Claims.{firstTime}
 use Rattle.sender.specs.Parts.{maxOffset, maxBlock, total, parts}
-use Rattle.sender.specs.Packets.{Heading, assembledFrom}
-
--- a redundant block's header by its numbers
-abbrev pub blockHeaderOf : ℕ → ℕ → ℕ → List ℕ
-blockHeaderOf type offset size = (128 + type) ∷ (offset / 64) ∷ (4 * (offset % 64) + size / 256) ∷ (size % 256) ∷ []
+use Rattle.sender.specs.Packets.{Heading, blockHeaderBytes, assembledFrom}
 
 -- the words are the lists' rows
 abbrev pub Counted : List ℕ → List ℕ → Type 0
@@ -66,7 +61,7 @@ unfoldable pub listsHeaders : Settings → ℕ → List ℕ → List ℕ → Lis
 listsHeaders st time [] ws = st .«payload_type» ∷ []
 listsHeaders st time (n ∷ []) ws = st .«payload_type» ∷ []
 listsHeaders st time (n ∷ m ∷ ns) ws =
-    blockHeaderOf (st .«payload_type») (offsetOf time (take (rowWidth * n) ws)) (measured st (take (rowWidth * n) ws) .count)
+    blockHeaderBytes (st .«payload_type») (offsetOf time (take (rowWidth * n) ws)) (measured st (take (rowWidth * n) ws) .count)
     ++ listsHeaders st time (m ∷ ns) (drop (rowWidth * n) ws)
 
 -- the numbers of a list's block header fit in it
@@ -109,13 +104,13 @@ pub record PayloadsRoom (st : Settings) (bytes counts ws : List ℕ) (area : ℕ
   pub counted : Counted counts ws
   pub room : length (listsPayloads st bytes counts ws) ≤ area
 
--- the block headers, and the payloads after them
-abbrev pub headersSize : ℕ → ℕ
-headersSize k = 1 + 4 * (k - 1)
+-- the block headers of k lists, and the payloads after them
+abbrev pub listHeadersSize : ℕ → ℕ
+listHeadersSize k = 1 + 4 * (k - 1)
 
 pub record BlocksRoom (st : Settings) (time : ℕ) (bytes counts ws : List ℕ) (area : ℕ) : Type 0 where
   pub headers : HeadersRoom st time counts ws area
-  pub payloads : PayloadsRoom st bytes counts ws (area - headersSize (length counts))
+  pub payloads : PayloadsRoom st bytes counts ws (area - listHeadersSize (length counts))
 
 -- Packets
 

@@ -6,8 +6,7 @@ ghost use lib.ListN.{length};
 ghost use Rattle.rtp.specs.Sizes.{minPacket};
 ghost use Rattle.rtp.specs.Areas.{over};
 ghost use Rattle.sender.specs.Parts.{maxOffset, maxBlock};
-ghost use Rattle.sender.specs.Packets.{two, four, markerBit, headerBytes};
-ghost use Rattle.sender.specs.Room.{blockHeaderOf};
+ghost use Rattle.sender.specs.Packets.{two, four, markerBit, headerBytes, blockHeaderBytes};
 
 // Numbers in two and four bytes, big-endian.
 fn put_u16(out: &mut [u8], n: u16)
@@ -77,7 +76,7 @@ pub(crate) fn put_header(
 // The four bytes of a redundant block's header.
 pub(crate) fn put_block_header(out: &mut [u8], payload_type: u8, offset: u32, size: usize)
     requires { ⌜ (4 ≤ length (now out)) × («payload_type» < 128) × (offset ≤ maxOffset) × (size ≤ maxBlock) ⌝ }
-    ensures { λ _. ⌜ now (out .exit) ≡ over (blockHeaderOf «payload_type» offset size) (now (out .entry)) ⌝ }
+    ensures { λ _. ⌜ now (out .exit) ≡ over (blockHeaderBytes «payload_type» offset size) (now (out .entry)) ⌝ }
 {
     out[0] = 128 + payload_type;
     out[1] = (offset / 64) as u8;

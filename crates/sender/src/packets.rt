@@ -18,8 +18,8 @@ ghost use Rattle.rtp.specs.Areas.{over};
 ghost use Rattle.encoder.specs.Lists.{rowsIn};
 ghost use Rattle.encoder.specs.Writings.{writtenNumbers, encodedNumbers, encodedBytes, measured};
 ghost use Rattle.sender.specs.Parts.{maxRedundant, parts};
-ghost use Rattle.sender.specs.Packets.{assembledFrom, sending};
-ghost use Rattle.sender.specs.Room.{Counted, blockHeaderOf, offsetOf, listsNumbers, withinNumbers, packetNumbers, HeaderFits, listsHeaders, HeadersRoom, listBytes, ListRoom, listsPayloads, PayloadsRoom, BlocksRoom, PacketRoom};
+ghost use Rattle.sender.specs.Packets.{assembledFrom, sending, blockHeaderBytes};
+ghost use Rattle.sender.specs.Room.{Counted, offsetOf, listsNumbers, withinNumbers, packetNumbers, HeaderFits, listsHeaders, HeadersRoom, listBytes, ListRoom, listsPayloads, PayloadsRoom, BlocksRoom, PacketRoom};
 
 // A packet of so many bytes is within 2,048.
 fn within_packet(size: usize) -> Written
@@ -53,7 +53,7 @@ fn packet_size(asked: Settings, time: u32, counts: &[u32], rows: &[u32]) -> Writ
 // The block header of a redundant list.
 fn put_list_header(asked: Settings, time: u32, rows: &[u32], out: &mut [u8])
     requires { ⌜ HeaderFits asked time (now rows) × (4 ≤ length (now out)) ⌝ }
-    ensures { λ _. ⌜ now (out .exit) ≡ over (blockHeaderOf (asked .«payload_type») (offsetOf time (now (rows .entry))) (measured asked (now (rows .entry)) .count)) (now (out .entry)) ⌝ }
+    ensures { λ _. ⌜ now (out .exit) ≡ over (blockHeaderBytes (asked .«payload_type») (offsetOf time (now (rows .entry))) (measured asked (now (rows .entry)) .count)) (now (out .entry)) ⌝ }
 {
     let offset = sizes::offset_of(time, rows);
     let size = sizes::list_size(asked, rows);

@@ -1,24 +1,22 @@
-use Rattle.payload.specs.Frames.{stepOf}
+use Rattle.payload.specs.Formats.{stepOf}
 use Rattle.encoder.specs.Plans.{gapBetween}
 use Rattle.encoder.specs.Room.{attachPlan}
 use Rattle.encoder.specs.declared.lists.RowWords.{RowWords}
-use mathlib.Core.List.{List, [], _∷_}
-use mathlib.Core.Bool.{true, false}
+use mathlib.Core.List.{List}
 use mathlib.Core.Path.{_≡_, ap, subst, sym, _∙_}
 use native.Mathlib.Omega.{arith}
 use denote.Ref.{now}
-use borrow.Author.Tests.{eq-eqb, ne-eqb}
 use Rattle.rtp.specs.Sizes.{rowWidth, maxRows}
 use Rattle.rtp.proofs.AreaLaws.{part-to-end}
 use Rattle.encoder.specs.declared.plans.Planned.{Planned}
 use Rattle.encoder.specs.Lists.{rowsIn}
 use Rattle.encoder.specs.Plans.{planFrom, nextChannel, follows}
 use Rattle.encoder.specs.Room.{rowAs, wordsAt, planAnswer, Small}
-use Rattle.encoder.proofs.ListLaws.{rows-none, rows-more, length-rows}
-use Rattle.encoder.proofs.PlanLaws.{plan-empty, plan-cut, plan-stop, plan-start, plan-go, answer-attach, small-plan, small-weaker, follows-short, next-below}
-use lib.ListN.{length, take, drop, length-drop}
+use Rattle.encoder.proofs.ListLaws.{length-rows}
+use Rattle.encoder.proofs.PlanLaws.{plan-empty, plan-cut, plan-stop, plan-start, plan-go, small-plan, small-weaker, follows-short, next-below}
+use lib.ListN.{length, drop, length-drop}
 use borrow.Author.Needs.{needs}
-use Prim.Native.Nat.{ℕ, _<_, _-_, _≤_, _/_}
+use Prim.Native.Nat.{ℕ, _<_, _-_, _≤_}
 use borrow.Fn.Kinds.{In, Out}
 use borrow.Fn.PlainCycle.{Measures, is, falls, and}
 use Rattle.encoder.proofs.plans.plan_from.Reads as plan-from

@@ -1,21 +1,14 @@
-use mathlib.Core.Path.{_≡_, subst}
-use Prim.Native.Nat.{ℕ, _+_, _*_, _≤_, _<_}
+use mathlib.Core.Path.{subst}
+use Prim.Native.Nat.{_+_, _*_, _≤_}
 use native.Mathlib.Omega.{arith}
-use native.Mathlib.Nat.{mul-le-mul-left, mul-le-mul-right}
-use Rattle.rtp.specs.Sizes.{maxRows, maxFrame}
-use Rattle.payload.specs.Contents.{entrySize}
+use Rattle.rtp.specs.Sizes.{maxRows}
 use Rattle.encoder.specs.declared.plans.Planned.{Planned}
 use Rattle.encoder.specs.Room.{SmallPlan, Small}
 use Rattle.encoder.proofs.PlanLaws.{block-frames, plan-frames, size-grows}
-use Rattle.encoder.specs.Room.{attachPlan}
-use borrow.Author.Tests.{le-ltb, lt-ltb, le-leb, lt-leb, eq-eqb, ne-eqb}
+use borrow.Author.Tests.{eq-eqb, ne-eqb}
 use borrow.Author.Needs.{needs}
 use Rattle.encoder.proofs.plans.attach_block.Statement.{statement}
 use Rattle.encoder.proofs.plans.attach_block.Tie as tie
-use Rattle.encoder.proofs.plans.attach_block.Reads as reads
-use Rattle.encoder.proofs.plans.attach_block.Lts as lts
-use Rattle.encoder.proofs.plans.joins_run.Reads as joins-run-reads
-use Rattle.payload.proofs.contents.entry_size.Reads as entry-size-reads
 
 -- the frame-block's bytes, and the numbers of the plan that it goes before
 here-at : (c : tie.Start) → c .args .channels * c .args .row .length ≤ 81600
@@ -23,6 +16,9 @@ here-at c = block-frames (c .args .channels) (c .args .row .length) (c .pre .cha
 
 small-at : (c : tie.After-rest) → SmallPlan (c .before .before .before .args .format) (c .before .before .before .args .channels) maxRows (c .rest .given .0 .0)
 small-at c = subst (λ (x : Planned). Small (c .before .before .before .args .format) (c .before .before .before .args .channels) maxRows x) (c .rest .given .1) (c .before .before .before .pre .small)
+
+tag-class-requires : tie.Need-tag-class-requires
+tag-class-requires c κs = search needs
 
 cast-frames : tie.Need-cast-frames
 cast-frames c = search needs
@@ -67,7 +63,6 @@ add-t21 : tie.Need-add-t21
 add-t21 c = omega (arith, small-at (c .before .before .before .before .before .before .before .before .before), c .entry-size3 .ensures, size-grows (c .before .before .before .before .before .before .before .before .before .before .before .before .args .format) (c .before .before .before .before .before .before .before .before .before .rest .given .0 .0 .blocks + 1))
 
 returns : tie.Need-returns
-unfolding attachPlan
 returns c = simp (c .before .before .before .before .before .before .before .before .before .rest .given .1, ← (c .before .before .before .before .before .before .joins-run .ensures), c .before .before .before .before .before .if1 .taken, ← (c .before .before .before .before .entry-size2 .ensures), ← (c .entry-size3 .ensures))
 
 entry-size-requires-4 : tie.Need-entry-size-requires-4
@@ -77,24 +72,22 @@ add-t25 : tie.Need-add-t25
 add-t25 c = omega (arith, small-at (c .before .before .before .before .before .before .before .before), c .before .entry-size4 .ensures, size-grows (c .before .before .before .before .before .before .before .before .before .before .before .args .format) 1)
 
 returns-2 : tie.Need-returns-2
-unfolding attachPlan
-returns-2 c = simp (c .before .before .before .before .before .before .before .before .rest .given .1, ← (c .before .before .before .before .before .joins-run .ensures), c .before .before .before .before .if1 .left, eq-eqb _ _ (c .before .before .if2 .taken), ← (c .before .entry-size4 .ensures))
+returns-2 c = simp (c .before .before .before .before .before .before .before .before .rest .given .1, c .before .before .before .before .before .before .before .before .before .before .tag-class .ensures, ← (c .before .before .before .before .before .joins-run .ensures), c .before .before .before .before .if1 .left, eq-eqb _ _ (c .before .before .if2 .taken), ← (c .before .entry-size4 .ensures))
 
 returns-3 : tie.Need-returns-3
 returns-3 c = search needs
 
 returns-4 : tie.Need-returns-4
-unfolding attachPlan
-returns-4 c = simp (c .before .enum-told2 .given .1, ← (c .entry-size .ensures))
+returns-4 c = simp (c .before .enum-told2 .given .1, c .before .before .before .tag-class .ensures, ← (c .entry-size .ensures))
 
 returns-5 : tie.Need-returns-5
-unfolding attachPlan
 returns-5 c = simp (c .before .before .before .before .before .before .rest .given .1, ← (c .before .before .before .joins-run .ensures), c .before .before .if1 .left, ne-eqb _ _ (c .if2 .left))
 
 pub attach-block-spec : {M : Type 1} → statement M
 attach-block-spec =
     tie.close
     (tie.spec
+    tag-class-requires
     cast-frames
     mul-frames
     enum-told

@@ -1,12 +1,7 @@
 use Rattle.encoder.specs.Plans.{gapBetween}
-use borrow.Author.Tests.{le-ltb, lt-ltb, le-leb, lt-leb, eq-eqb, ne-eqb}
 use borrow.Author.Needs.{needs}
 use Rattle.encoder.proofs.plans.gap_between.Statement.{statement}
 use Rattle.encoder.proofs.plans.gap_between.Tie as tie
-use Rattle.encoder.proofs.plans.gap_between.Reads as reads
-use Rattle.encoder.proofs.plans.gap_between.Lts as lts
-use Rattle.encoder.proofs.plans.in_steps.Reads as in-steps-reads
-use Rattle.encoder.proofs.plans.ticks_after.Reads as ticks-after-reads
 
 ticks-after-requires : tie.Need-ticks-after-requires
 ticks-after-requires c κs = search needs

@@ -1,10 +1,8 @@
 use Rattle.encoder.specs.Plans.{nextChannel}
-use borrow.Author.Tests.{le-ltb, lt-ltb, le-leb, lt-leb, eq-eqb, ne-eqb}
+use borrow.Author.Tests.{eq-eqb, ne-eqb}
 use borrow.Author.Needs.{needs}
 use Rattle.encoder.proofs.plans.next_channel.Statement.{statement}
 use Rattle.encoder.proofs.plans.next_channel.Tie as tie
-use Rattle.encoder.proofs.plans.next_channel.Reads as reads
-use Rattle.encoder.proofs.plans.next_channel.Lts as lts
 
 add-if1 : tie.Need-add-if1
 add-if1 c = search needs

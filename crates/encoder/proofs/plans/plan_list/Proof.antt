@@ -17,12 +17,6 @@ use Rattle.encoder.proofs.PlanLaws.{fittingPlan, list-none, list-many, 
 use borrow.Author.Needs.{needs}
 use Rattle.encoder.proofs.plans.plan_list.Statement.{statement}
 use Rattle.encoder.proofs.plans.plan_list.Tie as tie
-use Rattle.encoder.proofs.plans.plan_list.Reads as reads
-use Rattle.encoder.proofs.plans.plan_list.Lts as lts
-use Rattle.encoder.proofs.lists.row_at.Reads as row-at-reads
-use Rattle.encoder.proofs.plans.plan_from.Reads as plan-from-reads
-use Rattle.payload.proofs.frames.step_of.Reads as step-of-reads
-use Rattle.rtp.proofs.time.difference.Reads as difference-reads
 
 -- the plan of the rows, as it was made and as the list has it
 made-at : (c : tie.After-plan-from) → let a = c .before .before .before .before .before .before .before .args in

@@ -1,12 +1,7 @@
 use Rattle.encoder.specs.Plans.{ticksAfter}
-use borrow.Author.Tests.{le-ltb, lt-ltb, le-leb, lt-leb, eq-eqb, ne-eqb}
 use borrow.Author.Needs.{needs}
 use Rattle.encoder.proofs.plans.ticks_after.Statement.{statement}
 use Rattle.encoder.proofs.plans.ticks_after.Tie as tie
-use Rattle.encoder.proofs.plans.ticks_after.Reads as reads
-use Rattle.encoder.proofs.plans.ticks_after.Lts as lts
-use Rattle.payload.proofs.frames.step_of.Reads as step-of-reads
-use Rattle.rtp.proofs.time.difference.Reads as difference-reads
 
 step-of-requires : tie.Need-step-of-requires
 step-of-requires c κs = search needs

@@ -1,16 +1,17 @@
+use native.Mathlib.Omega.{arith}
+use Rattle.payload.proofs.FormatLaws.{step-fine}
 use borrow.Author.Needs.{needs}
-use Rattle.payload.specs.Frames.{stepOf}
-use borrow.Author.Tests.{le-ltb, lt-ltb, le-leb, lt-leb, eq-eqb, ne-eqb}
 use Rattle.encoder.proofs.plans.whole_steps.Statement.{statement}
 use Rattle.encoder.proofs.plans.whole_steps.Tie as tie
-use Rattle.encoder.proofs.plans.whole_steps.Reads as reads
-use Rattle.encoder.proofs.plans.whole_steps.Lts as lts
+
+step-of-requires : tie.Need-step-of-requires
+step-of-requires c κs = search needs
+
+rem-result : tie.Need-rem-result
+rem-result c = omega (arith, c .step-of .ensures, step-fine (c .before .args .format) .some)
 
 returns : tie.Need-returns
-returns c = simp (eq-eqb _ _ (c .if1 .taken))
-
-returns-2 : tie.Need-returns-2
-returns-2 c = simp (ne-eqb _ _ (c .if1 .left))
+returns c = simp (c .step-of .ensures)
 
 pub whole-steps-spec : {M : Type 1} → statement M
-whole-steps-spec = tie.close (tie.spec returns returns-2)
+whole-steps-spec = tie.close (tie.spec step-of-requires rem-result returns)

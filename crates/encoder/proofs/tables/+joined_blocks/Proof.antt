@@ -7,14 +7,15 @@ use lib.ListN.{length, getD, drop, length-drop}
 use denote.Ref.{now}
 use Rattle.rtp.specs.Sizes.{rowWidth}
 use Rattle.rtp.proofs.AreaLaws.{part-to-end}
-use Rattle.payload.specs.Frames.{stepOf}
+use Rattle.payload.specs.Formats.{stepOf}
+use Rattle.payload.specs.Rows.{tagClass}
 use Rattle.encoder.specs.declared.lists.RowWords.{RowWords}
 use Rattle.encoder.specs.Lists.{rowsIn}
-use Rattle.encoder.specs.Plans.{gapBetween, planFrom}
-use Rattle.encoder.specs.Room.{rowAs, wordsAt, joinsPlan, joined, Accepted}
+use Rattle.encoder.specs.Plans.{joinsRun, gapBetween, planFrom}
+use Rattle.encoder.specs.Room.{rowAs, wordsAt, joined, Accepted}
 use Rattle.encoder.proofs.RunLaws.{joined-none, joined-few, joined-rest, joined-words, joined-step}
 use borrow.Author.Needs.{needs}
-use Prim.Native.Nat.{ℕ, suc, _*_, _/_, _≤_, _<_}
+use Prim.Native.Nat.{ℕ, suc, _*_, _≤_, _<_}
 use borrow.Fn.Kinds.{In, Out}
 use borrow.Fn.PlainCycle.{Measures, is, falls, and}
 use Rattle.encoder.proofs.tables.joined_blocks.Reads as joined-blocks
@@ -22,6 +23,7 @@ use Rattle.encoder.proofs.tables.joined_blocks.Kinds as joined-blocks-k
 use Rattle.encoder.proofs.tables.+joined_blocks.Lts-joined_blocks as joined-blocks-lts
 use Rattle.encoder.proofs.lists.row_at.Reads as row-at-reads
 use Rattle.encoder.proofs.plans.gap_between.Reads as gap-between-reads
+use Rattle.payload.proofs.rows.tag_class.Reads as tag-class-reads
 use Rattle.encoder.proofs.plans.joins_run.Reads as joins-run-reads
 use Rattle.encoder.proofs.tables.+joined_blocks.{statement}
 use Rattle.encoder.proofs.tables.+joined_blocks.Tie.{close}
@@ -43,7 +45,7 @@ joined-blocks-below t =
 
 -- what the callees ask and give
 abbrev callees : ℕ → joined-blocks-lts.Claims
-callees t = (row-at-reads.Asked, row-at-reads.Learnt, gap-between-reads.Asked, gap-between-reads.Learnt, joins-run-reads.Asked, joins-run-reads.Learnt, joined-blocks-below t, joined-blocks.Post)
+callees t = (row-at-reads.Asked, row-at-reads.Learnt, gap-between-reads.Asked, gap-between-reads.Learnt, tag-class-reads.Asked, tag-class-reads.Learnt, joins-run-reads.Asked, joins-run-reads.Learnt, joined-blocks-below t, joined-blocks.Post)
 
 -- a need or a place at the measure t
 abbrev At : (joined-blocks-lts.Claims → In 1 joined-blocks-kinds.ps → Out 1 joined-blocks-kinds.ps joined-blocks-kinds.r → Type 0) → ℕ → Type 0
@@ -51,12 +53,13 @@ At P t = P (callees t) (joined-blocks-at t) joined-blocks.Post
 
 -- whether the frame-block at the front joins, as the list has it
 joins-at : (t : ℕ) (c : At joined-blocks-lts.After-joins-run t) → let a = c .before .before .before .before .before .before .args in let ws = now (a .rows) in
-    joinsPlan (a .format) (rowAs (a .row)) (getD ws 1 0 / 256) (getD ws 3 0) (gapBetween (stepOf (a .format)) (a .row .time) (getD ws 0 0)) ≡ c .joins-run .result
+    joinsRun (a .format) (rowAs (a .row)) (tagClass (getD ws 1 0)) (getD ws 3 0) (gapBetween (stepOf (a .format)) (a .row .time) (getD ws 0 0)) ≡ c .joins-run .result
 joins-at t c =
     let a = c .before .before .before .before .before .before .args in
     sym (c .joins-run .ensures
-    ∙ ap (λ (g : ℕ). joinsPlan (a .format) (rowAs (a .row)) (c .before .before .before .row-at .result .tag / 256) (c .before .before .before .row-at .result .length) g) (c .before .before .gap-between .ensures)
-    ∙ ap (λ (w : RowWords). joinsPlan (a .format) (rowAs (a .row)) (w .tag / 256) (w .length) (gapBetween (stepOf (a .format)) (a .row .time) (w .time))) (c .before .before .before .row-at .ensures))
+    ∙ ap (λ (k : ℕ). joinsRun (a .format) (rowAs (a .row)) k (c .before .before .before .row-at .result .length) (c .before .before .gap-between .result)) (c .before .tag-class .ensures)
+    ∙ ap (λ (g : ℕ). joinsRun (a .format) (rowAs (a .row)) (tagClass (c .before .before .before .row-at .result .tag)) (c .before .before .before .row-at .result .length) g) (c .before .before .gap-between .ensures)
+    ∙ ap (λ (w : RowWords). joinsRun (a .format) (rowAs (a .row)) (tagClass (w .tag)) (w .length) (gapBetween (stepOf (a .format)) (a .row .time) (w .time))) (c .before .before .before .row-at .ensures))
 
 words-at : (t : ℕ) (c : At joined-blocks-lts.Else1 t) → rowWidth * c .before .before .args .channels ≤ length (now (c .before .before .args .rows))
 words-at t c = let a = c .before .before .args in let q = c .before .before .pre .1 in joined-words (a .format) (a .channels) (rowAs (a .row)) (now (a .rows)) (q .some) (q .planned) (c .if1 .left)
@@ -82,6 +85,9 @@ joined-blocks-row-at-requires t c κs = search needs
 
 joined-blocks-gap-between-requires : (t : ℕ) → At joined-blocks-lts.Need-gap-between-requires t
 joined-blocks-gap-between-requires t c κs = search needs
+
+joined-blocks-tag-class-requires : (t : ℕ) → At joined-blocks-lts.Need-tag-class-requires t
+joined-blocks-tag-class-requires t c κs = search needs
 
 joined-blocks-joins-run-requires : (t : ℕ) → At joined-blocks-lts.Need-joins-run-requires t
 joined-blocks-joins-run-requires t c κs = search needs
@@ -135,6 +141,7 @@ pub +joined-blocks-spec : {M : Type 1} → statement M
     (joined-blocks-returns t)
     (joined-blocks-row-at-requires t)
     (joined-blocks-gap-between-requires t)
+    (joined-blocks-tag-class-requires t)
     (joined-blocks-joins-run-requires t)
     (joined-blocks-mul-width t)
     (joined-blocks-mul-joined-blocks t)

@@ -9,8 +9,6 @@ use Rattle.rtp.proofs.AreaLaws.{over-none}
 use Rattle.encoder.proofs.StoreLaws.{over-next, over-whole}
 use Rattle.encoder.proofs.tables.copy_bytes.Statement.{statement}
 use Rattle.encoder.proofs.tables.copy_bytes.Tie as tie
-use Rattle.encoder.proofs.tables.copy_bytes.Reads as reads
-use Rattle.encoder.proofs.tables.copy_bytes.Lts as lts
 
 abbrev Inv-loop : tie.InvT-loop
 Inv-loop out₀ src i₀ out i = (i ≤ length src) × (length out ≡ length out₀) × (out ≡ over (take i src) out₀)

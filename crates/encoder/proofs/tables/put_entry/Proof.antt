@@ -1,91 +1,88 @@
-use mathlib.Core.Path.{_≡_, ap, subst, sym, _∙_}
-use Prim.Native.Nat.{_/_, _<_}
+use mathlib.Core.Path.{_≡_, ap, sym, subst, _∙_}
+use Prim.Native.Nat.{ℕ, _-_, _≤_}
 use native.Mathlib.Omega.{arith}
-use lib.ListN.{length, set, length-set}
+use lib.ListN.{length}
 use denote.Ref.{now}
+use Rattle.rtp.specs.Areas.{over}
 use Rattle.rtp.proofs.AreaLaws.{part-length}
+use Rattle.payload.specs.declared.formats.Format.{Format}
+use Rattle.payload.specs.Rows.{tagClass}
 use Rattle.encoder.specs.declared.lists.RowWords.{RowWords}
-use Rattle.payload.specs.Codes.{noCode, codeFor}
-use Rattle.encoder.specs.Room.{rowAs, wordsAt, firstByte}
-use Rattle.encoder.proofs.EntryLaws.{room-one, room-two, room-gaps, put-gsm, put-basic, put-interleaved}
+use Rattle.encoder.specs.Bytes.{startBytes}
+use Rattle.encoder.specs.Room.{rowAs, wordsAt, GapRoom, StartRoom}
+use Rattle.encoder.proofs.EntryLaws.{room-start, room-gaps, put-plain, put-displaced}
 use borrow.Author.Needs.{needs}
 use Rattle.encoder.proofs.tables.put_entry.Statement.{statement}
 use Rattle.encoder.proofs.tables.put_entry.Tie as tie
-use Rattle.encoder.proofs.tables.put_entry.Reads as reads
-use Rattle.encoder.proofs.tables.put_entry.Lts as lts
-use Rattle.encoder.proofs.lists.row_at.Reads as row-at-reads
-use Rattle.encoder.proofs.tables.first_byte.Reads as first-byte-reads
-use Rattle.encoder.proofs.tables.put_gaps.Reads as put-gaps-reads
 
--- the first byte, as the list has it
-byte-is : (c : tie.After-first-byte) → let a = c .before .before .before .before .before .args in let ws = now (a .rows) in c .first-byte .result ≡ firstByte (a .format) (a .more) (rowAs (wordsAt ws 0) .class) (rowAs (wordsAt ws 0) .length)
-byte-is c = let a = c .before .before .before .before .before .args in c .first-byte .ensures ∙ ap (λ (w : RowWords). firstByte (a .format) (a .more) (w .tag / 256) (w .length)) (c .before .before .row-at .ensures)
+-- the bytes before the displacements, as the list has them
+start-at : (c : tie.After-put-start) → let a = c .before .before .before .before .before .before .args in let ws = now (a .rows) in
+    c .put-start .last .1 .1 .1 .1 .1 .0 ≡ over (startBytes (a .format) (a .more) (rowAs (wordsAt ws 0) .class) (rowAs (wordsAt ws 0) .length) (a .blocks)) (now (a .out))
+start-at c =
+    let a = c .before .before .before .before .before .before .args in
+    c .put-start .ensures
+    ∙ ap (λ (k : ℕ). over (startBytes (a .format) (a .more) k (c .before .before .before .row-at .result .length) (a .blocks)) (now (a .out))) (c .before .before .tag-class .ensures)
+    ∙ ap (λ (w : RowWords). over (startBytes (a .format) (a .more) (tagClass (w .tag)) (w .length) (a .blocks)) (now (a .out))) (c .before .before .before .row-at .ensures)
+
+-- the displacements come after them
+within-at : (c : tie.After-min-entry) → c .min-entry .result ≤ length (c .before .before .before .before .before .put-start .last .1 .1 .1 .1 .1 .0)
+within-at c = let a = c .before .before .before .before .before .before .before .before .before .before .before .args in omega (arith, c .min-entry .ensures, c .before .before .before .before .before .put-start .kept .1 .1 .1 .1 .1 .0, room-start (a .format) (a .width) (a .blocks) (a .previous) (now (a .rows)) (length (now (a .out))) (c .before .before .before .before .before .before .before .before .before .before .before .pre) .room)
 
 row-at-requires : tie.Need-row-at-requires
 row-at-requires c κs = search needs
 
-first-byte-requires : tie.Need-first-byte-requires
-first-byte-requires c κs = let a = c .before .before .before .before .args in subst (λ (w : RowWords). codeFor (a .format) (w .tag / 256) (w .length) < noCode) (sym (c .before .row-at .ensures)) (c .before .before .before .before .pre .coded)
+tag-class-requires : tie.Need-tag-class-requires
+tag-class-requires c κs = search needs
 
-slice-write-out : tie.Need-slice-write-out
-slice-write-out c = let a = c .before .before .before .before .before .args in omega (arith, room-one (a .format) (a .width) (a .blocks) (a .previous) (now (a .rows)) (length (now (a .out))) (c .before .before .before .before .before .pre))
+put-start-requires : tie.Need-put-start-requires
+put-start-requires c κs = let a = c .before .before .before .before .before .args in subst (λ (k : ℕ). StartRoom (a .format) k (c .before .before .row-at .result .length) (a .blocks) (length (now (a .out)))) (sym (c .before .tag-class .ensures))
+    (subst (λ (w : RowWords). StartRoom (a .format) (tagClass (w .tag)) (w .length) (a .blocks) (length (now (a .out)))) (sym (c .before .before .row-at .ensures)) (room-start (a .format) (a .width) (a .blocks) (a .previous) (now (a .rows)) (length (now (a .out))) (c .before .before .before .before .before .pre)))
 
-same-length : tie.Need-same-length
-same-length c = search needs
+format-of-requires : tie.Need-format-of-requires
+format-of-requires c κs = search needs
 
-returns : tie.Need-returns
-returns c = let a = c .before .before .before .before .before .before .args in put-gsm (a .format) (a .width) (a .blocks) (a .previous) (now (a .rows)) (a .more) (now (a .out)) _ (byte-is (c .before)) (c .if1 .taken) (room-one (a .format) (a .width) (a .blocks) (a .previous) (now (a .rows)) (length (now (a .out))) (c .before .before .before .before .before .before .pre))
-
-cast-out : tie.Need-cast-out
-cast-out c = search needs
-
-slice-write-out-2 : tie.Need-slice-write-out-2
-slice-write-out-2 c = let a = c .before .before .before .before .before .before .args in simp length-set (omega (arith, room-two (a .format) (a .width) (a .blocks) (a .previous) (now (a .rows)) (length (now (a .out))) (c .before .before .before .before .before .before .pre) (c .if1 .left)))
+min-entry-requires : tie.Need-min-entry-requires
+min-entry-requires c κs = search needs
 
 sub-put-gaps : tie.Need-sub-put-gaps
-sub-put-gaps c = let a = c .before .before .before .before .before .before .before .args in simp length-set (omega (arith, room-two (a .format) (a .width) (a .blocks) (a .previous) (now (a .rows)) (length (now (a .out))) (c .before .before .before .before .before .before .before .pre) (c .before .if1 .left)))
+sub-put-gaps c = within-at c
 
 part-put-gaps-start : tie.Need-part-put-gaps-start
-part-put-gaps-start c = let a = c .before .before .before .before .before .before .before .args in simp length-set (omega (arith, room-two (a .format) (a .width) (a .blocks) (a .previous) (now (a .rows)) (length (now (a .out))) (c .before .before .before .before .before .before .before .pre) (c .before .if1 .left)))
+part-put-gaps-start c = omega (arith, within-at c)
 
 part-put-gaps-end : tie.Need-part-put-gaps-end
 part-put-gaps-end c = search needs
 
 put-gaps-requires : tie.Need-put-gaps-requires
-put-gaps-requires c κs = let a = c .before .before .before .before .before .before .before .before .args in
-    let m = set (set (now (a .out)) 0 (c .before .before .before .first-byte .result)) 1 (a .blocks) in
-    rw (part-length m (now (a .out)) 2 (simp length-set)) (room-gaps (a .format) (a .width) (a .blocks) (a .previous) (now (a .rows)) (length (now (a .out))) (c .before .before .before .before .before .before .before .before .pre) (c .before .before .if1 .left) (c .before .if2 .taken))
+put-gaps-requires c κs = let a = c .before .before .before .before .before .before .before .before .before .before .before .before .args in rw (part-length (c .before .before .before .before .before .before .put-start .last .1 .1 .1 .1 .1 .0) (now (a .out)) (c .before .min-entry .result) (c .before .before .before .before .before .before .put-start .kept .1 .1 .1 .1 .1 .0))
+    (subst (λ (k : ℕ). GapRoom (a .format) (a .width) (a .blocks) (a .previous) (now (a .rows)) (length (now (a .out)) - k)) (sym (c .before .min-entry .ensures)) (room-gaps (a .format) (a .width) (a .blocks) (a .previous) (now (a .rows)) (length (now (a .out))) (c .before .before .before .before .before .before .before .before .before .before .before .before .pre) (ap (λ (f : Format). f .displaced) (sym (c .before .before .before .format-of .ensures)) ∙ c .before .before .if1 .taken)))
+
+same-length : tie.Need-same-length
+same-length c = search needs
+
+returns : tie.Need-returns
+returns c = let a = c .before .before .before .before .before .before .before .before .before .before .before .before .before .before .before .args in put-displaced (a .format) (a .width) (a .blocks) (a .previous) (now (a .rows)) (a .more) (now (a .out)) (c .before .before .before .before .before .before .before .before .before .put-start .last .1 .1 .1 .1 .1 .0) (start-at (c .before .before .before .before .before .before .before .before .before)) (ap (λ (f : Format). f .displaced) (sym (c .before .before .before .before .before .before .format-of .ensures)) ∙ c .before .before .before .before .before .if1 .taken) _ (c .before .before .before .before .min-entry .ensures) _ (c .before .before .put-gaps .ensures)
 
 same-length-2 : tie.Need-same-length-2
-same-length-2 c = let a = c .before .before .before .before .before .before .before .before .before .before .before .args in
-    let v = c .before .before .before .before .before .before .first-byte .result in
-    omega (arith, length-set (set (now (a .out)) 0 v) 1 (a .blocks), length-set (now (a .out)) 0 v)
+same-length-2 c = search needs
 
 returns-2 : tie.Need-returns-2
-returns-2 c = let a = c .before .before .before .before .before .before .before .before .before .before .before .args in put-interleaved (a .format) (a .width) (a .blocks) (a .previous) (now (a .rows)) (a .more) (now (a .out)) _ (byte-is (c .before .before .before .before .before .before)) (c .before .before .before .before .before .if1 .left) (room-two (a .format) (a .width) (a .blocks) (a .previous) (now (a .rows)) (length (now (a .out))) (c .before .before .before .before .before .before .before .before .before .before .before .pre) (c .before .before .before .before .before .if1 .left)) (c .before .before .before .before .if2 .taken) _ (c .before .before .put-gaps .ensures)
-
-same-length-3 : tie.Need-same-length-3
-same-length-3 c = search needs
-
-returns-3 : tie.Need-returns-3
-returns-3 c = let a = c .before .before .before .before .before .before .before .args in put-basic (a .format) (a .width) (a .blocks) (a .previous) (now (a .rows)) (a .more) (now (a .out)) _ (byte-is (c .before .before)) (c .before .if1 .left) (room-two (a .format) (a .width) (a .blocks) (a .previous) (now (a .rows)) (length (now (a .out))) (c .before .before .before .before .before .before .before .pre) (c .before .if1 .left)) (c .if2 .left)
+returns-2 c = let a = c .before .before .before .before .before .before .before .before .before .before .args in put-plain (a .format) (a .width) (a .blocks) (a .previous) (now (a .rows)) (a .more) (now (a .out)) (c .before .before .before .before .put-start .last .1 .1 .1 .1 .1 .0) (start-at (c .before .before .before .before)) (ap (λ (f : Format). f .displaced) (sym (c .before .format-of .ensures)) ∙ c .if1 .left)
 
 pub put-entry-spec : {M : Type 1} → statement M
 put-entry-spec =
     tie.close
     (tie.spec
     row-at-requires
-    first-byte-requires
-    slice-write-out
-    same-length
-    returns
-    cast-out
-    slice-write-out-2
+    tag-class-requires
+    put-start-requires
+    format-of-requires
+    min-entry-requires
     sub-put-gaps
     part-put-gaps-start
     part-put-gaps-end
     put-gaps-requires
+    same-length
+    returns
     same-length-2
-    returns-2
-    same-length-3
-    returns-3)
+    returns-2)

@@ -6,7 +6,7 @@ use denote.Ref.{now}
 use Rattle.rtp.specs.Time.{difference}
 use Rattle.rtp.specs.Areas.{over}
 use Rattle.rtp.proofs.AreaLaws.{part-length}
-use Rattle.payload.specs.Frames.{stepOf}
+use Rattle.payload.specs.Formats.{stepOf}
 use Rattle.encoder.specs.Lists.{rowsIn}
 use Rattle.encoder.specs.Plans.{planFrom}
 use Rattle.encoder.specs.Room.{timed, TableRoom, planBytes}
@@ -14,12 +14,6 @@ use Rattle.encoder.proofs.PayloadLaws.{payload-row, payload-table, tabl
 use borrow.Author.Needs.{needs}
 use Rattle.encoder.proofs.writing.put_payload.Statement.{statement}
 use Rattle.encoder.proofs.writing.put_payload.Tie as tie
-use Rattle.encoder.proofs.writing.put_payload.Reads as reads
-use Rattle.encoder.proofs.writing.put_payload.Lts as lts
-use Rattle.encoder.proofs.tables.put_frames.Reads as put-frames-reads
-use Rattle.encoder.proofs.tables.put_table.Reads as put-table-reads
-use Rattle.payload.proofs.frames.step_of.Reads as step-of-reads
-use Rattle.rtp.proofs.time.difference.Reads as difference-reads
 
 -- the place before the list's first frame-block
 previous-is : (c : tie.After-difference) → let a = c .before .before .before .before .before .before .args in c .difference .result ≡ difference (getD (now (a .rows)) 0 0) (stepOf (a .format))

@@ -1,4 +1,5 @@
-use Rattle.heolstorpit.proofs.AnswerLaws.{unwritten-numbers, written-numbers, count-fits}
+use Rattle.heolstorpit.proofs.AnswerLaws.{unwritten-numbers, written-numbers}
+use Rattle.heolstorpit.proofs.SizeLaws.{payload-count-fits}
 use native.Mathlib.Omega.{arith}
 use mathlib.Core.Path.{_∙_}
 use borrow.Author.Needs.{needs}
@@ -22,7 +23,7 @@ enum-known-count : tie.Need-enum-known-count
 enum-known-count c = search needs
 
 cast-t12 : tie.Need-cast-t12
-cast-t12 c = omega (arith, count-fits _ _ _ _ _ _ (λ i. c .before .before .before .before .before .before .before .before .before .shared-slice-known .given i .fits) (c .before .count .given .1) (c .before .before .before .before .before .write-payload .ensures .0))
+cast-t12 c = omega (arith, payload-count-fits _ _ _ _ _ _ (c .before .count .given .1) (c .before .before .before .before .before .write-payload .ensures .0))
 
 same-length : tie.Need-same-length
 same-length c = search needs

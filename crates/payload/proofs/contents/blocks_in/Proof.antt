@@ -1,26 +1,25 @@
+use Rattle.payload.specs.Contents.{minEntry}
 use native.Mathlib.Omega.{arith}
-use Rattle.payload.specs.Contents.{blocksIn}
-use borrow.Author.Tests.{le-ltb, lt-ltb, le-leb, lt-leb, eq-eqb, ne-eqb}
 use borrow.Author.Needs.{needs}
 use Rattle.payload.proofs.contents.blocks_in.Statement.{statement}
 use Rattle.payload.proofs.contents.blocks_in.Tie as tie
-use Rattle.payload.proofs.contents.blocks_in.Reads as reads
-use Rattle.payload.proofs.contents.blocks_in.Lts as lts
-use Rattle.rtp.proofs.bytes.wide.Reads as wide-reads
 
-returns : tie.Need-returns
-unfolding blocksIn
-returns c = (simp (eq-eqb _ _ (c .if1 .taken)), omega arith)
+format-of-requires : tie.Need-format-of-requires
+format-of-requires c κs = search needs
 
 shared-slice-read-wide : tie.Need-shared-slice-read-wide
-shared-slice-read-wide c = omega (arith, simp (ne-eqb _ _ (c .before .if1 .left)) at (c .before .before .before .pre))
+unfolding minEntry
+shared-slice-read-wide c = omega (arith, rw (← (c .before .before .format-of .ensures), c .before .if1 .taken) at (c .before .before .before .before .pre))
 
 wide-requires : tie.Need-wide-requires
 wide-requires c κs = search needs
 
+returns : tie.Need-returns
+returns c = (simp (← (c .before .before .before .format-of .ensures), c .before .before .if1 .taken) (c .wide .ensures .0), omega arith)
+
 returns-2 : tie.Need-returns-2
-unfolding blocksIn
-returns-2 c = (simp (ne-eqb _ _ (c .before .before .if1 .left), ← (c .wide .ensures .0)), omega arith)
+returns-2 c = (simp (← (c .before .format-of .ensures), c .if1 .left), omega arith)
 
 pub blocks-in-spec : {M : Type 1} → statement M
-blocks-in-spec = tie.close (tie.spec returns shared-slice-read-wide wide-requires returns-2)
+blocks-in-spec =
+    tie.close (tie.spec format-of-requires shared-slice-read-wide wide-requires returns returns-2)

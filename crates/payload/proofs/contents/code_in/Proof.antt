@@ -1,19 +1,21 @@
+use native.Mathlib.Nat.{mod-lt}
+use mathlib.Core.Path.{refl}
+use Rattle.payload.proofs.FormatLaws.{code-placed}
 use borrow.Author.Needs.{needs}
-use native.Mathlib.Omega.{arith}
-use Rattle.payload.specs.Contents.{codeIn}
-use borrow.Author.Tests.{le-ltb, lt-ltb, le-leb, lt-leb, eq-eqb, ne-eqb}
 use Rattle.payload.proofs.contents.code_in.Statement.{statement}
 use Rattle.payload.proofs.contents.code_in.Tie as tie
-use Rattle.payload.proofs.contents.code_in.Reads as reads
-use Rattle.payload.proofs.contents.code_in.Lts as lts
+
+format-of-requires : tie.Need-format-of-requires
+format-of-requires c κs = search needs
+
+div-result : tie.Need-div-result
+div-result c = rw (c .before .format-of .ensures) (code-placed (c .before .before .args .format) .weighted)
+
+rem-result : tie.Need-rem-result
+rem-result c = rw (c .before .before .format-of .ensures) (code-placed (c .before .before .before .args .format) .some)
 
 returns : tie.Need-returns
-unfolding codeIn
-returns c = (simp (eq-eqb _ _ (c .if1 .taken)), omega arith)
-
-returns-2 : tie.Need-returns-2
-unfolding codeIn
-returns-2 c = (simp (ne-eqb _ _ (c .if1 .left)), omega arith)
+returns c = rw (c .before .before .format-of .ensures) (refl, mod-lt _ (code-placed (c .before .before .before .args .format) .some))
 
 pub code-in-spec : {M : Type 1} → statement M
-code-in-spec = tie.close (tie.spec returns returns-2)
+code-in-spec = tie.close (tie.spec format-of-requires div-result rem-result returns)

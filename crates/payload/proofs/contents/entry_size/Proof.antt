@@ -1,29 +1,31 @@
+use Rattle.payload.specs.Contents.{gapsSize, entrySize}
 use native.Mathlib.Omega.{arith}
-use Rattle.payload.specs.Contents.{entrySize}
-use borrow.Author.Tests.{le-ltb, lt-ltb, le-leb, lt-leb, eq-eqb, ne-eqb}
+use Rattle.payload.proofs.EntryLaws.{min-few}
 use borrow.Author.Needs.{needs}
 use Rattle.payload.proofs.contents.entry_size.Statement.{statement}
 use Rattle.payload.proofs.contents.entry_size.Tie as tie
-use Rattle.payload.proofs.contents.entry_size.Reads as reads
-use Rattle.payload.proofs.contents.entry_size.Lts as lts
 
-returns : tie.Need-returns
-unfolding entrySize
-returns c = simp (eq-eqb _ _ (c .if1 .taken))
+min-entry-requires : tie.Need-min-entry-requires
+min-entry-requires c κs = search needs
+
+format-of-requires : tie.Need-format-of-requires
+format-of-requires c κs = search needs
 
 add-result : tie.Need-add-result
 add-result c = search needs
 
 add-result-2 : tie.Need-add-result-2
-add-result-2 c = search needs
+add-result-2 c = omega (arith, c .before .before .min-entry .ensures, min-few (c .before .before .before .args .format))
+
+returns : tie.Need-returns
+unfolding entrySize gapsSize
+returns c = simp (← (c .before .before .min-entry .ensures), ← (c .before .format-of .ensures), c .if1 .taken) (omega arith)
 
 returns-2 : tie.Need-returns-2
-unfolding entrySize
-returns-2 c = simp (ne-eqb _ _ (c .before .if1 .left), eq-eqb _ _ (c .if2 .taken)) (omega arith)
-
-returns-3 : tie.Need-returns-3
-unfolding entrySize
-returns-3 c = simp (ne-eqb _ _ (c .before .if1 .left), ne-eqb _ _ (c .if2 .left))
+unfolding entrySize gapsSize
+returns-2 c = simp (← (c .before .before .min-entry .ensures), ← (c .before .format-of .ensures), c .if1 .left) (omega arith)
 
 pub entry-size-spec : {M : Type 1} → statement M
-entry-size-spec = tie.close (tie.spec returns add-result add-result-2 returns-2 returns-3)
+entry-size-spec =
+    tie.close
+    (tie.spec min-entry-requires format-of-requires add-result add-result-2 returns returns-2)

@@ -1,18 +1,10 @@
 use native.Mathlib.Omega.{arith}
 use Rattle.payload.proofs.EntryLaws.{min-some}
 use Rattle.payload.specs.Contents.{entryOf}
-use borrow.Author.Tests.{le-ltb, lt-ltb, le-leb, lt-leb, eq-eqb, ne-eqb}
+use borrow.Author.Tests.{le-ltb, lt-ltb, eq-eqb, ne-eqb}
 use borrow.Author.Needs.{needs}
 use Rattle.payload.proofs.contents.read_entry.Statement.{statement}
 use Rattle.payload.proofs.contents.read_entry.Tie as tie
-use Rattle.payload.proofs.contents.read_entry.Reads as reads
-use Rattle.payload.proofs.contents.read_entry.Lts as lts
-use Rattle.payload.proofs.contents.blocks_in.Reads as blocks-in-reads
-use Rattle.payload.proofs.contents.code_in.Reads as code-in-reads
-use Rattle.payload.proofs.contents.entry_size.Reads as entry-size-reads
-use Rattle.payload.proofs.contents.min_entry.Reads as min-entry-reads
-use Rattle.payload.proofs.frames.frame_of.Reads as frame-of-reads
-use Rattle.rtp.proofs.bytes.wide.Reads as wide-reads
 
 min-entry-requires : tie.Need-min-entry-requires
 min-entry-requires c κs = search needs

@@ -1,24 +1,20 @@
-use Rattle.payload.specs.Frames.{stepOf}
-use borrow.Author.Tests.{le-ltb, lt-ltb, le-leb, lt-leb, eq-eqb, ne-eqb}
+use Prim.Native.Nat.{ℕ, _*_, _≤_}
+use mathlib.Core.Path.{ap}
+use native.Mathlib.Omega.{arith}
+use native.Mathlib.Nat.{mul-le-mul-left}
+use Rattle.payload.proofs.FormatLaws.{maxStep, step-fine}
 use borrow.Author.Needs.{needs}
 use Rattle.payload.proofs.frames.ticks.Statement.{statement}
 use Rattle.payload.proofs.frames.ticks.Tie as tie
-use Rattle.payload.proofs.frames.ticks.Reads as reads
-use Rattle.payload.proofs.frames.ticks.Lts as lts
+
+step-of-requires : tie.Need-step-of-requires
+step-of-requires c κs = search needs
 
 mul-result : tie.Need-mul-result
-mul-result c = search needs
-
-mul-result-2 : tie.Need-mul-result-2
-mul-result-2 c = search needs
+mul-result c = let s : c .step-of .result ≤ maxStep = omega (arith, c .step-of .ensures, step-fine (c .before .args .format) .small) in omega (arith, mul-le-mul-left (c .before .args .blocks) s, c .before .pre)
 
 returns : tie.Need-returns
-unfolding stepOf
-returns c = simp (eq-eqb _ _ (c .if1 .taken))
-
-returns-2 : tie.Need-returns-2
-unfolding stepOf
-returns-2 c = simp (ne-eqb _ _ (c .if1 .left))
+returns c = ap (λ (n : ℕ). c .before .args .blocks * n) (c .step-of .ensures)
 
 pub ticks-spec : {M : Type 1} → statement M
-ticks-spec = tie.close (tie.spec mul-result mul-result-2 returns returns-2)
+ticks-spec = tie.close (tie.spec step-of-requires mul-result returns)

@@ -1,6 +1,6 @@
 use native.Mathlib.Omega.{arith}
 use Prim.Native.Nat.{Ordering·lt, Ordering·eq, Ordering·gt}
-use Rattle.playout.proofs.MergeLaws.{compare-is}
+use Rattle.playout.proofs.InsertionLaws.{compare-is}
 use Rattle.playout.specs.Pairs.{order}
 use borrow.Author.Tests.{eq-eqb, ne-eqb}
 use borrow.Author.Needs.{needs}

@@ -2,8 +2,8 @@ use mathlib.Core.Path.{_≡_, _∙_, ap}
 use mathlib.Core.List.{List}
 use Prim.Native.Nat.{ℕ, _+_, _-_, _*_, _≤_, _<_}
 use native.Mathlib.Omega.{arith}
-use lib.ListN.{length, getD, take, drop, length-drop}
-use lib.Seq.{length-take-le}
+use lib.ListN.{length, getD, take, drop}
+use Rattle.rtp.proofs.AreaLaws.{part-cut, part-size}
 use denote.Ref.{now}
 use Rattle.playout.specs.Sizes.{slots, slotSize}
 use Rattle.reorder.proofs.DrawLaws.{first-slot, first-short, few, first-marked, left}
@@ -28,11 +28,8 @@ few-at : (s : tie.Start) → s .args .n ≤ slots
 few-at s = few (s .args .t1) (s .args .n) (now (s .args .store)) (now (s .args .area)) (s .pre)
 
 -- the part of the store that is copied
-cut-at : (n k : ℕ) (store : List ℕ) → take (n + k - n) (drop n store) ≡ take k (drop n store)
-cut-at n k store = let e : n + k - n ≡ k = omega arith in ap (λ (m : ℕ). take m (drop n store)) e
-
 cut-length : (n k : ℕ) (store : List ℕ) → n + k ≤ length store → length (take (n + k - n) (drop n store)) ≡ k
-cut-length n k store l = ap length (cut-at n k store) ∙ length-take-le k (drop n store) (simp length-drop (omega arith))
+cut-length n k store l = ap length (part-cut n k store) ∙ part-size store n k l
 
 element-copy-out-time : tie.Need-element-copy-out-time
 element-copy-out-time c = search needs
@@ -106,7 +103,7 @@ returns c =
     let b = s .args .t1 in
     left b (s .args .n) (now (s .args .store)) (now (s .args .area)) (s .pre) _ _ (c .before .before .before .before .before .before .before .before .before .before .before .before .before .before .before .before .before .before .before .tag-channel .ensures .0) (c .before .before .before .before .before .before .before .before .before .before .before .before .before .before .before .before .before .tag-class .ensures) _ _ _ _ _ _ (c .before .before .before .before .before .before .before .remove-first .ensures) (c .before .before .before .before .before .remove-first2 .ensures) (c .before .before .before .remove-first3 .ensures) (c .before .remove-first4 .ensures) (c .unmark .ensures)
     (take (slotSize * getD (b .slots) 0 0 + getD (b .lengths) 0 0 - slotSize * getD (b .slots) 0 0) (drop (slotSize * getD (b .slots) 0 0) (now (s .args .store))))
-    (cut-at (slotSize * getD (b .slots) 0 0) (getD (b .lengths) 0 0) (now (s .args .store)))
+    (part-cut (slotSize * getD (b .slots) 0 0) (getD (b .lengths) 0 0) (now (s .args .store)))
     (c .before .before .before .before .before .before .before .before .before .before .before .copy-into .ensures)
 
 pub draw-first-spec : {M : Type 1} → statement M

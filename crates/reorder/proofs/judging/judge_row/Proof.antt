@@ -1,9 +1,10 @@
-use mathlib.Core.Path.{_≡_, sym, ap, subst, _∙_}
+use mathlib.Core.Path.{_≡_, sym, subst, _∙_}
 use mathlib.Core.List.{List, _∷_}
 use Prim.Native.Nat.{ℕ, _+_, _-_, _≤_}
 use native.Mathlib.Omega.{arith}
 use lib.ListN.{length, getD, take, drop}
 use denote.Ref.{now}
+use Rattle.rtp.proofs.AreaLaws.{part-cut}
 use Rattle.payload.specs.Frames.{noData}
 use Rattle.payload.specs.Rows.{Row, rowsIn, tagClass}
 use Rattle.reorder.specs.declared.buffer.Buffer.{Buffer}
@@ -44,10 +45,7 @@ abbrev frame-at : tie.Start → List ℕ
 frame-at s = take (getD (rows-at s) 2 0 + getD (rows-at s) 3 0 - getD (rows-at s) 2 0) (drop (getD (rows-at s) 2 0) (now (s .args .packet)))
 
 cut-at : (s : tie.Start) → frame-at s ≡ take (getD (rows-at s) 3 0) (drop (getD (rows-at s) 2 0) (now (s .args .packet)))
-cut-at s =
-    let n = getD (rows-at s) 2 0 in
-    let e : n + getD (rows-at s) 3 0 - n ≡ getD (rows-at s) 3 0 = omega arith in
-    ap (λ (m : ℕ). take m (drop n (now (s .args .packet)))) e
+cut-at s = part-cut (getD (rows-at s) 2 0) (getD (rows-at s) 3 0) (now (s .args .packet))
 
 shared-slice-read-tag : tie.Need-shared-slice-read-tag
 shared-slice-read-tag c = omega (arith, c .before .before .before .before .pre .0)

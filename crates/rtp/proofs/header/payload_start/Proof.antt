@@ -22,18 +22,18 @@ add-csrc-end c = search needs
 
 returns : tie.Need-returns
 unfolding payloadStart
-returns c = simp (← (c .before .wide .ensures .0), lt-ltb _ _ (c .if1 .taken))
+returns c = rw (← (c .before .wide .ensures .0), lt-ltb _ _ (c .if1 .taken))
 
 returns-2 : tie.Need-returns-2
 unfolding payloadStart
-returns-2 c = simp (← (c .before .before .wide .ensures .0), le-ltb _ _ (c .before .if1 .left), eq-eqb _ _ (c .if2 .taken))
+returns-2 c = rw (← (c .before .before .wide .ensures .0), le-ltb _ _ (c .before .if1 .left), eq-eqb _ _ (c .if2 .taken))
 
 add-if3 : tie.Need-add-if3
 add-if3 c = search needs
 
 returns-3 : tie.Need-returns-3
 unfolding payloadStart
-returns-3 c = simp (← (c .before .before .before .wide .ensures .0), le-ltb _ _ (c .before .before .if1 .left), ne-eqb _ _ (c .before .if2 .left), lt-ltb _ _ (c .if3 .taken))
+returns-3 c = rw (← (c .before .before .before .wide .ensures .0), le-ltb _ _ (c .before .before .if1 .left), ne-eqb _ _ (c .before .if2 .left), lt-ltb _ _ (c .if3 .taken))
 
 add-read-u16 : tie.Need-add-read-u16
 add-read-u16 c = search needs
@@ -55,11 +55,11 @@ add-extension-end-2 c = search needs
 
 returns-4 : tie.Need-returns-4
 unfolding payloadStart
-returns-4 c = simp (← (c .before .before .before .before .before .wide .ensures .0), le-ltb _ _ (c .before .before .before .before .if1 .left), ne-eqb _ _ (c .before .before .before .if2 .left), le-ltb _ _ (c .before .before .if3 .left), ← (c .before .read-u16 .ensures), lt-ltb _ _ (c .if4 .taken))
+returns-4 c = rw (← (c .before .before .before .before .before .wide .ensures .0), le-ltb _ _ (c .before .before .before .before .if1 .left), ne-eqb _ _ (c .before .before .before .if2 .left), le-ltb _ _ (c .before .before .if3 .left), ← (c .before .read-u16 .ensures), lt-ltb _ _ (c .if4 .taken))
 
 returns-5 : tie.Need-returns-5
 unfolding payloadStart
-returns-5 c = simp (← (c .before .before .before .before .before .wide .ensures .0), le-ltb _ _ (c .before .before .before .before .if1 .left), ne-eqb _ _ (c .before .before .before .if2 .left), le-ltb _ _ (c .before .before .if3 .left), ← (c .before .read-u16 .ensures), le-ltb _ _ (c .if4 .left))
+returns-5 c = rw (← (c .before .before .before .before .before .wide .ensures .0), le-ltb _ _ (c .before .before .before .before .if1 .left), ne-eqb _ _ (c .before .before .before .if2 .left), le-ltb _ _ (c .before .before .if3 .left), ← (c .before .read-u16 .ensures), le-ltb _ _ (c .if4 .left))
 
 pub payload-start-spec : {M : Type 1} → statement M
 payload-start-spec =

@@ -8,7 +8,8 @@ use Rattle.rtp.specs.Areas.{over}
 use Rattle.rtp.proofs.AreaLaws.{over-part, part-length, part-to-end}
 use Rattle.encoder.specs.Writings.{measured}
 use Rattle.encoder.proofs.StoreLaws.{over-one}
-use Rattle.sender.specs.Room.{blockHeaderOf, offsetOf, listsHeaders, HeaderFits, HeadersFit}
+use Rattle.sender.specs.Packets.{blockHeaderBytes}
+use Rattle.sender.specs.Room.{offsetOf, listsHeaders, HeaderFits, HeadersFit}
 use Rattle.sender.proofs.WordLaws.{counted-rest}
 use Rattle.sender.proofs.ListsLaws.{headers-one, headers-more, fit-more}
 use borrow.Author.Needs.{needs}
@@ -43,14 +44,14 @@ At P t = P (callees t) (put-headers-at t) put-headers.Post
 
 -- the first list's header and the others'
 abbrev first : (t : ℕ) → At put-headers-lts.After-first-words t → List ℕ
-first t c = let a = c .before .before .before .before .before .args in let ws = take (c .first-words .result) (now (a .rows)) in blockHeaderOf (a .asked .«payload_type») (offsetOf (a .time) ws) (measured (a .asked) ws .count)
+first t c = let a = c .before .before .before .before .before .args in let ws = take (c .first-words .result) (now (a .rows)) in blockHeaderBytes (a .asked .«payload_type») (offsetOf (a .time) ws) (measured (a .asked) ws .count)
 
 abbrev others : (t : ℕ) → At put-headers-lts.After-first-words t → List ℕ
 others t c = let a = c .before .before .before .before .before .args in listsHeaders (a .asked) (a .time) (drop 1 (now (a .counts))) (drop (c .first-words .result) (now (a .rows)))
 
 more-at : (t : ℕ) (c : At put-headers-lts.After-first-words t) → let a = c .before .before .before .before .before .args in listsHeaders (a .asked) (a .time) (now (a .counts)) (now (a .rows)) ≡ first t c ++ others t c
 more-at t c = let a = c .before .before .before .before .before .args in
-    subst (λ (n : ℕ). listsHeaders (a .asked) (a .time) (now (a .counts)) (now (a .rows)) ≡ blockHeaderOf (a .asked .«payload_type») (offsetOf (a .time) (take n (now (a .rows)))) (measured (a .asked) (take n (now (a .rows))) .count) ++ listsHeaders (a .asked) (a .time) (drop 1 (now (a .counts))) (drop n (now (a .rows))))
+    subst (λ (n : ℕ). listsHeaders (a .asked) (a .time) (now (a .counts)) (now (a .rows)) ≡ blockHeaderBytes (a .asked .«payload_type») (offsetOf (a .time) (take n (now (a .rows)))) (measured (a .asked) (take n (now (a .rows))) .count) ++ listsHeaders (a .asked) (a .time) (drop 1 (now (a .counts))) (drop n (now (a .rows))))
     (sym (c .first-words .ensures .0)) (headers-more (a .asked) (a .time) (now (a .counts)) (now (a .rows)) (c .before .if1 .left))
 
 fit-at : (t : ℕ) (c : At put-headers-lts.After-first-words t) → let a = c .before .before .before .before .before .args in let n = c .first-words .result in HeaderFits (a .asked) (a .time) (take n (now (a .rows))) × HeadersFit (a .asked) (a .time) (drop 1 (now (a .counts))) (drop n (now (a .rows)))

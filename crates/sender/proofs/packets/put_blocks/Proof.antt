@@ -1,7 +1,7 @@
 use lib.ListN.{length}
 use denote.Ref.{now}
 use Rattle.rtp.proofs.AreaLaws.{over-part}
-use Rattle.sender.specs.Room.{listsHeaders, listsPayloads, headersSize}
+use Rattle.sender.specs.Room.{listsHeaders, listsPayloads, listHeadersSize}
 use Rattle.sender.proofs.ListsLaws.{length-headers}
 use borrow.Author.Needs.{needs}
 use Rattle.sender.proofs.packets.put_blocks.Statement.{statement}
@@ -41,7 +41,7 @@ same-length c = search needs
 returns : tie.Need-returns
 returns c = let a = c .before .before .before .before .before .before .before .before .before .before .before .before .args in
     over-part (listsHeaders (a .asked) (a .time) (now (a .counts)) (now (a .rows))) (listsPayloads (a .asked) (now (a .bytes)) (now (a .counts)) (now (a .rows))) (now (a .out)) (c .before .before .before .before .before .before .put-headers .last .1 .1 .1 .1 .0) _
-    (headersSize (length (now (a .counts)))) (length-headers (a .asked) (a .time) (now (a .counts)) (now (a .rows))) (c .before .before .before .before .before .before .put-headers .ensures) (c .before .before .put-payloads .ensures)
+    (listHeadersSize (length (now (a .counts)))) (length-headers (a .asked) (a .time) (now (a .counts)) (now (a .rows))) (c .before .before .before .before .before .before .put-headers .ensures) (c .before .before .put-payloads .ensures)
 
 pub put-blocks-spec : {M : Type 1} → statement M
 put-blocks-spec =

@@ -11,7 +11,7 @@ use Rattle.encoder.proofs.WritingLaws.{refused-pair}
 use Rattle.sender.specs.Parts.{parts}
 use Rattle.sender.specs.Packets.{Heading, assembledFrom, countsFit, sending}
 use Rattle.sender.proofs.ListsLaws.{told-none, told-bytes}
-use Rattle.sender.proofs.AgreeLaws.{agrees}
+use Rattle.sender.proofs.ListPartLaws.{agrees}
 use Rattle.sender.proofs.SendingLaws.{assembled-numbers, Fitting, fitting, sending-out, sending-outside, sending-unfit, sending-fit, refused-packet, packet-short, packet-fits, packet-room}
 use borrow.Author.Needs.{needs}
 use Rattle.sender.proofs.packets.write_packet.Statement.{statement}

@@ -1,0 +1,115 @@
+-- Laws of a table of contents that was read: its groups are runs, each directly after the one before.
+use mathlib.Core.Path.{_≡_, refl, _∙_, subst}
+use mathlib.Core.List.{List, [], _∷_}
+use mathlib.Core.Bool.{Bool}
+use Prim.Native.Nat.{ℕ, zero, suc, _+_, _*_, _/_, _%_, _≤_, _<_}
+use native.Mathlib.Omega.{arith}
+use lib.ListN.{length, getD, drop}
+use lib.Dec.{ltb, eqb}
+use Rattle.rtp.specs.Sizes.{maxRows}
+use Rattle.rtp.specs.Numbers.{byteAt}
+use Rattle.rtp.proofs.TestLaws.{by-test}
+use Rattle.rtp.proofs.RedundancyLaws.{Bytes, bytes-drop}
+use Rattle.payload.specs.Formats.{formatOf, maxGap}
+use Rattle.payload.specs.declared.frames.Coded.{Coded}
+use Rattle.payload.specs.declared.contents.Entry.{Entry}
+use Rattle.payload.specs.declared.contents.EntryRead.{EntryRead}
+use Rattle.payload.specs.Frames.{frameOf}
+use Rattle.payload.specs.Contents.{minEntry, codeIn, blocksIn, entrySize, codedEntry, entryOf, Group, Contents, refused, groups, halfAt, gapAt, gapsFrom, meaning, prepend, contentsStep, contents}
+use Rattle.payload.proofs.EntryLaws.{past, same-entry, code-in, fair}
+use Rattle.payload.proofs.ContentsLaws.{contents-step, shorter, blocks-of}
+use Rattle.payload.specs.Codes.{noCode, codeFor}
+use Rattle.encoder.specs.Plans.{headGap}
+use Rattle.payload.proofs.CodeLaws.{code-some}
+use Rattle.roundtrip.proofs.EntryBackLaws.{Run}
+use Rattle.roundtrip.proofs.TableBackLaws.{Runs}
+use Rattle.roundtrip.proofs.AttachLaws.{same-groups}
+
+-- The gaps of an entry
+
+half-small : (s : List ℕ) (k : ℕ) → Bytes s → halfAt s k ≤ 15
+half-small s k bs = by-test (eqb (k % 2) 0) (λ a. rw a (omega (arith, bs (k / 2)))) (λ a. rw a (omega arith))
+
+gap-near : (format : ℕ) (s : List ℕ) (k : ℕ) → Bytes s → gapAt format s k ≤ maxGap format
+unfolding gapAt maxGap
+gap-near format s k bs =
+    by-test (eqb k 0) (λ a. rw a (omega arith))
+    (λ a. by-test (formatOf format .displaced) (λ b. rw (a, b) (half-small (drop (minEntry format) s) k (bytes-drop (minEntry format) s bs))) (λ b. rw (a, b) (omega arith)))
+
+gaps-near : (format : ℕ) (s : List ℕ) (k n i : ℕ) → Bytes s → getD (gapsFrom format s k n) i 0 ≤ maxGap format
+unfolding gapsFrom
+gaps-near format s k zero i bs = omega arith
+gaps-near format s k (suc n) zero bs = gap-near format s k bs
+gaps-near format s k (suc n) (suc i) bs = gaps-near format s (k + 1) n i bs
+
+gaps-first : (format : ℕ) (s : List ℕ) (n : ℕ) → getD (gapsFrom format s 0 n) 0 0 ≡ 0
+unfolding gapsFrom gapAt
+gaps-first format s zero = refl
+gaps-first format s (suc n) = refl
+
+-- An entry
+
+record Told (format : ℕ) (s : List ℕ) (e : Entry) : Type 0 where
+  code : codeFor format (e .class) (e .length) < noCode
+  blocks : e .blocks ≡ blocksIn format s
+
+told-coded : (format k : ℕ) (s : List ℕ) (m : Bool) (size : ℕ) (e : Entry) (c : Coded) → k < formatOf format .codes → frameOf format k ≡ c
+    → codedEntry m (blocksIn format s) size c ≡ EntryRead.Entry e → Told format s e
+told-coded format k s m size e Coded.Reserved l q h = let z : _≡_ {A = ℕ} 0 1 = cc in absurd (omega arith)
+told-coded format k s m size e (Coded.Frame f) l q h =
+    let p = past (eqb (blocksIn format s) 0) _ _ e h in
+    subst (Told format s) (same-entry _ e (p .1)) (record { code = code-some format (f .class) (f .length) k l q; blocks = refl })
+
+told : (format : ℕ) (s : List ℕ) (e : Entry) → entryOf format s ≡ EntryRead.Entry e → Told format s e
+unfolding entryOf
+told format s e h =
+    let p1 = past (ltb (length s) (minEntry format)) _ _ e h in
+    let p2 = past (ltb (length s) (entrySize format (blocksIn format s))) _ _ e (p1 .1) in
+    told-coded format (codeIn format (byteAt s 0)) s _ _ e (frameOf format (codeIn format (byteAt s 0))) (code-in format (byteAt s 0)) refl (p2 .1)
+
+read-run : (format : ℕ) (s : List ℕ) (e : Entry) → entryOf format s ≡ EntryRead.Entry e → Bytes s → Run format (meaning format s e)
+unfolding meaning
+read-run format s e h bs =
+    let t = told format s e h in
+    let f = fair format s e h in
+    let n : length (gapsFrom format s 0 (e .blocks)) ≡ e .blocks = unfold meaning in blocks-of format s e in
+    record {
+      code = t .code;
+      some = omega arith;
+      near = λ i. gaps-near format s 0 (e .blocks) (suc i) bs;
+      alone = λ a. n ∙ t .blocks ∙ rw a;
+    }
+
+read-first : (format : ℕ) (s : List ℕ) (e : Entry) → headGap (meaning format s e) ≡ 0
+unfolding meaning
+read-first format s e = gaps-first format s (e .blocks)
+
+-- A table
+
+abbrev Read : ℕ → List Group → Type 0
+Read format hs = Runs format hs × (1 ≤ length hs)
+
+read-step : (format ch rows : ℕ) (s : List ℕ) (hs : List Group) → Bytes s
+    → ((n : ℕ) (e : Entry) → entryOf format s ≡ EntryRead.Entry e → (gs : List Group) → contents format ch n (drop (e .size) s) ≡ groups gs → Read format gs)
+    → (r : EntryRead) → entryOf format s ≡ r → contentsStep format ch rows s (λ n t. contents format ch n t) r ≡ groups hs → Read format hs
+unfolding meaning
+read-step format ch rows s hs bs ih (EntryRead.Refused q) h k = let z : _≡_ {A = ℕ} 0 1 = cc in absurd (omega arith)
+read-step format ch rows s hs bs ih (EntryRead.Entry e) h k =
+    by-test (ltb maxRows (rows + e .blocks * ch))
+    (λ a. let y = rw a at k in let z : _≡_ {A = ℕ} 0 1 = cc in absurd (omega arith))
+    (λ a. by-test (e .more)
+    (λ b. more (contents format ch (rows + e .blocks * ch) (drop (e .size) s)) refl (rw (a, b) at k))
+    (λ b. subst (Read format) (same-groups (meaning format s e ∷ []) hs (rw (a, b) at k)) ((read-run format s e h bs, read-first format s e, tt), omega arith)))
+  where
+    more : (x : Contents) → contents format ch (rows + e .blocks * ch) (drop (e .size) s) ≡ x → prepend (meaning format s e) x ≡ groups hs → Read format hs
+    more (refused q) i j = let z : _≡_ {A = ℕ} 0 1 = cc in absurd (omega arith)
+    more (groups gs) i j = subst (Read format) (same-groups (meaning format s e ∷ gs) hs j) ((read-run format s e h bs, read-first format s e, ih (rows + e .blocks * ch) e h gs i .0), omega arith)
+
+read-by : (f format ch rows : ℕ) (s : List ℕ) (hs : List Group) → length s < f → Bytes s → contents format ch rows s ≡ groups hs → Read format hs
+read-by zero format ch rows s hs l bs h = absurd (omega arith)
+read-by (suc f) format ch rows s hs l bs h =
+    read-step format ch rows s hs bs (λ n e q gs k. read-by f format ch n (drop (e .size) s) gs (omega (arith, shorter format s e q)) (bytes-drop (e .size) s bs) k)
+    (entryOf format s) refl (rw contents-step at h)
+
+pub read-runs : (format ch rows : ℕ) (s : List ℕ) (hs : List Group) → Bytes s → contents format ch rows s ≡ groups hs → Read format hs
+read-runs format ch rows s hs bs h = read-by (suc (length s)) format ch rows s hs (omega arith) bs h

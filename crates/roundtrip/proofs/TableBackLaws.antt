@@ -1,0 +1,38 @@
+-- Laws of a table of contents as it is written: it reads back.
+use mathlib.Core.Path.{_≡_, refl, ap, _∙_}
+use mathlib.Core.List.{List, [], _∷_, _++_, append-assoc}
+use mathlib.Core.Bool.{true, false}
+use Prim.Native.Nat.{ℕ, _+_, _*_, _≤_}
+use native.Mathlib.Omega.{arith}
+use lib.ListN.{length}
+use lib.Seq.{drop-at}
+use Rattle.rtp.specs.Sizes.{maxRows}
+use Rattle.payload.specs.Contents.{Group, groups, meaning, prepend, contents, rowCount}
+use Rattle.payload.proofs.ContentsLaws.{contents-last, contents-more}
+use Rattle.encoder.specs.Plans.{headGap}
+use Rattle.encoder.specs.Bytes.{entryBytes, tableBytes}
+use Rattle.encoder.proofs.EntryLaws.{length-entry}
+use Rattle.roundtrip.proofs.EntryBackLaws.{Run, entryFor, entry-back, meaning-back}
+
+-- runs one after another, each directly after the one before
+abbrev pub Runs : ℕ → List Group → Type 0
+Runs format [] = Unit {0}
+Runs format (g ∷ gs) = Run format g × (headGap g ≡ 0) × Runs format gs
+
+pub table-back : (format ch rows : ℕ) (g : Group) (gs : List Group) (rest : List ℕ) → Runs format (g ∷ gs) → rows + rowCount ch (g ∷ gs) ≤ maxRows
+    → contents format ch rows (tableBytes format (g ∷ gs) ++ rest) ≡ groups (g ∷ gs)
+unfolding tableBytes rowCount
+table-back format ch rows g [] rest v h =
+    let s = entryBytes format false g ++ rest in
+    contents-last format ch rows s (entryFor format false g) (entry-back format false g rest (v .0)) (omega arith) refl
+    ∙ ap (λ (x : Group). groups (x ∷ [])) (meaning-back format false g rest (v .0) (v .1))
+table-back format ch rows g (f ∷ gs) rest v h =
+    let next = tableBytes format (f ∷ gs) ++ rest in
+    let s = entryBytes format true g ++ next in
+    let e = entryFor format true g in
+    let ih = table-back format ch (rows + length (g .gaps) * ch) f gs rest (v .2) (omega arith) in
+    rw append-assoc
+    (contents-more format ch rows s e (entry-back format true g next (v .0)) (omega arith) refl
+    ∙ ap (λ (l : List ℕ). prepend (meaning format s e) (contents format ch (rows + length (g .gaps) * ch) l)) (drop-at (entryBytes format true g) next (e .size) (length-entry format true g))
+    ∙ ap (prepend (meaning format s e)) ih
+    ∙ ap (λ (x : Group). groups (x ∷ f ∷ gs)) (meaning-back format true g next (v .0) (v .1)))
