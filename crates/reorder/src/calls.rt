@@ -151,6 +151,10 @@ fn offer_checked(buffer: Buffer, packet: &[u8], rows: &mut [u32], store: &mut [u
     ensures { λ r. ⌜ record { answer = offerNumbers (r .answer); buffer = r .buffer; rows = now (rows .exit); store = now (store .exit) }
         ≡ offerCall buffer (now (packet .entry)) (now (rows .entry)) (now (store .entry)) ⌝ }
 {
+    let times = buffer.times;
+    let tags = buffer.tags;
+    let lengths = buffer.lengths;
+    let slots = buffer.slots;
     let occupied = buffer.occupied;
     let settings = buffer.settings;
     let fixed = Fixed {
@@ -159,14 +163,7 @@ fn offer_checked(buffer: Buffer, packet: &[u8], rows: &mut [u32], store: &mut [u
         drawn: buffer.drawn,
         settings,
     };
-    if !well_formed::well_formed(
-        &buffer.times,
-        &buffer.tags,
-        &buffer.lengths,
-        &buffer.slots,
-        occupied,
-        fixed,
-    ) {
+    if !well_formed::well_formed(&times, &tags, &lengths, &slots, occupied, fixed) {
         return refuse_offer(Refusal::MalformedBuffer, buffer);
     }
     if rows.len() < ROW_AREA {
@@ -246,6 +243,10 @@ fn draw_checked(buffer: Buffer, store: &[u8], area: &mut [u8]) -> Drawn
     ensures { λ r. ⌜ record { answer = drawNumbers (r .answer); buffer = r .buffer; area = now (area .exit) }
         ≡ drawCall buffer (now (store .entry)) (now (area .entry)) ⌝ }
 {
+    let times = buffer.times;
+    let tags = buffer.tags;
+    let lengths = buffer.lengths;
+    let slots = buffer.slots;
     let occupied = buffer.occupied;
     let settings = buffer.settings;
     let fixed = Fixed {
@@ -254,14 +255,7 @@ fn draw_checked(buffer: Buffer, store: &[u8], area: &mut [u8]) -> Drawn
         drawn: buffer.drawn,
         settings,
     };
-    if !well_formed::well_formed(
-        &buffer.times,
-        &buffer.tags,
-        &buffer.lengths,
-        &buffer.slots,
-        occupied,
-        fixed,
-    ) {
+    if !well_formed::well_formed(&times, &tags, &lengths, &slots, occupied, fixed) {
         return refuse_draw(Refusal::MalformedBuffer, buffer);
     }
     if store.len() < STORE_SIZE {

@@ -159,11 +159,11 @@ fn unused_zero(
 }
 
 // Whether the buffer of these parts is well-formed.
-pub(crate) fn well_formed<'a>(
-    times: &'a [u32; SLOTS],
-    tags: &'a [u32; SLOTS],
-    lengths: &'a [u32; SLOTS],
-    slots: &'a [u32; SLOTS],
+pub(crate) fn well_formed(
+    times: &[u32; SLOTS],
+    tags: &[u32; SLOTS],
+    lengths: &[u32; SLOTS],
+    slots: &[u32; SLOTS],
     occupied: [u64; 3],
     fixed: Fixed,
 ) -> bool

@@ -26,10 +26,10 @@ use Rattle.reorder.proofs.well_formed.well_formed.Reads as well-formed-
 outcome : List ℕ → Drawn → DrawOutcome
 outcome area r = record { answer = drawNumbers (r .answer); buffer = r .buffer; area = area }
 
-machine-at : (s : tie.Start) → Machine (s .args .t1)
-machine-at s = owned-machine (s .args .t1) _ (s .good .0)
+machine-at : (s : tie.Start) → Machine (s .args .buffer)
+machine-at s = owned-machine (s .args .buffer) _ (s .good .0)
 
-fine-at : (c : tie.Else1) → wellFormed (c .before .before .before .before .before .before .before .before .before .before .before .args .t1) ≡ true
+fine-at : (c : tie.Else1) → wellFormed (c .before .before .before .before .before .before .before .before .before .before .before .before .before .before .args .buffer) ≡ true
 fine-at c = passed (c .before .well-formed .ensures) (c .if1 .left)
 
 well-formed-requires : tie.Need-well-formed-requires
@@ -41,10 +41,10 @@ refuse-draw-requires c κs = search needs
 returns : tie.Need-returns
 unfolding outcome
 returns c =
-    let s = c .before .before .before .before .before .before .before .before .before .before .before .before in
+    let s = c .before .before .before .before .before .before .before .before .before .before .before .before .before .before .before in
     let a = s .args in
     ap (outcome (now (a .area))) (c .refuse-draw .ensures)
-    ∙ sym (draw-malformed (a .t1) (now (a .store)) (now (a .area)) (s .pre) (failed (c .before .before .well-formed .ensures) (c .before .if1 .taken)))
+    ∙ sym (draw-malformed (a .buffer) (now (a .store)) (now (a .area)) (s .pre) (failed (c .before .before .well-formed .ensures) (c .before .if1 .taken)))
 
 refuse-draw-requires-2 : tie.Need-refuse-draw-requires-2
 refuse-draw-requires-2 c κs = search needs
@@ -52,10 +52,10 @@ refuse-draw-requires-2 c κs = search needs
 returns-2 : tie.Need-returns-2
 unfolding outcome
 returns-2 c =
-    let s = c .before .before .before .before .before .before .before .before .before .before .before .before .before in
+    let s = c .before .before .before .before .before .before .before .before .before .before .before .before .before .before .before .before in
     let a = s .args in
     ap (outcome (now (a .area))) (c .refuse-draw2 .ensures)
-    ∙ sym (draw-store (a .t1) (now (a .store)) (now (a .area)) (s .pre) (fine-at (c .before .before)) (c .before .if2 .taken))
+    ∙ sym (draw-store (a .buffer) (now (a .store)) (now (a .area)) (s .pre) (fine-at (c .before .before)) (c .before .if2 .taken))
 
 refuse-draw-requires-3 : tie.Need-refuse-draw-requires-3
 refuse-draw-requires-3 c κs = search needs
@@ -63,10 +63,10 @@ refuse-draw-requires-3 c κs = search needs
 returns-3 : tie.Need-returns-3
 unfolding outcome
 returns-3 c =
-    let s = c .before .before .before .before .before .before .before .before .before .before .before .before .before .before in
+    let s = c .before .before .before .before .before .before .before .before .before .before .before .before .before .before .before .before .before in
     let a = s .args in
     ap (outcome (now (a .area))) (c .refuse-draw3 .ensures)
-    ∙ sym (draw-area (a .t1) (now (a .store)) (now (a .area)) (s .pre) (fine-at (c .before .before .before)) (c .before .before .if2 .left) (c .before .if3 .taken))
+    ∙ sym (draw-area (a .buffer) (now (a .store)) (now (a .area)) (s .pre) (fine-at (c .before .before .before)) (c .before .before .if2 .left) (c .before .if3 .taken))
 
 held-in-requires : tie.Need-held-in-requires
 held-in-requires c κs = search needs
@@ -74,16 +74,16 @@ held-in-requires c κs = search needs
 returns-4 : tie.Need-returns-4
 unfolding entriesFrom
 returns-4 c =
-    let s = c .before .before .before .before .before .before .before .before .before .before .before .before .before .before .before in
+    let s = c .before .before .before .before .before .before .before .before .before .before .before .before .before .before .before .before .before .before in
     let a = s .args in
-    let z : heldIn (a .t1 .occupied) ≡ 0 = sym (c .before .held-in .ensures .0) ∙ c .if4 .taken in
-    let e : entriesFrom (a .t1) (heldIn (a .t1 .occupied)) 0 ≡ [] = ap (λ (n : ℕ). entriesFrom (a .t1) n 0) z in
-    sym (draw-goes (a .t1) (now (a .store)) (now (a .area)) (s .pre) (fine-at (c .before .before .before .before)) (c .before .before .before .if2 .left) (c .before .before .if3 .left)
-    ∙ ap (drawFirst (a .t1) (now (a .store)) (now (a .area))) e)
+    let z : heldIn (a .buffer .occupied) ≡ 0 = sym (c .before .held-in .ensures .0) ∙ c .if4 .taken in
+    let e : entriesFrom (a .buffer) (heldIn (a .buffer .occupied)) 0 ≡ [] = ap (λ (n : ℕ). entriesFrom (a .buffer) n 0) z in
+    sym (draw-goes (a .buffer) (now (a .store)) (now (a .area)) (s .pre) (fine-at (c .before .before .before .before)) (c .before .before .before .if2 .left) (c .before .before .if3 .left)
+    ∙ ap (drawFirst (a .buffer) (now (a .store)) (now (a .area))) e)
 
 draw-first-requires : tie.Need-draw-first-requires
 draw-first-requires c κs =
-    let s = c .before .before .before .before .before .before .before .before .before .before .before .before .before .before .before .before in
+    let s = c .before .before .before .before .before .before .before .before .before .before .before .before .before .before .before .before .before .before .before in
     record {
       machine = machine-at s;
       fine = fine-at (c .before .before .before .before .before);
@@ -98,10 +98,10 @@ same-length c = search needs
 
 returns-5 : tie.Need-returns-5
 returns-5 c =
-    let s = c .before .before .before .before .before .before .before .before .before .before .before .before .before .before .before .before .before .before .before in
+    let s = c .before .before .before .before .before .before .before .before .before .before .before .before .before .before .before .before .before .before .before .before .before .before in
     let a = s .args in
     c .before .before .draw-first .ensures
-    ∙ sym (draw-goes (a .t1) (now (a .store)) (now (a .area)) (s .pre) (fine-at (c .before .before .before .before .before .before .before .before)) (c .before .before .before .before .before .before .before .if2 .left) (c .before .before .before .before .before .before .if3 .left))
+    ∙ sym (draw-goes (a .buffer) (now (a .store)) (now (a .area)) (s .pre) (fine-at (c .before .before .before .before .before .before .before .before)) (c .before .before .before .before .before .before .before .if2 .left) (c .before .before .before .before .before .before .if3 .left))
 
 pub draw-checked-spec : {M : Type 1} → statement M
 draw-checked-spec =
