@@ -4,7 +4,7 @@ use mathlib.Core.Path.{_≡_}
 use mathlib.Core.List.{List, [], _∷_, _++_}
 use mathlib.Core.Bool.{Bool, true, false}
 use lib.ListN.{length}
-use Rattle.payload.specs.Frames.{sound}
+use Rattle.formats.specs.Frames.{sound}
 use Rattle.packet.specs.CheckedTable.{CheckedTable, filler}
 use Rattle.playout.specs.declared.verdict.Verdict.the-variants.{Late, Far, Repeated, Better, Inserted}
 use Rattle.playout.specs.Copies.{Copy}

@@ -1,11 +1,11 @@
 // The table of contents that a frame list is written with.
 use crate::lists;
 use crate::lists::RowWords;
-use payload::codes;
-use payload::codes::NO_CODE;
+use formats::codes;
+use formats::codes::NO_CODE;
+use formats::facts;
+use formats::frames;
 use payload::contents;
-use payload::formats;
-use payload::frames;
 use payload::rows;
 use rtp::sizes::MAX_PACKET;
 use rtp::sizes::MAX_ROWS;
@@ -17,7 +17,7 @@ ghost use Prim.Native.Nat.{_+_, _*_, _/_, _%_, _<_};
 ghost use lib.Dec.{eqb};
 ghost use lib.ListN.{length};
 ghost use Rattle.rtp.specs.Sizes.{rowWidth, maxRows};
-ghost use Rattle.payload.specs.Formats.{stepOf, maxGap};
+ghost use Rattle.formats.specs.Formats.{stepOf, maxGap};
 ghost use Rattle.encoder.specs.Lists.{rowsIn};
 ghost use Rattle.encoder.specs.Plans.{ticksAfter, gapBetween, nextChannel, starts, continues, follows, joinsRun, planFrom, plan};
 ghost use Rattle.encoder.specs.Room.{rowAs, planAnswer, attachPlan, Attachable};
@@ -71,7 +71,7 @@ pub(crate) fn gap_between(format: u8, previous: u32, time: u32) -> u32
 fn max_gap(format: u8) -> u32
     ensures { λ r. ⌜ r ≡ maxGap format ⌝ }
 {
-    if formats::format_of(format).displaced {
+    if facts::format_of(format).displaced {
         return 15;
     }
     0
@@ -123,7 +123,7 @@ fn follows_row(format: u8, c: u32, previous: RowWords, row: RowWords) -> bool
 pub(crate) fn joins_run(format: u8, row: RowWords, class: u32, length: u32, gap: u32) -> bool
     ensures { λ r. ⌜ r ≡ joinsRun format (rowAs row) class length gap ⌝ }
 {
-    if formats::format_of(format).counted {
+    if facts::format_of(format).counted {
         if rows::tag_class(row.tag) == class {
             if row.length == length {
                 return gap <= max_gap(format);

@@ -3,7 +3,7 @@ use crate::lists;
 use crate::plans;
 use crate::plans::Planned;
 use crate::tables;
-use payload::frames;
+use formats::frames;
 use rtp::refusal::Refusal;
 use rtp::settings;
 use rtp::settings::Settings;

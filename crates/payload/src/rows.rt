@@ -1,13 +1,13 @@
 // Frame rows, written into a row area.
 use crate::contents;
 use crate::contents::EntryRead;
-use crate::frames;
+use formats::frames;
 use rtp::sizes::ROW_WIDTH;
 ghost use mathlib.Core.Path.{_≡_};
-ghost use Prim.Native.Nat.{_<_};
+ghost use Prim.Native.Nat.{_*_, _<_};
 ghost use lib.ListN.{length};
 ghost use Rattle.rtp.specs.Areas.{over};
-ghost use Rattle.payload.specs.Frames.{stepOf};
+ghost use Rattle.formats.specs.Frames.{stepOf};
 ghost use Rattle.payload.specs.Contents.{gapsFrom, contents, sizesAnswer};
 ghost use Rattle.payload.specs.Rows.{tagOf, tagClass, tagChannel, rowWords, words, blockRows, groupRows, timeAfter};
 ghost use Rattle.payload.specs.Room.{RowRoom, BlockRoom, GroupRoom, TableRoom, contentsWords};
@@ -70,6 +70,14 @@ fn put_block(
     );
 }
 
+// The ticks of so many frame-blocks.
+fn ticks(format: u8, blocks: u32) -> u32
+    requires { ⌜ blocks < 16 ⌝ }
+    ensures { λ r. ⌜ r ≡ blocks * stepOf format ⌝ }
+{
+    blocks * frames::step_of(format)
+}
+
 // The rows of `count` frame-blocks from the k-th on of the entry at the front of s; answers the time of the place after them.
 fn put_group(
     rows: &mut [u32],
@@ -90,7 +98,7 @@ fn put_group(
     if count == 0 {
         return time;
     }
-    let skipped = frames::ticks(format, contents::gap(format, s, k));
+    let skipped = ticks(format, contents::gap(format, s, k));
     let here = std::num::wrapping_add_u32(time, skipped);
     put_block(rows, channels, 0, here, class, start, size);
     let next = std::num::wrapping_add_u32(here, frames::step_of(format));

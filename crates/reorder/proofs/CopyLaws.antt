@@ -12,8 +12,8 @@ use Rattle.rtp.specs.declared.settings.Settings.{Settings}
 use Rattle.rtp.specs.declared.header.Header.{Header}
 use Rattle.rtp.proofs.TestLaws.{by-test}
 use Rattle.rtp.proofs.AreaLaws.{part-size}
-use Rattle.payload.specs.Frames.{noData}
-use Rattle.payload.specs.Codes.{noCode, codeFor}
+use Rattle.formats.specs.Frames.{noData}
+use Rattle.formats.specs.Codes.{noCode, codeFor}
 use Rattle.payload.specs.Rows.{Row}
 use Rattle.payload.proofs.RowFactLaws.{RowFine, AllRows}
 use Rattle.packet.specs.Readings.{Outcome, refused, readAs, reading}

@@ -9,7 +9,7 @@ use borrow.Author.Tests.{eq-eqb, ne-eqb}
 use Rattle.rtp.specs.Sizes.{rowWidth}
 use Rattle.rtp.specs.Ranges.{inRange}
 use Rattle.rtp.proofs.AreaLaws.{part-to-end, part-size}
-use Rattle.payload.specs.Frames.{noData}
+use Rattle.formats.specs.Frames.{noData}
 use Rattle.payload.specs.Rows.{Row, rowOf, rowsIn}
 use Rattle.payload.proofs.RowLaws.{rows-more}
 use Rattle.playout.specs.declared.verdict.Verdict.{Verdict}

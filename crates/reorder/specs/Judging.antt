@@ -15,7 +15,7 @@ use Rattle.playout.specs.Copies.{Copy, betterFrame}
 use Rattle.playout.specs.Verdicts.{Counts, Judged, judge}
 use Rattle.reorder.specs.declared.buffer.Buffer.{Buffer}
 use Rattle.reorder.specs.declared.buffer.Fixed.{Fixed}
-use Rattle.payload.specs.Frames.{noData, maxClass}
+use Rattle.formats.specs.Frames.{noData, maxClass}
 use Rattle.payload.specs.Rows.{Row}
 use Rattle.playout.specs.Verdicts.{tally, judgeAll}
 use Rattle.rtp.specs.declared.settings.Settings.{Settings}

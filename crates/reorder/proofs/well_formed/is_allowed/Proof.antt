@@ -4,7 +4,7 @@ use Rattle.reorder.proofs.well_formed.is_allowed.Statement.{statement}
 use Rattle.reorder.proofs.well_formed.is_allowed.Tie as tie
 use Rattle.reorder.proofs.well_formed.is_allowed.Reads as reads
 use Rattle.reorder.proofs.well_formed.is_allowed.Lts as lts
-use Rattle.payload.proofs.codes.code_for.Reads as code-for-reads
+use Rattle.formats.proofs.codes.code_for.Reads as code-for-reads
 
 returns : tie.Need-returns
 returns c = rw (eq-eqb _ _ (c .if1 .taken))

@@ -1,0 +1,4 @@
+pub mod Formats
+pub mod Frames
+pub mod Codes
+pub mod Room
