@@ -17,7 +17,7 @@ use Rattle.playout.specs.declared.verdict.Verdict.the-variants.{Late, Far, Repe
 use Rattle.playout.specs.Sizes.{storeSize}
 use Rattle.playout.specs.Copies.{Copy}
 use Rattle.playout.specs.Entries.{Held}
-use Rattle.playout.specs.Verdicts.{Counts, counted, tally, Judgement, Gathered, judge, judgeAll}
+use Rattle.playout.specs.Verdicts.{Counts, counted, tally, Gathered, judge, judgeAll}
 use Rattle.reorder.specs.declared.buffer.Buffer.{Buffer}
 use Rattle.reorder.specs.declared.calls.Tally.{Tally}
 use Rattle.reorder.specs.declared.judging.FrameHead.{FrameHead}

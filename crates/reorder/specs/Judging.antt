@@ -12,7 +12,7 @@ use Rattle.playout.specs.declared.verdict.Verdict.the-variants.{Repeated, Bette
 use Rattle.playout.specs.Sizes.{slots, slotSize, storeSize}
 use Rattle.playout.specs.Pairs.{order, isAfter}
 use Rattle.playout.specs.Copies.{Copy, betterFrame}
-use Rattle.playout.specs.Verdicts.{Counts, Judged, judge}
+use Rattle.playout.specs.Verdicts.{Counts, judge}
 use Rattle.reorder.specs.declared.buffer.Buffer.{Buffer}
 use Rattle.reorder.specs.declared.buffer.Fixed.{Fixed}
 use Rattle.formats.specs.Frames.{noData, maxClass}

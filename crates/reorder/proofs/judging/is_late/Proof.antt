@@ -1,5 +1,5 @@
 use Rattle.reorder.specs.Judging.{isLateOf}
-use borrow.Author.Tests.{le-ltb, lt-ltb, le-leb, lt-leb, eq-eqb, ne-eqb}
+use borrow.Author.Tests.{eq-eqb, ne-eqb}
 use borrow.Author.Needs.{needs}
 use Rattle.reorder.proofs.judging.is_late.Statement.{statement}
 use Rattle.reorder.proofs.judging.is_late.Tie as tie
