@@ -26,7 +26,7 @@ use Rattle.reorder.specs.WellFormed.{wellFormed}
 use Rattle.reorder.specs.Rows.{copiesOf}
 use Rattle.reorder.specs.ModelCalls.{Result, refused, done, Offered, offerTo}
 use Rattle.reorder.specs.Calls.{countNumbers, OfferOutcome, offerRefused, offerDone, offerCall}
-use Rattle.reorder.proofs.BridgeLaws.{good-back}
+use Rattle.reorder.proofs.BufferLaws.{good-back}
 use Rattle.delivery.specs.Runs.{State, lent, Call, offer, draw, Yield, offered, Step, judgementsOf, judgedBy, step, run, judged, served, frames}
 use Rattle.delivery.specs.Claims.{Counted, CountsVerdicts, framesHeld, Count}
 use Rattle.delivery.proofs.StepLaws.{spare, Fine, at, fresh-fine, begun-at, offer-cases, judged-fine, draw-cases, drawn-fine}

@@ -33,7 +33,7 @@ use Rattle.reorder.specs.Calls.{NewOutcome, countNumbers, OfferOutcome, offerDo
 use Rattle.reorder.proofs.LayoutLaws.{fresh-encode}
 use Rattle.reorder.proofs.CallLaws.{new-in, drawFirst, draw-store, draw-area, draw-goes}
 use Rattle.reorder.proofs.StateLaws.{Good, good-facts, judgeAll-good, draw-good}
-use Rattle.reorder.proofs.BridgeLaws.{good-fine, good-back}
+use Rattle.reorder.proofs.BufferLaws.{good-fine, good-back}
 use Rattle.reorder.proofs.CopyLaws.{read-fit, fits-frames}
 use Rattle.delivery.specs.Runs.{State, lent, Offer, offer, draw, offered, drew, Step, judgementsOf, judgedBy, step, begun}
 use Rattle.delivery.specs.Claims.{readRefusal, offerRefusal, drawRefusal}

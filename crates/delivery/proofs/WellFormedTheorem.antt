@@ -12,7 +12,7 @@ use Rattle.reorder.specs.WellFormed.{wellFormed}
 use Rattle.reorder.specs.Calls.{NewOutcome, OfferOutcome, DrawOutcome}
 use Rattle.reorder.proofs.CallLaws.{new-in, offer-out, draw-out}
 use Rattle.reorder.proofs.WellFormedLaws.{encode-decode, fresh-formed}
-use Rattle.reorder.proofs.BridgeLaws.{buffer-good, good-fine}
+use Rattle.reorder.proofs.BufferLaws.{buffer-good, good-fine}
 use Rattle.delivery.specs.Runs.{State, lent, Call, offer, draw, step, run}
 use Rattle.delivery.specs.Claims.{KeepsWellFormed}
 use Rattle.delivery.proofs.StepLaws.{spare}

@@ -1,6 +1,6 @@
 // What was counted over the whole stream.
 use reorder::calls::OfferAnswer;
-use reorder::calls::Tally;
+use reorder::tally::Tally;
 use rtp::refusal;
 use rtp::refusal::Refusal;
 

@@ -9,6 +9,7 @@ use native.Mathlib.Omega.{arith}
 use borrow.Author.Tests.{ltb-true, eqb-true, not-true, not-false}
 use lib.Dec.{ltb, eqb}
 use lib.ListN.{getD}
+use Rattle.payload.specs.Rows.{tagClass, tagChannel}
 use Rattle.playout.specs.Sizes.{slots}
 use Rattle.playout.specs.Pairs.{half, ahead, order, isAfter, sideOf}
 use Rattle.playout.specs.declared.order.Side.{Side}
@@ -68,8 +69,8 @@ module _ (ts gs ls ss ws : List ℕ) (f : Fixed) where
 
   entry-fine : (i : ℕ) (r : Bool) → cond (passes whole (getD ts 0 0) (beforeAt whole i) (entryAt whole i)) r false ≡ cond (class i) (cond (turnAt i) r false) false
   entry-fine i r =
-      go (allowed (f .settings .format) (getD gs i 0 / 256) (getD ls i 0)) (ltb (getD gs i 0 % 256) (f .settings .channels))
-      (cond (eqb (f .drawn) 0) true (isAfter (order (getD ts i 0) (getD gs i 0 % 256) (f .«last_time») (f .«last_channel»)))) (ltb (ahead (getD ts i 0) (getD ts 0 0)) half) (ascends-at i)
+      go (allowed (f .settings .format) (tagClass (getD gs i 0)) (getD ls i 0)) (ltb (tagChannel (getD gs i 0)) (f .settings .channels))
+      (cond (eqb (f .drawn) 0) true (isAfter (order (getD ts i 0) (tagChannel (getD gs i 0)) (f .«last_time») (f .«last_channel»)))) (ltb (ahead (getD ts i 0) (getD ts 0 0)) half) (ascends-at i)
     where
       go : {u v : Bool} (a b c d : Bool) → u ≡ v
           → cond (cond a (cond b (cond c (cond d u false) false) false) false) r false ≡ cond (a && b) (cond (cond c (cond d v false) false) r false) false

@@ -12,6 +12,7 @@ use lib.Dec.{ltb, eqb}
 use lib.ListN.{length, getD, take, drop, set, take-append-drop, drop-of-length-le}
 use lib.Seq.{drop-cons, take-suc-set, drop-set-lt, set-split}
 use Rattle.rtp.proofs.TestLaws.{by-test}
+use Rattle.payload.specs.Rows.{tagChannel}
 use Rattle.playout.specs.Pairs.{half, ahead, order, sideOf}
 use Rattle.playout.specs.declared.order.Side.{Side}
 use Rattle.reorder.specs.declared.columns.Place.{Place}
@@ -98,7 +99,7 @@ gt≢lt q = let z : _≡_ {A = ℕ} 0 1 = cc in omega arith
 module _ (times tags : List ℕ) (t c : ℕ) where
   -- where the pair lies from the entry at a place
   abbrev pub from : ℕ → Ordering
-  from i = order t c (getD times i 0) (getD tags i 0 % 256)
+  from i = order t c (getD times i 0) (tagChannel (getD tags i 0))
 
   module _ (n : ℕ) where
     place-end : (i : ℕ) → n ≤ i → placeFrom times tags t c (n - i) i ≡ Place.InsertAt i

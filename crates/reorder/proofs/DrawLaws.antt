@@ -12,7 +12,7 @@ use Rattle.playout.specs.Entries.{Entry, frameOf}
 use Rattle.reorder.specs.declared.buffer.Buffer.{Buffer}
 use Rattle.reorder.specs.Bits.{wordsOf, unmarked}
 use Rattle.reorder.specs.Columns.{removeFirst}
-use Rattle.reorder.specs.Layout.{tagOf, column, entryAt, entriesFrom, decode}
+use Rattle.reorder.specs.Layout.{entryTag, column, entryAt, entriesFrom, decode}
 use Rattle.reorder.specs.Judging.{Drawable}
 use Rattle.reorder.proofs.CallLaws.{drawFirst}
 use Rattle.reorder.proofs.WordLaws.{slotOf, slotsOf, words-first}
@@ -65,11 +65,11 @@ module _ (b : Buffer) (n : ℕ) (store area : List ℕ) (d : Drawable b n store 
       sym (column-rest f first rest (omega (arith, size, few))
       ∙ ap₂ removeFirst (ap (column f) (sym entries-are) ∙ q) size)
 
-  pub left : (times tags lengths slots' occupied area' : List ℕ) → times ≡ removeFirst (b .times) n → tags ≡ removeFirst (b .tags) n → lengths ≡ removeFirst (b .lengths) n
+  pub left : (channel class : ℕ) → channel ≡ first .channel → class ≡ first .class → (times tags lengths slots' occupied area' : List ℕ) → times ≡ removeFirst (b .times) n → tags ≡ removeFirst (b .tags) n → lengths ≡ removeFirst (b .lengths) n
       → slots' ≡ removeFirst (b .slots) n → occupied ≡ unmarked (b .occupied) (getD (b .slots) 0 0) → (frame : List ℕ) → frame ≡ frameOf store first
       → area' ≡ paste area 0 frame (length frame)
       → record {
-        answer = record { refusal = 0; empty = 0; time = first .time; channel = first .channel; class = first .class; length = first .length };
+        answer = record { refusal = 0; empty = 0; time = first .time; channel = channel; class = class; length = first .length };
         buffer = record {
           times = times;
           tags = tags;
@@ -77,22 +77,22 @@ module _ (b : Buffer) (n : ℕ) (store area : List ℕ) (d : Drawable b n store 
           slots = slots';
           occupied = occupied;
           «last_time» = first .time;
-          «last_channel» = first .channel;
+          «last_channel» = channel;
           drawn = 1;
           settings = b .settings;
         };
         area = area';
       } ≡ drawFirst b store area (decode b .entries)
-  left times tags lengths slots' occupied area' p q r s u frame f v =
+  left channel class ch cl times tags lengths slots' occupied area' p q r s u frame f v =
       let E = encode-decode b (d .machine) (d .fine) in
       let ti : times ≡ column (λ e. e .time) rest = p ∙ column-left (λ e. e .time) (b .times) (ap (λ (x : Buffer). x .times) E) in
-      let ta : tags ≡ column tagOf rest = q ∙ column-left tagOf (b .tags) (ap (λ (x : Buffer). x .tags) E) in
+      let ta : tags ≡ column entryTag rest = q ∙ column-left entryTag (b .tags) (ap (λ (x : Buffer). x .tags) E) in
       let le : lengths ≡ column (λ e. e .length) rest = r ∙ column-left (λ e. e .length) (b .lengths) (ap (λ (x : Buffer). x .lengths) E) in
       let sl : slots' ≡ column slotOf rest = s ∙ column-left slotOf (b .slots) (ap (λ (x : Buffer). x .slots) E) in
       let oc : occupied ≡ wordsOf (slotsOf rest) = u ∙ ap (λ (w : List ℕ). unmarked w (getD (b .slots) 0 0)) (sym words-are) ∙ sym (words-remove first rest first-slot) in
       let ar : area' ≡ over (frameOf store first) area = v ∙ paste-front area frame ∙ ap (λ (x : List ℕ). over x area) f in
       let z : record {
-        answer = record { refusal = 0; empty = 0; time = first .time; channel = first .channel; class = first .class; length = first .length };
+        answer = record { refusal = 0; empty = 0; time = first .time; channel = channel; class = class; length = first .length };
         buffer = record {
           times = times;
           tags = tags;
@@ -100,13 +100,13 @@ module _ (b : Buffer) (n : ℕ) (store area : List ℕ) (d : Drawable b n store 
           slots = slots';
           occupied = occupied;
           «last_time» = first .time;
-          «last_channel» = first .channel;
+          «last_channel» = channel;
           drawn = 1;
           settings = b .settings;
         };
         area = area';
       } ≡ drawFirst b store area (first ∷ rest) = λ j. record {
-        answer = record { refusal = 0; empty = 0; time = first .time; channel = first .channel; class = first .class; length = first .length };
+        answer = record { refusal = 0; empty = 0; time = first .time; channel = ch j; class = cl j; length = first .length };
         buffer = record {
           times = ti j;
           tags = ta j;
@@ -114,7 +114,7 @@ module _ (b : Buffer) (n : ℕ) (store area : List ℕ) (d : Drawable b n store 
           slots = sl j;
           occupied = oc j;
           «last_time» = first .time;
-          «last_channel» = first .channel;
+          «last_channel» = ch j;
           drawn = 1;
           settings = b .settings;
         };

@@ -11,12 +11,13 @@ use lib.ListN.{length, getD, take, drop, set, length-map, List·getD-map}
 use lib.Seq.{map-set-same}
 use Rattle.rtp.specs.declared.settings.Settings.{Settings}
 use Rattle.rtp.proofs.TestLaws.{not-both}
+use Rattle.payload.specs.Rows.{tagOf, tagClass, tagChannel}
 use Rattle.playout.specs.Sizes.{slots}
 use Rattle.playout.specs.Entries.{Entry, Held}
 use Rattle.reorder.specs.declared.buffer.Buffer.{Buffer}
 use Rattle.reorder.specs.Bits.{wordAt, wordsOf, marked, unmarked}
 use Rattle.reorder.specs.Columns.{insertAt, removeFirst}
-use Rattle.reorder.specs.Layout.{tagOf, padTo, column, flagOf, encode, entryAt, entriesFrom, decode, isFlag, fresh}
+use Rattle.reorder.specs.Layout.{entryTag, padTo, column, flagOf, encode, entryAt, entriesFrom, decode, isFlag, fresh}
 use Rattle.reorder.proofs.ColumnLaws.{inserting, insert-start, inserted, map-inserted}
 use Rattle.reorder.proofs.WordLaws.{slotOf, slotsOf, SlotFacts, held-slots, words-inserted, words-rest}
 
@@ -134,10 +135,13 @@ at-member [] i h = absurd (not-suc-le-zero h)
 at-member (e ∷ es) zero h = here refl
 at-member (e ∷ es) (suc i) h = there (at-member es i (le-of-suc-le-suc h))
 
-pub tag-channel : (e : Entry) → e .channel < 256 → tagOf e % 256 ≡ e .channel
+pub tag-back : (g : ℕ) → tagOf (tagClass g) (tagChannel g) ≡ g
+tag-back g = omega arith
+
+pub tag-channel : (e : Entry) → e .channel < 256 → tagChannel (entryTag e) ≡ e .channel
 tag-channel e h = omega arith
 
-tag-class : (e : Entry) → e .channel < 256 → tagOf e / 256 ≡ e .class
+tag-class : (e : Entry) → e .channel < 256 → tagClass (entryTag e) ≡ e .class
 tag-class e h = omega arith
 
 -- entries read one by one
@@ -162,8 +166,8 @@ module _ (st : Settings) (h : Held) (room : length (h .entries) ≤ slots) (octe
   entry-back : (i : ℕ) → i < length (h .entries) → entryAt (encode st h) i ≡ getD (h .entries) i noEntry
   entry-back i l = λ j. record {
     time = column-at (λ e. e .time) (h .entries) i refl (omega arith) j;
-    channel = (ap (λ (n : ℕ). n % 256) (column-at tagOf (h .entries) i refl (omega arith)) ∙ tag-channel (getD (h .entries) i noEntry) (octets _ (at-member (h .entries) i l))) j;
-    class = (ap (λ (n : ℕ). n / 256) (column-at tagOf (h .entries) i refl (omega arith)) ∙ tag-class (getD (h .entries) i noEntry) (octets _ (at-member (h .entries) i l))) j;
+    channel = (ap tagChannel (column-at entryTag (h .entries) i refl (omega arith)) ∙ tag-channel (getD (h .entries) i noEntry) (octets _ (at-member (h .entries) i l))) j;
+    class = (ap tagClass (column-at entryTag (h .entries) i refl (omega arith)) ∙ tag-class (getD (h .entries) i noEntry) (octets _ (at-member (h .entries) i l))) j;
     length = column-at (λ e. e .length) (h .entries) i refl (omega arith) j;
     slot = column-at slotOf (h .entries) i refl (omega arith) j;
   }

@@ -12,10 +12,10 @@ pub mod AllowedLaws
 pub mod FreeLaws
 pub mod CallLaws
 pub mod StateLaws
-pub mod BridgeLaws
+pub mod BufferLaws
 pub mod CopyLaws
-pub mod StepLaws
-pub mod PartedLaws
+pub mod VerdictLaws
+pub mod PlaceSearchLaws
 pub mod RowStepLaws
 pub mod MachineLaws
 pub mod DrawLaws

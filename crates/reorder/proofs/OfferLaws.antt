@@ -13,6 +13,7 @@ use Rattle.rtp.specs.Areas.{over}
 use Rattle.rtp.specs.declared.refusal.Refusal.{Refusal}
 use Rattle.rtp.specs.declared.header.Header.{Header}
 use Rattle.rtp.proofs.RefusalLaws.{number-positive}
+use Rattle.rtp.proofs.RangeLaws.{few-channels}
 use Rattle.payload.specs.Rows.{Row, words, rowsIn}
 use Rattle.payload.proofs.RowLaws.{length-words, channelAt, rows-words}
 use Rattle.payload.proofs.RowFactLaws.{RowFine, AllRows}
@@ -23,15 +24,16 @@ use Rattle.packet.proofs.RowFactLaws.{rows-fine}
 use Rattle.playout.specs.Sizes.{storeSize}
 use Rattle.playout.specs.Verdicts.{noCounts, tally, Gathered, judgeAll}
 use Rattle.reorder.specs.declared.buffer.Buffer.{Buffer}
-use Rattle.reorder.specs.declared.calls.Tally.{Tally}
+use Rattle.reorder.specs.declared.calls.OfferAnswer.{OfferAnswer}
+use Rattle.reorder.specs.declared.judging.Judged.{Judged}
+use Rattle.reorder.specs.declared.tally.Tally.{Tally}
 use Rattle.reorder.specs.Layout.{encode, decode}
 use Rattle.reorder.specs.WellFormed.{wellFormed}
 use Rattle.reorder.specs.Rows.{copiesOf}
 use Rattle.reorder.specs.Arrays.{Machine}
-use Rattle.reorder.specs.Judging.{countsOf, RowsJudgeable, RowsJudged}
-use Rattle.reorder.specs.Calls.{countNumbers, offerRefused, offerCall}
+use Rattle.reorder.specs.Judging.{noTally, RowsJudgeable, RowsJudged, OfferJudged}
+use Rattle.reorder.specs.Calls.{countNumbers, offerNumbers, offerRefused, offerCall}
 use Rattle.reorder.proofs.CallLaws.{offerRead, offer-reads}
-use Rattle.reorder.proofs.BridgeLaws.{few-channels}
 use Rattle.reorder.proofs.CopyLaws.{rows-allowed}
 
 -- an outcome whose numbers are those of a refusal is that refusal
@@ -59,14 +61,18 @@ unfolding outcomeNumbers
 is-read (refused q) p e = let z : 0 ≡ number q = ap (λ (n : Numbers). n .refusal) e in absurd (omega (arith, number-positive q))
 is-read (readAs h rs) p e = record { head = h; rows = rs; same = refl; count = ap (λ (n : Numbers). n .rows) e }
 
+-- the rows of an offer judged, from none judged
+pub rows-offer : (at : List ℕ → Buffer) (occupied : List ℕ) (sum : Judged) → sum ≡ record { tally = noTally; occupied = occupied }
+    → (b' : Buffer) (packet : List ℕ) (rs : List Row) (t : Tally) (store store' : List ℕ) → RowsJudged (at (sum .occupied)) b' packet rs (sum .tally) t store store'
+    → OfferJudged (at occupied) b' packet rs (OfferAnswer.Judged t) store store'
+rows-offer at occupied sum e b' packet rs t store store' k =
+    let j = subst (λ (x : Judged). RowsJudged (at (x .occupied)) b' packet rs (x .tally) t store store') e k in
+    record { answer = ap (countNumbers 0) (j .counts); buffer = j .buffer; store-left = j .store-left }
+
 channels-few : (format ch n : ℕ) (rs : List Row) → ch ≤ 2 → AllRows (RowFine format ch n) rs → (i : ℕ) → i < length rs → channelAt rs i < 256
 channels-few format ch n [] few f i l = absurd (omega arith)
 channels-few format ch n (r ∷ rs) few f zero l = omega (arith, f .0 .channel)
 channels-few format ch n (r ∷ rs) few f (suc i) l = channels-few format ch n rs few (f .1) i (omega arith)
-
--- no verdict yet
-abbrev none : Tally
-none = record { late = 0; far = 0; repeated = 0; better = 0; «no_room» = 0; inserted = 0 }
 
 module _ (b : Buffer) (packet rows store : List ℕ) (h : inRange (b .settings) ≡ true) (w : wellFormed b ≡ true) (area : rowArea ≤ length rows) (room : storeSize ≤ length store)
     (p : Packet) (e : readingNumbers (Reading.Read p) ≡ outcomeNumbers (reading (b .settings) (length rows) packet))
@@ -95,28 +101,26 @@ module _ (b : Buffer) (packet rows store : List ℕ) (h : inRange (b .settings) 
       ∙ ap rowsIn (take-append-seam (words rs) (drop (length (words rs)) rows))
       ∙ rows-words rs (channels-few (b .settings .format) (b .settings .channels) (length packet) rs (few-channels (b .settings) h) (fine .0))
 
-  module _ (t : Tally) (zeros : t ≡ none) where
-    pub offer-asks : Machine b → RowsJudgeable b packet (rowsIn (take (rowWidth * p .rows) rows')) t store
-    offer-asks m =
-        subst (λ (l : List Row). RowsJudgeable b packet l t store) (sym rows-back)
-        (subst (λ (u : Tally). RowsJudgeable b packet rs u store) (sym zeros) (record {
-          machine = m;
-          settings = h;
-          fine = w;
-          rows = rows-allowed (b .settings) (few-channels (b .settings) h) packet rs (fine .0);
-          small = omega (arith, fine .1);
-          room = room;
-        }))
+  pub offer-asks : Machine b → RowsJudgeable b packet (rowsIn (take (rowWidth * p .rows) rows')) noTally store
+  offer-asks m =
+      subst (λ (l : List Row). RowsJudgeable b packet l noTally store) (sym rows-back) (record {
+        machine = m;
+        settings = h;
+        fine = w;
+        rows = rows-allowed (b .settings) (few-channels (b .settings) h) packet rs (fine .0);
+        small = omega (arith, fine .1);
+        room = room;
+      })
 
-    pub offer-gives : (b' : Buffer) (t' : Tally) (store' : List ℕ) → RowsJudged b b' packet (rowsIn (take (rowWidth * p .rows) rows')) t t' store store'
-        → record { answer = countNumbers 0 (countsOf t'); buffer = b'; rows = rows'; store = store' } ≡ offerCall b packet rows store
-    offer-gives b' t' store' j =
-        let g : judgeAll (decode b) store (copiesOf packet (rowsIn (take (rowWidth * p .rows) rows'))) ≡ judgeAll (decode b) store (copiesOf packet rs) =
-        ap (λ (l : List Row). judgeAll (decode b) store (copiesOf packet l)) rows-back in
-        let c : countsOf t' ≡ tally noCounts (judgeAll (decode b) store (copiesOf packet rs) .judgements) =
-        j .counts ∙ ap₂ (λ (u : Tally) (x : Gathered). tally (countsOf u) (x .judgements)) zeros g in
-        let u : b' ≡ encode (b .settings) (judgeAll (decode b) store (copiesOf packet rs) .held) = j .buffer ∙ ap (λ (x : Gathered). encode (b .settings) (x .held)) g in
-        let s : store' ≡ judgeAll (decode b) store (copiesOf packet rs) .store = j .store-left ∙ ap (λ (x : Gathered). x .store) g in
-        let z : record { answer = countNumbers 0 (countsOf t'); buffer = b'; rows = rows'; store = store' } ≡ offerRead b packet rows store (readAs (is .head) rs) =
-        λ i. record { answer = countNumbers 0 (c i); buffer = u i; rows = rows-are i; store = s i } in
-        z ∙ sym (offer-reads b packet rows store h w area room ∙ ap (offerRead b packet rows store) (is .same))
+  pub offer-gives : (a : OfferAnswer) (b' : Buffer) (store' : List ℕ) → OfferJudged b b' packet (rowsIn (take (rowWidth * p .rows) rows')) a store store'
+      → record { answer = offerNumbers a; buffer = b'; rows = rows'; store = store' } ≡ offerCall b packet rows store
+  offer-gives a b' store' j =
+      let g : judgeAll (decode b) store (copiesOf packet (rowsIn (take (rowWidth * p .rows) rows'))) ≡ judgeAll (decode b) store (copiesOf packet rs) =
+      ap (λ (l : List Row). judgeAll (decode b) store (copiesOf packet l)) rows-back in
+      let c : offerNumbers a ≡ countNumbers 0 (tally noCounts (judgeAll (decode b) store (copiesOf packet rs) .judgements)) =
+      j .answer ∙ ap (λ (x : Gathered). countNumbers 0 (tally noCounts (x .judgements))) g in
+      let u : b' ≡ encode (b .settings) (judgeAll (decode b) store (copiesOf packet rs) .held) = j .buffer ∙ ap (λ (x : Gathered). encode (b .settings) (x .held)) g in
+      let s : store' ≡ judgeAll (decode b) store (copiesOf packet rs) .store = j .store-left ∙ ap (λ (x : Gathered). x .store) g in
+      let z : record { answer = offerNumbers a; buffer = b'; rows = rows'; store = store' } ≡ offerRead b packet rows store (readAs (is .head) rs) =
+      λ i. record { answer = c i; buffer = u i; rows = rows-are i; store = s i } in
+      z ∙ sym (offer-reads b packet rows store h w area room ∙ ap (offerRead b packet rows store) (is .same))

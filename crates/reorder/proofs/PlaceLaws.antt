@@ -9,6 +9,7 @@ use native.Mathlib.Omega.{arith}
 use borrow.Author.Tests.{ne-eqb, eqb-true}
 use lib.Dec.{ltb, eqb}
 use lib.ListN.{length, getD, set}
+use Rattle.payload.specs.Rows.{tagChannel}
 use Rattle.playout.specs.Sizes.{slots}
 use Rattle.playout.specs.Pairs.{half, ahead, after, order, sideOf}
 use Rattle.playout.specs.declared.order.Side.{Side}
@@ -17,7 +18,7 @@ use Rattle.playout.specs.Verdicts.{allWithin, fits}
 use Rattle.playout.proofs.InsertionLaws.{Cmp, cmp}
 use Rattle.reorder.specs.declared.columns.Place.{Place}
 use Rattle.reorder.specs.Columns.{placeAt, placeFrom, withinFrom, fitsFrom}
-use Rattle.reorder.specs.Layout.{tagOf, column}
+use Rattle.reorder.specs.Layout.{entryTag, column}
 use Rattle.reorder.proofs.ColumnLaws.{inserted}
 use Rattle.reorder.proofs.LayoutLaws.{noEntry, Octets, column-at, column-first, at-member, tag-channel}
 
@@ -93,15 +94,15 @@ module _ (e : Entry) where
   -- the search on columns, from the place i on where the entries lie
   module _ (times tags : List ℕ) where
     search-from : (es : List Entry) (i : ℕ)
-        → ((j : ℕ) → j < length es → (getD times (i + j) 0 ≡ getD es j noEntry .time) × (getD tags (i + j) 0 % 256 ≡ getD es j noEntry .channel))
+        → ((j : ℕ) → j < length es → (getD times (i + j) 0 ≡ getD es j noEntry .time) × (tagChannel (getD tags (i + j) 0) ≡ getD es j noEntry .channel))
         → placeFrom times tags (e .time) (e .channel) (length es) i ≡ shift i (placeIn es)
     unfolding placeFrom placeIn shift later
     search-from [] i p = ap Place.InsertAt (let z : i ≡ i + 0 = omega arith in z)
     search-from (x ∷ es) i p =
         ap₂ (λ (t c : ℕ). placeAt (sideOf (order (e .time) (e .channel) t c)) i (placeFrom times tags (e .time) (e .channel) (length es) (i + 1)))
-        (ap (λ (m : ℕ). getD times m 0) z ∙ p 0 (omega arith) .0) (ap (λ (m : ℕ). getD tags m 0 % 256) z ∙ p 0 (omega arith) .1)
+        (ap (λ (m : ℕ). getD times m 0) z ∙ p 0 (omega arith) .0) (ap (λ (m : ℕ). tagChannel (getD tags m 0)) z ∙ p 0 (omega arith) .1)
         ∙ go (sideOf (sideOfEntry e x)) (placeIn es)
-        (search-from es (i + 1) (λ j h. (ap (λ (m : ℕ). getD times m 0) (next j) ∙ p (suc j) (omega arith) .0, ap (λ (m : ℕ). getD tags m 0 % 256) (next j) ∙ p (suc j) (omega arith) .1)))
+        (search-from es (i + 1) (λ j h. (ap (λ (m : ℕ). getD times m 0) (next j) ∙ p (suc j) (omega arith) .0, ap (λ (m : ℕ). tagChannel (getD tags m 0)) (next j) ∙ p (suc j) (omega arith) .1)))
       where
         z : i ≡ i + 0
         z = omega arith
@@ -119,17 +120,17 @@ module _ (e : Entry) where
 -- The search among the columns of a list
 
 module _ (e : Entry) (es : List Entry) (room : length es ≤ slots) (octets : Octets es) where
-  search-is : placeFrom (column (λ x. x .time) es) (column tagOf es) (e .time) (e .channel) (length es) 0 ≡ placeIn e es
+  search-is : placeFrom (column (λ x. x .time) es) (column entryTag es) (e .time) (e .channel) (length es) 0 ≡ placeIn e es
   search-is =
-      search-from e (column (λ x. x .time) es) (column tagOf es) es 0
+      search-from e (column (λ x. x .time) es) (column entryTag es) es 0
       (λ j h. (
         ap (λ (m : ℕ). getD (column (λ x. x .time) es) m 0) (zero-add j) ∙ column-at (λ x. x .time) es j refl (omega arith),
-        ap (λ (m : ℕ). getD (column tagOf es) m 0 % 256) (zero-add j) ∙ ap (λ (n : ℕ). n % 256) (column-at tagOf es j refl (omega arith))
+        ap (λ (m : ℕ). tagChannel (getD (column entryTag es) m 0)) (zero-add j) ∙ ap tagChannel (column-at entryTag es j refl (omega arith))
             ∙ tag-channel (getD es j noEntry) (octets (getD es j noEntry) (at-member es j h)),
       ))
       ∙ shift-none (placeIn e es)
 
-  pub place-at : (p : Place) → p ≡ placeFrom (column (λ x. x .time) es) (column tagOf es) (e .time) (e .channel) (length es) 0 → AtPlace e es p
+  pub place-at : (p : Place) → p ≡ placeFrom (column (λ x. x .time) es) (column entryTag es) (e .time) (e .channel) (length es) 0 → AtPlace e es p
   place-at p q = subst (AtPlace e es) (sym (q ∙ search-is)) (at-place e es)
 
 -- The stretch

@@ -9,6 +9,7 @@ use borrow.Author.Tests.{ltb-true, lt-ltb}
 use lib.Dec.{ltb}
 use lib.ListN.{getD}
 use Rattle.rtp.proofs.TestLaws.{by-test, not-both}
+use Rattle.payload.specs.Rows.{tagChannel}
 use Rattle.playout.specs.Pairs.{half, ahead, order, isAfter}
 use Rattle.playout.proofs.WrapLaws.{ahead-self, Near, place, after-near, place-near, order-after, after-place}
 use Rattle.reorder.specs.Checks.{positionOf}
@@ -73,7 +74,7 @@ module _ (d : Bool) (L e : ℕ) (ts gs : List ℕ) where
   time i = getD ts i 0
 
   abbrev chan : ℕ → ℕ
-  chan i = getD gs i 0 % 256
+  chan i = tagChannel (getD gs i 0)
 
   abbrev base : ℕ
   base = cond d (time 0) L

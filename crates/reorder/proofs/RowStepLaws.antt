@@ -8,7 +8,8 @@ use lib.ListN.{length, getD, take, drop}
 use borrow.Author.Tests.{eq-eqb, ne-eqb}
 use Rattle.rtp.specs.Sizes.{rowWidth}
 use Rattle.rtp.specs.Ranges.{inRange}
-use Rattle.rtp.proofs.AreaLaws.{part-to-end, part-size}
+use Rattle.rtp.proofs.AreaLaws.{part-to-end}
+use Rattle.rtp.proofs.RangeLaws.{few-channels}
 use Rattle.formats.specs.Frames.{noData}
 use Rattle.payload.specs.Rows.{Row, rowOf, rowsIn}
 use Rattle.payload.proofs.RowLaws.{rows-more}
@@ -17,26 +18,21 @@ use Rattle.playout.specs.declared.verdict.Verdict.the-variants.{Late, Far, Repe
 use Rattle.playout.specs.Sizes.{storeSize}
 use Rattle.playout.specs.Copies.{Copy}
 use Rattle.playout.specs.Entries.{Held}
-use Rattle.playout.specs.Verdicts.{Counts, counted, tally, Gathered, judge, judgeAll}
+use Rattle.playout.specs.Verdicts.{Counts, counted, tally, Judgement, Gathered, judge, judgeAll}
 use Rattle.reorder.specs.declared.buffer.Buffer.{Buffer}
-use Rattle.reorder.specs.declared.calls.Tally.{Tally}
-use Rattle.reorder.specs.declared.judging.FrameHead.{FrameHead}
+use Rattle.reorder.specs.declared.tally.Tally.{Tally}
+use Rattle.reorder.specs.declared.laying.FrameHead.{FrameHead}
 use Rattle.reorder.specs.Layout.{encode, decode}
 use Rattle.reorder.specs.Model.{allowed}
 use Rattle.reorder.specs.WellFormed.{wellFormed}
-use Rattle.reorder.specs.Rows.{copyOf, copiesOf}
+use Rattle.reorder.specs.Rows.{firstRow, restWords, copyOf, copiesOf}
 use Rattle.reorder.specs.Arrays.{Machine}
-use Rattle.reorder.specs.Judging.{copyIn, Judgeable, JudgedAs, countsOf, RowsAllowed, RowsJudgeable, RowsJudged}
+use Rattle.reorder.specs.Laying.{copyIn}
+use Rattle.reorder.specs.Judging.{Judgeable, JudgedAs, countsOf, RowsAllowed, RowsJudgeable, RowsJudged}
 use Rattle.reorder.proofs.StateLaws.{Good, judge-good}
-use Rattle.reorder.proofs.BridgeLaws.{few-channels, buffer-good, good-machine, good-fine, good-back}
+use Rattle.reorder.proofs.BufferLaws.{buffer-good, good-machine, good-fine, good-back}
 use Rattle.reorder.proofs.WellFormedLaws.{encode-decode}
-
--- the row at the front of an area, and the area after it
-abbrev pub firstRow : List ℕ → Row
-firstRow ws = rowOf (getD ws 0 0) (getD ws 1 0) (getD ws 2 0) (getD ws 3 0)
-
-abbrev pub restWords : List ℕ → List ℕ
-restWords ws = take (length ws - rowWidth) (drop rowWidth ws)
+use Rattle.reorder.proofs.CopyLaws.{frame-size}
 
 pub rows-split : (ws : List ℕ) → rowWidth ≤ length ws → rowsIn ws ≡ firstRow ws ∷ rowsIn (restWords ws)
 rows-split ws l = rows-more ws l ∙ ap (λ (x : List ℕ). firstRow ws ∷ rowsIn x) (sym (part-to-end rowWidth ws))
@@ -86,14 +82,15 @@ module _ (b : Buffer) (packet : List ℕ) (t : Tally) (store : List ℕ) where
           store-left = j .store-left ∙ ap (λ (l : List Copy). judgeAll (decode b) store l .store) q;
         }
 
-    -- a row of a frame
-    module _ (p : RowsJudgeable b packet (r ∷ rs) t store) (z : r .class ≡ noData → ⊥) (frame : List ℕ) (cut : frame ≡ take (r .length) (drop (r .start) packet)) where
-      abbrev head : FrameHead
-      head = record { time = r .time; class = r .class; channel = r .channel }
+  -- a row of a frame
+  module _ (head : FrameHead) (start size : ℕ) (rs : List Row) where
+    abbrev r : Row
+    r = rowOf (head .time) (head .tag) start size
 
+    module _ (p : RowsJudgeable b packet (r ∷ rs) t store) (z : r .class ≡ noData → ⊥) (frame : List ℕ) (cut : frame ≡ take (r .length) (drop (r .start) packet)) where
       frame-allowed : allowed (b .settings .format) (r .class) (length frame) ≡ true
       frame-allowed =
-          ap (allowed (b .settings .format) (r .class)) (ap length cut ∙ part-size packet (r .start) (r .length) (p .rows .0 z .2)) ∙ p .rows .0 z .0
+          ap (allowed (b .settings .format) (r .class)) (ap length cut ∙ frame-size packet (r .start) (r .length) (p .rows .0 z .2)) ∙ p .rows .0 z .0
 
       pub copy-asks : Judgeable b head frame store
       copy-asks = record { machine = p .machine; settings = p .settings; fine = p .fine; class = frame-allowed; channel = p .rows .0 z .1; room = p .room }

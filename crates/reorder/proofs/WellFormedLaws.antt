@@ -1,8 +1,8 @@
 -- A well-formed buffer has the facts of its model and is the encoding of it; and the encoding of a model with these facts is well-formed.
 use Prim.Native.Nat.{ℕ, zero, suc, _+_, _*_, _/_, _%_, _^_, _≤_, _<_}
-use mathlib.Core.Path.{_≡_, refl, sym, ap, _∙_}
+use mathlib.Core.Path.{_≡_, refl, sym, ap, ap₂, _∙_}
 use mathlib.Core.List.{List, [], _∷_, map, List·Memᴰ, List·Memᴰ·head as here, List·Memᴰ·tail as there, List·Memᴰ·not-nil as nowhere}
-use mathlib.Core.Bool.{Bool, true, false}
+use mathlib.Core.Bool.{Bool, true, false, cond, _&&_}
 use native.Mathlib.Omega.{arith}
 use borrow.Author.Tests.{eqb-true, eq-eqb}
 use lib.Count.{ones}
@@ -10,18 +10,20 @@ use lib.Dec.{eqb}
 use lib.ListN.{length, getD, take, drop, length-map}
 use lib.Seq.{drop-cons}
 use Rattle.rtp.specs.declared.settings.Settings.{Settings}
+use Rattle.payload.specs.Rows.{tagChannel}
 use Rattle.playout.specs.Sizes.{slots}
 use Rattle.playout.specs.Entries.{Entry, Held}
+use Rattle.playout.specs.Verdicts.{allWithin}
 use Rattle.reorder.specs.declared.buffer.Buffer.{Buffer}
 use Rattle.reorder.specs.Bits.{heldIn, wordAt, wordsOf, sameWords}
 use Rattle.reorder.specs.Columns.{zeros}
-use Rattle.reorder.specs.Layout.{tagOf, padTo, column, flagOf, encode, entryAt, entriesFrom, decode, model, isFlag, unusedZero, marksKept, fresh}
+use Rattle.reorder.specs.Layout.{entryTag, padTo, column, flagOf, encode, entryAt, entriesFrom, decode, model, isFlag, unusedZero, marksKept, laidOut, fresh}
 use Rattle.reorder.specs.Model.{ascending, slotsApart, entriesFine, fine}
 use Rattle.reorder.specs.WellFormed.{wellFormed}
 use Rattle.reorder.specs.Arrays.{Machine}
 use Rattle.rtp.proofs.TestLaws.{both as in-turn, and-then}
 use Rattle.reorder.proofs.WordLaws.{slotOf, slotsOf, held-slots}
-use Rattle.reorder.proofs.LayoutLaws.{by-flag, Octets, decode-encode}
+use Rattle.reorder.proofs.LayoutLaws.{by-flag, tag-back, Octets, decode-encode}
 use Rattle.reorder.proofs.ModelLaws.{both, and, Facts, fine-facts, facts-fine}
 
 -- Columns with zeros after the first n values
@@ -56,9 +58,6 @@ entries-map b f xs p zero i h = refl
 entries-map b f xs p (suc k) i h =
     let l : i < length xs = omega arith in
     rw (drop-cons xs i 0 l) (λ j. p i j ∷ entries-map b f xs p k (suc i) (omega arith) j)
-
-tag-back : (g : ℕ) → 256 * (g / 256) + g % 256 ≡ g
-tag-back g = omega arith
 
 -- The marks
 
@@ -95,7 +94,7 @@ module _ (b : Buffer) where
   entries-octets : (k i : ℕ) → Octets (entriesFrom b k i)
   unfolding entriesFrom
   entries-octets zero i e m = absurd (nowhere m)
-  entries-octets (suc k) i e (here q) = rw q (let z : getD (b .tags) i 0 % 256 < 256 = omega arith in z)
+  entries-octets (suc k) i e (here q) = rw q (let z : tagChannel (getD (b .tags) i 0) < 256 = omega arith in z)
   entries-octets (suc k) i e (there m) = entries-octets k (suc i) e m
 
   entries-word : ((i : ℕ) → getD (b .times) i 0 < 2 ^ 32) → (k i : ℕ) (e : Entry) → List·Memᴰ e (entriesFrom b k i) → e .time < 2 ^ 32
@@ -147,7 +146,7 @@ module _ (b : Buffer) (machine : Machine b) (ok : wellFormed b ≡ true) where
       let p = both (q .0) in
       λ i. record {
         times = column-back (λ e. e .time) (b .times) (λ j. refl) (machine .times .0) (p .0) i;
-        tags = column-back tagOf (b .tags) (λ j. tag-back (getD (b .tags) j 0)) (machine .tags .0) (p .1) i;
+        tags = column-back entryTag (b .tags) (λ j. tag-back (getD (b .tags) j 0)) (machine .tags .0) (p .1) i;
         lengths = column-back (λ e. e .length) (b .lengths) (λ j. refl) (machine .lengths .0) (q .1) i;
         slots = column-back slotOf (b .slots) (λ j. refl) (machine .slots-column .0) (r .1) i;
         occupied = words-held i;
@@ -171,7 +170,7 @@ module _ (st : Settings) (h : Held) (F : Facts st h) where
   pub well-formed : wellFormed (encode st h) ≡ true
   unfolding wellFormed
   well-formed =
-      and (and (and (is-flag (h .drawn)) (and (and (and (zero-rest-of (λ e. e .time)) (zero-rest-of tagOf)) (zero-rest-of (λ e. e .length))) (zero-rest-of slotOf)))
+      and (and (and (is-flag (h .drawn)) (and (and (and (zero-rest-of (λ e. e .time)) (zero-rest-of entryTag)) (zero-rest-of (λ e. e .length))) (zero-rest-of slotOf)))
       (words-same (ap (λ (g : Held). wordsOf (slotsOf (g .entries))) back)))
       (ap (λ (g : Held). fine (record { settings = st; held = g })) back ∙ facts-fine st h F)
 

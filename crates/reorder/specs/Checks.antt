@@ -1,10 +1,11 @@
 -- Well-formedness as the code asks it: of numbers and columns, and in one pass over the entries.
-use Prim.Native.Nat.{ℕ, _+_, _*_, _/_, _%_}
+use Prim.Native.Nat.{ℕ, _+_, _*_}
 use mathlib.Core.List.{List, [], _∷_}
 use mathlib.Core.Bool.{Bool, true, false, cond, _&&_}
 use mathlib.Core.Option.{Option, none, some}
 use lib.ListN.{getD}
 use lib.Dec.{ltb, eqb}
+use Rattle.payload.specs.Rows.{tagClass, tagChannel}
 use Rattle.playout.specs.Pairs.{half, ahead, order, isAfter}
 use Rattle.playout.specs.Entries.{Entry}
 use Rattle.reorder.specs.declared.buffer.Buffer.{Buffer}
@@ -19,7 +20,7 @@ lastKept f = isFlag (f .drawn) && lastFine (f .settings) (eqb (f .drawn) 1) (f .
 
 -- an entry's class, length and channel, of its tag and length
 abbrev pub classFine : Fixed → ℕ → ℕ → Bool
-classFine f g n = allowed (f .settings .format) (g / 256) n && ltb (g % 256) (f .settings .channels)
+classFine f g n = allowed (f .settings .format) (tagClass g) n && ltb (tagChannel g) (f .settings .channels)
 
 -- a pair as a number, from a time on: of the last pair drawn, or of the first entry; the least that the first entry may have
 abbrev pub baseOf : Fixed → ℕ → ℕ

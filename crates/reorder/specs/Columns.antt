@@ -1,10 +1,11 @@
 -- Columns of a buffer: lists of fixed length with n places in use.
-use Prim.Native.Nat.{ℕ, zero, suc, _+_, _-_, _%_, _<_, Ordering·lt, Ordering·gt}
+use Prim.Native.Nat.{ℕ, zero, suc, _+_, _-_, _<_, Ordering·lt, Ordering·gt}
 use mathlib.Core.Path.{_≡_}
 use mathlib.Core.List.{List, [], _∷_, _++_}
 use mathlib.Core.Bool.{Bool, true, false, cond}
 use lib.ListN.{getD, take, drop}
 use lib.Dec.{ltb, eqb}
+use Rattle.payload.specs.Rows.{tagChannel}
 use Rattle.playout.specs.Pairs.{half, ahead, order, sideOf}
 use Rattle.playout.specs.declared.order.Side.{Side}
 use Rattle.reorder.specs.declared.columns.Place.{Place}
@@ -30,12 +31,12 @@ placeAt Side.After i r = r
 
 unfoldable pub placeFrom : List ℕ → List ℕ → ℕ → ℕ → ℕ → ℕ → Place
 placeFrom times tags t c zero i = Place.InsertAt i
-placeFrom times tags t c (suc k) i = placeAt (sideOf (order t c (getD times i 0) (getD tags i 0 % 256))) i (placeFrom times tags t c k (i + 1))
+placeFrom times tags t c (suc k) i = placeAt (sideOf (order t c (getD times i 0) (tagChannel (getD tags i 0)))) i (placeFrom times tags t c k (i + 1))
 
 -- the pair (t, c) parts the first n entries: where it is not before one, it is after all in front of that one; so a search from the last finds the same place
 abbrev pub Parted : List ℕ → List ℕ → ℕ → ℕ → ℕ → Type 0
 Parted times tags t c n =
-    (i j : ℕ) → i < j → j < n → (order t c (getD times j 0) (getD tags j 0 % 256) ≡ Ordering·lt → ⊥) → order t c (getD times i 0) (getD tags i 0 % 256) ≡ Ordering·gt
+    (i j : ℕ) → i < j → j < n → (order t c (getD times j 0) (tagChannel (getD tags j 0)) ≡ Ordering·lt → ⊥) → order t c (getD times i 0) (tagChannel (getD tags i 0)) ≡ Ordering·gt
 
 -- `allWithin` and `fits` of k entries from the i-th on, and of the first n
 unfoldable pub withinFrom : List ℕ → ℕ → ℕ → ℕ → Bool

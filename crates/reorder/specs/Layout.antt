@@ -1,10 +1,11 @@
 -- The reorder buffer (document 01: the take) as the code lays it out, and the model that it stands for. `encode` and `decode` alone know the layout.
-use Prim.Native.Nat.{ℕ, zero, suc, _+_, _*_, _/_, _%_}
+use Prim.Native.Nat.{ℕ, zero, suc}
 use mathlib.Core.List.{List, [], _∷_, map}
 use mathlib.Core.Bool.{Bool, cond, _&&_, _||_}
 use lib.ListN.{getD, drop, replicate}
 use lib.Dec.{eqb}
 use Rattle.rtp.specs.declared.settings.Settings.{Settings}
+use Rattle.payload.specs.Rows.{tagOf, tagClass, tagChannel}
 use Rattle.playout.specs.Sizes.{slots}
 use Rattle.playout.specs.Entries.{Entry, Held}
 use Rattle.reorder.specs.declared.buffer.Buffer.{Buffer}
@@ -14,8 +15,8 @@ use Rattle.reorder.specs.Columns.{zeros}
 use Rattle.reorder.specs.Model.{Model}
 
 -- an entry's class and channel in one word, as in a row
-abbrev pub tagOf : Entry → ℕ
-tagOf e = 256 * e .class + e .channel
+abbrev pub entryTag : Entry → ℕ
+entryTag e = tagOf (e .class) (e .channel)
 
 -- a list as a column of n places, the unused ones zero
 unfoldable pub padTo : ℕ → List ℕ → List ℕ
@@ -33,7 +34,7 @@ flagOf drawn = cond drawn 1 0
 abbrev pub encode : Settings → Held → Buffer
 encode st h = record {
   times = column (λ e. e .time) (h .entries);
-  tags = column tagOf (h .entries);
+  tags = column entryTag (h .entries);
   lengths = column (λ e. e .length) (h .entries);
   slots = column (λ e. e .slot) (h .entries);
   occupied = wordsOf (map (λ e. e .slot) (h .entries));
@@ -47,8 +48,8 @@ encode st h = record {
 abbrev pub entryAt : Buffer → ℕ → Entry
 entryAt b i = record {
   time = getD (b .times) i 0;
-  channel = getD (b .tags) i 0 % 256;
-  class = getD (b .tags) i 0 / 256;
+  channel = tagChannel (getD (b .tags) i 0);
+  class = tagClass (getD (b .tags) i 0);
   length = getD (b .lengths) i 0;
   slot = getD (b .slots) i 0;
 }

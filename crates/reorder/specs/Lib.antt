@@ -7,5 +7,6 @@ pub mod WellFormed
 pub mod Rows
 pub mod ModelCalls
 pub mod Checks
-pub mod Judging
 pub mod Calls
+pub mod Laying
+pub mod Judging

@@ -1,13 +1,21 @@
--- The copies that a packet's rows hold.
-use Prim.Native.Nat.{ℕ}
+-- The rows of an area, one after another, and the copies that a packet's rows hold.
+use Prim.Native.Nat.{ℕ, _-_}
 use mathlib.Core.List.{List, [], _∷_}
-use mathlib.Core.Bool.{cond}
-use lib.ListN.{length, take, drop}
+use mathlib.Core.Bool.{Bool, true, false, cond}
+use lib.ListN.{length, getD, take, drop}
 use lib.Dec.{eqb}
 use Rattle.formats.specs.Frames.{noData}
-use Rattle.payload.specs.Rows.{Row}
+use Rattle.rtp.specs.Sizes.{rowWidth}
+use Rattle.payload.specs.Rows.{Row, rowOf}
 use Rattle.packet.specs.Readings.{Outcome, refused, readAs}
 use Rattle.playout.specs.Copies.{Copy}
+
+-- the row at the front of an area, and the area after it
+abbrev pub firstRow : List ℕ → Row
+firstRow ws = rowOf (getD ws 0 0) (getD ws 1 0) (getD ws 2 0) (getD ws 3 0)
+
+abbrev pub restWords : List ℕ → List ℕ
+restWords ws = take (length ws - rowWidth) (drop rowWidth ws)
 
 -- the copy of a row: its frame's bytes are those of the packet
 abbrev pub copyOf : List ℕ → Row → Copy

@@ -7,9 +7,12 @@ use crate::buffer::SLOT_SIZE;
 use crate::buffer::STORE_SIZE;
 use crate::columns;
 use crate::judging;
+use crate::laying;
+use crate::tally::Tally;
 use crate::well_formed;
 use packet::reading;
 use packet::reading::Reading;
+use payload::rows;
 use rtp::refusal::Refusal;
 use rtp::settings;
 use rtp::settings::Settings;
@@ -18,10 +21,11 @@ use rtp::sizes::ROW_WIDTH;
 ghost use mathlib.Core.Path.{_≡_};
 ghost use mathlib.Core.Bool.{true};
 ghost use Rattle.rtp.specs.Ranges.{inRange};
-ghost use Rattle.reorder.specs.Layout.{decode};
+ghost use Rattle.payload.specs.Rows.{rowsIn};
+ghost use Rattle.reorder.specs.Layout.{decode, assembled};
 ghost use Rattle.reorder.specs.ModelCalls.{done, earliest};
 ghost use Rattle.reorder.specs.Calls.{newNumber, newCall, offerNumbers, offerCall, drawNumbers, drawDone, drawCall};
-ghost use Rattle.reorder.specs.Judging.{Drawable};
+ghost use Rattle.reorder.specs.Judging.{noTally, RowsJudgeable, OfferJudged, Drawable};
 
 pub enum NewAnswer {
     Accepted,
@@ -31,16 +35,6 @@ pub enum NewAnswer {
 pub struct Fresh {
     pub answer: NewAnswer,
     pub buffer: Buffer,
-}
-
-// How often each verdict was given.
-pub struct Tally {
-    pub late: u32,
-    pub far: u32,
-    pub repeated: u32,
-    pub better: u32,
-    pub no_room: u32,
-    pub inserted: u32,
 }
 
 pub enum OfferAnswer {
@@ -94,69 +88,6 @@ pub fn new(settings: Settings) -> Fresh
     }
 }
 
-// An offer under settings in range.
-fn offer_checked(buffer: Buffer, packet: &[u8], rows: &mut [u32], store: &mut [u8]) -> Offered
-    requires { ⌜ inRange (buffer .settings) ≡ true ⌝ }
-    ensures { λ r. ⌜ record { answer = offerNumbers (r .answer); buffer = r .buffer; rows = now (rows .exit); store = now (store .exit) } ≡ offerCall buffer (now (packet .entry)) (now (rows .entry)) (now (store .entry)) ⌝ }
-{
-    let mut times = buffer.times;
-    let mut tags = buffer.tags;
-    let mut lengths = buffer.lengths;
-    let mut slots = buffer.slots;
-    let occupied = buffer.occupied;
-    let settings = buffer.settings;
-    let fixed = Fixed {
-        last_time: buffer.last_time,
-        last_channel: buffer.last_channel,
-        drawn: buffer.drawn,
-        settings,
-    };
-    if well_formed::well_formed(&times, &tags, &lengths, &slots, occupied, fixed) {
-        if rows.len() < ROW_AREA {
-            return refuse_offer(Refusal::AreaTooShort, buffer);
-        }
-        if store.len() < STORE_SIZE {
-            return refuse_offer(Refusal::AreaTooShort, buffer);
-        }
-        match reading::read(settings, packet, rows) {
-            Reading::Refused(refusal) => refuse_offer(refusal, buffer),
-            Reading::Read(head) => {
-                let words = ROW_WIDTH * (head.rows as usize);
-                let judged = judging::judge_rows(
-                    &mut times,
-                    &mut tags,
-                    &mut lengths,
-                    &mut slots,
-                    occupied,
-                    fixed,
-                    packet,
-                    &rows[..words],
-                    judging::no_tally(),
-                    store,
-                );
-                let next = judged.occupied;
-                let tally = judged.tally;
-                Offered {
-                    answer: OfferAnswer::Judged(tally),
-                    buffer: Buffer {
-                        times,
-                        tags,
-                        lengths,
-                        slots,
-                        occupied: next,
-                        last_time: fixed.last_time,
-                        last_channel: fixed.last_channel,
-                        drawn: fixed.drawn,
-                        settings,
-                    },
-                }
-            }
-        }
-    } else {
-        refuse_offer(Refusal::MalformedBuffer, buffer)
-    }
-}
-
 fn refuse_offer(refusal: Refusal, buffer: Buffer) -> Offered
     ensures { λ r. ⌜ r ≡ record { answer = OfferAnswer.Refused refusal; buffer = buffer } ⌝ }
 {
@@ -166,9 +97,97 @@ fn refuse_offer(refusal: Refusal, buffer: Buffer) -> Offered
     }
 }
 
+// An offer whose packet was read into these rows.
+fn offer_rows(
+    buffer: Buffer,
+    fixed: Fixed,
+    packet: &[u8],
+    rows: &[u32],
+    store: &mut [u8],
+) -> Offered
+    requires { ⌜ RowsJudgeable (assembled (buffer .times) (buffer .tags) (buffer .lengths) (buffer .slots) (buffer .occupied) fixed)
+        (now packet) (rowsIn (now rows)) noTally (now store) ⌝ }
+    ensures { λ r. ⌜ OfferJudged (assembled (buffer .times) (buffer .tags) (buffer .lengths) (buffer .slots) (buffer .occupied) fixed) (r .buffer)
+        (now (packet .entry)) (rowsIn (now (rows .entry))) (r .answer) (now (store .entry)) (now (store .exit)) ⌝ }
+{
+    let mut times = buffer.times;
+    let mut tags = buffer.tags;
+    let mut lengths = buffer.lengths;
+    let mut slots = buffer.slots;
+    let occupied = buffer.occupied;
+    let judged = judging::judge_rows(
+        &mut times,
+        &mut tags,
+        &mut lengths,
+        &mut slots,
+        judging::none_judged(occupied),
+        fixed,
+        packet,
+        rows,
+        store,
+    );
+    let next = judged.occupied;
+    let tally = judged.tally;
+    let settings = fixed.settings;
+    Offered {
+        answer: OfferAnswer::Judged(tally),
+        buffer: Buffer {
+            times,
+            tags,
+            lengths,
+            slots,
+            occupied: next,
+            last_time: fixed.last_time,
+            last_channel: fixed.last_channel,
+            drawn: fixed.drawn,
+            settings,
+        },
+    }
+}
+
+// An offer under settings in range.
+fn offer_checked(buffer: Buffer, packet: &[u8], rows: &mut [u32], store: &mut [u8]) -> Offered
+    requires { ⌜ inRange (buffer .settings) ≡ true ⌝ }
+    ensures { λ r. ⌜ record { answer = offerNumbers (r .answer); buffer = r .buffer; rows = now (rows .exit); store = now (store .exit) }
+        ≡ offerCall buffer (now (packet .entry)) (now (rows .entry)) (now (store .entry)) ⌝ }
+{
+    let occupied = buffer.occupied;
+    let settings = buffer.settings;
+    let fixed = Fixed {
+        last_time: buffer.last_time,
+        last_channel: buffer.last_channel,
+        drawn: buffer.drawn,
+        settings,
+    };
+    if !well_formed::well_formed(
+        &buffer.times,
+        &buffer.tags,
+        &buffer.lengths,
+        &buffer.slots,
+        occupied,
+        fixed,
+    ) {
+        return refuse_offer(Refusal::MalformedBuffer, buffer);
+    }
+    if rows.len() < ROW_AREA {
+        return refuse_offer(Refusal::AreaTooShort, buffer);
+    }
+    if store.len() < STORE_SIZE {
+        return refuse_offer(Refusal::AreaTooShort, buffer);
+    }
+    match reading::read(settings, packet, rows) {
+        Reading::Refused(refusal) => refuse_offer(refusal, buffer),
+        Reading::Read(head) => {
+            let words = ROW_WIDTH * (head.rows as usize);
+            offer_rows(buffer, fixed, packet, &rows[..words], store)
+        }
+    }
+}
+
 // A packet offered: its rows are read into the row area and judged in order; or a refusal, and everything as it stood.
 pub fn offer(buffer: Buffer, packet: &[u8], rows: &mut [u32], store: &mut [u8]) -> Offered
-    ensures { λ r. ⌜ record { answer = offerNumbers (r .answer); buffer = r .buffer; rows = now (rows .exit); store = now (store .exit) } ≡ offerCall buffer (now (packet .entry)) (now (rows .entry)) (now (store .entry)) ⌝ }
+    ensures { λ r. ⌜ record { answer = offerNumbers (r .answer); buffer = r .buffer; rows = now (rows .exit); store = now (store .exit) }
+        ≡ offerCall buffer (now (packet .entry)) (now (rows .entry)) (now (store .entry)) ⌝ }
 {
     let settings = buffer.settings;
     if settings::in_range(settings) {
@@ -189,16 +208,18 @@ fn refuse_draw(refusal: Refusal, buffer: Buffer) -> Drawn
 // The first of n entries handed out: its frame to the front of the area, its slot free, its pair the last drawn.
 fn draw_first(mut buffer: Buffer, n: usize, store: &[u8], area: &mut [u8]) -> Drawn
     requires { ⌜ Drawable buffer n (now (store)) (now area) ⌝ }
-    ensures { λ r. ⌜ record { answer = drawNumbers (r .answer); buffer = r .buffer; area = now (area .exit) } ≡ drawDone buffer (now (area .entry)) (done (earliest (now (store .entry)) (decode buffer .entries))) ⌝ }
+    ensures { λ r. ⌜ record { answer = drawNumbers (r .answer); buffer = r .buffer; area = now (area .exit) }
+        ≡ drawDone buffer (now (area .entry)) (done (earliest (now (store .entry)) (decode buffer .entries))) ⌝ }
 {
     let time = buffer.times[0];
-    let tag = buffer.tags[0];
+    let channel = rows::tag_channel(buffer.tags[0]);
+    let class = rows::tag_class(buffer.tags[0]);
     let length = buffer.lengths[0];
     let slot = buffer.slots[0] as usize;
     let occupied = buffer.occupied;
     let start = SLOT_SIZE * slot;
     let end = start + (length as usize);
-    judging::copy_into(area, 0, &store[start..end]);
+    laying::copy_into(area, 0, &store[start..end]);
     columns::remove_first(&mut buffer.times, n);
     columns::remove_first(&mut buffer.tags, n);
     columns::remove_first(&mut buffer.lengths, n);
@@ -206,13 +227,13 @@ fn draw_first(mut buffer: Buffer, n: usize, store: &[u8], area: &mut [u8]) -> Dr
     let next = bits::unmark(occupied, slot);
     buffer.occupied = next;
     buffer.last_time = time;
-    buffer.last_channel = tag % 256;
+    buffer.last_channel = channel;
     buffer.drawn = 1;
     Drawn {
         answer: DrawAnswer::Frame(DrawnFrame {
             time,
-            channel: tag % 256,
-            class: tag / 256,
+            channel,
+            class,
             length,
         }),
         buffer,
@@ -222,12 +243,9 @@ fn draw_first(mut buffer: Buffer, n: usize, store: &[u8], area: &mut [u8]) -> Dr
 // A draw under settings in range.
 fn draw_checked(buffer: Buffer, store: &[u8], area: &mut [u8]) -> Drawn
     requires { ⌜ inRange (buffer .settings) ≡ true ⌝ }
-    ensures { λ r. ⌜ record { answer = drawNumbers (r .answer); buffer = r .buffer; area = now (area .exit) } ≡ drawCall buffer (now (store .entry)) (now (area .entry)) ⌝ }
+    ensures { λ r. ⌜ record { answer = drawNumbers (r .answer); buffer = r .buffer; area = now (area .exit) }
+        ≡ drawCall buffer (now (store .entry)) (now (area .entry)) ⌝ }
 {
-    let times = buffer.times;
-    let tags = buffer.tags;
-    let lengths = buffer.lengths;
-    let slots = buffer.slots;
     let occupied = buffer.occupied;
     let settings = buffer.settings;
     let fixed = Fixed {
@@ -236,28 +254,36 @@ fn draw_checked(buffer: Buffer, store: &[u8], area: &mut [u8]) -> Drawn
         drawn: buffer.drawn,
         settings,
     };
-    if well_formed::well_formed(&times, &tags, &lengths, &slots, occupied, fixed) {
-        if store.len() < STORE_SIZE {
-            return refuse_draw(Refusal::AreaTooShort, buffer);
-        }
-        if area.len() < SLOT_SIZE {
-            return refuse_draw(Refusal::AreaTooShort, buffer);
-        }
-        let n = bits::held_in(occupied);
-        if n == 0 {
-            return Drawn {
-                answer: DrawAnswer::Empty,
-                buffer,
-            };
-        }
-        return draw_first(buffer, n, store, area);
+    if !well_formed::well_formed(
+        &buffer.times,
+        &buffer.tags,
+        &buffer.lengths,
+        &buffer.slots,
+        occupied,
+        fixed,
+    ) {
+        return refuse_draw(Refusal::MalformedBuffer, buffer);
     }
-    refuse_draw(Refusal::MalformedBuffer, buffer)
+    if store.len() < STORE_SIZE {
+        return refuse_draw(Refusal::AreaTooShort, buffer);
+    }
+    if area.len() < SLOT_SIZE {
+        return refuse_draw(Refusal::AreaTooShort, buffer);
+    }
+    let n = bits::held_in(occupied);
+    if n == 0 {
+        return Drawn {
+            answer: DrawAnswer::Empty,
+            buffer,
+        };
+    }
+    draw_first(buffer, n, store, area)
 }
 
 // The earliest frame handed out, or that the buffer is empty; or a refusal, and everything as it stood.
 pub fn draw(buffer: Buffer, store: &[u8], area: &mut [u8]) -> Drawn
-    ensures { λ r. ⌜ record { answer = drawNumbers (r .answer); buffer = r .buffer; area = now (area .exit) } ≡ drawCall buffer (now (store .entry)) (now (area .entry)) ⌝ }
+    ensures { λ r. ⌜ record { answer = drawNumbers (r .answer); buffer = r .buffer; area = now (area .exit) }
+        ≡ drawCall buffer (now (store .entry)) (now (area .entry)) ⌝ }
 {
     let settings = buffer.settings;
     if settings::in_range(settings) {

@@ -1,5 +1,6 @@
 // Columns of a buffer.
 use crate::buffer::SLOTS;
+use payload::rows;
 use playout::order;
 use playout::order::Side;
 ghost use mathlib.Core.Path.{_≡_};
@@ -62,7 +63,8 @@ pub(crate) fn find_place(
             break Place::InsertAt(i);
         }
         let last = i - 1;
-        match order::side_of(time, channel, times[last], tags[last] % 256) {
+        let c = rows::tag_channel(tags[last]);
+        match order::side_of(time, channel, times[last], c) {
             Side::Before => {
                 i = last;
             }

@@ -4,4 +4,6 @@ pub mod buffer;
 pub mod calls;
 pub mod columns;
 pub mod judging;
+pub mod laying;
+pub mod tally;
 pub mod well_formed;

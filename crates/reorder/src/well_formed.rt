@@ -5,6 +5,7 @@ use crate::buffer::SLOTS;
 use crate::columns;
 use formats::codes;
 use formats::codes::NO_CODE;
+use payload::rows;
 use playout::order;
 use playout::order::Side;
 ghost use mathlib.Core.Path.{_≡_};
@@ -61,10 +62,10 @@ fn last_kept(fixed: Fixed) -> bool
 fn class_fine(fixed: Fixed, tag: u32, length: u32) -> bool
     ensures { λ r. ⌜ r ≡ classFine fixed tag length ⌝ }
 {
-    if !is_allowed(fixed.settings.format, tag / 256, length) {
+    if !is_allowed(fixed.settings.format, rows::tag_class(tag), length) {
         return false;
     }
-    tag % 256 < (fixed.settings.channels as u32)
+    rows::tag_channel(tag) < (fixed.settings.channels as u32)
 }
 
 // The time from which positions are counted: of the last pair drawn, or of the first entry.
@@ -117,7 +118,7 @@ fn entries_pass(
         if !class_fine(fixed, tags[i], lengths[i]) {
             return false;
         }
-        let at = position(base, times[i], tags[i] % 256);
+        let at = position(base, times[i], rows::tag_channel(tags[i]));
         if at < least {
             return false;
         }
@@ -158,11 +159,11 @@ fn unused_zero(
 }
 
 // Whether the buffer of these parts is well-formed.
-pub(crate) fn well_formed(
-    times: &[u32; SLOTS],
-    tags: &[u32; SLOTS],
-    lengths: &[u32; SLOTS],
-    slots: &[u32; SLOTS],
+pub(crate) fn well_formed<'a>(
+    times: &'a [u32; SLOTS],
+    tags: &'a [u32; SLOTS],
+    lengths: &'a [u32; SLOTS],
+    slots: &'a [u32; SLOTS],
     occupied: [u64; 3],
     fixed: Fixed,
 ) -> bool

@@ -12,9 +12,11 @@ use Rattle.reorder.proofs.calls.draw_first.Statement.{statement}
 use Rattle.reorder.proofs.calls.draw_first.Tie as tie
 use Rattle.reorder.proofs.calls.draw_first.Reads as reads
 use Rattle.reorder.proofs.calls.draw_first.Lts as lts
+use Rattle.payload.proofs.rows.tag_channel.Reads as tag-channel-reads
+use Rattle.payload.proofs.rows.tag_class.Reads as tag-class-reads
 use Rattle.reorder.proofs.bits.unmark.Reads as unmark-reads
 use Rattle.reorder.proofs.columns.remove_first.Reads as remove-first-reads
-use Rattle.reorder.proofs.judging.copy_into.Reads as copy-into-reads
+use Rattle.reorder.proofs.laying.copy_into.Reads as copy-into-reads
 
 slot-at : (s : tie.Start) → getD (s .args .t1 .slots) 0 0 < slots
 slot-at s = first-slot (s .args .t1) (s .args .n) (now (s .args .store)) (now (s .args .area)) (s .pre)
@@ -32,8 +34,17 @@ cut-length n k store l = ap length (part-cut n k store) ∙ part-size store n k 
 element-copy-out-time : tie.Need-element-copy-out-time
 element-copy-out-time c = search needs
 
-element-copy-out-tag : tie.Need-element-copy-out-tag
-element-copy-out-tag c = search needs
+element-copy-out-tag-channel : tie.Need-element-copy-out-tag-channel
+element-copy-out-tag-channel c = search needs
+
+tag-channel-requires : tie.Need-tag-channel-requires
+tag-channel-requires c κs = search needs
+
+element-copy-out-tag-class : tie.Need-element-copy-out-tag-class
+element-copy-out-tag-class c = search needs
+
+tag-class-requires : tie.Need-tag-class-requires
+tag-class-requires c κs = search needs
 
 element-copy-out-length : tie.Need-element-copy-out-length
 element-copy-out-length c = search needs
@@ -45,13 +56,13 @@ cast-slot : tie.Need-cast-slot
 cast-slot c = search needs
 
 mul-start : tie.Need-mul-start
-mul-start c = omega (arith, slot-at (c .before .before .before .before .before .before .before))
+mul-start c = omega (arith, slot-at (c .before .before .before .before .before .before .before .before .before .before))
 
 cast-end : tie.Need-cast-end
 cast-end c = search needs
 
 add-end : tie.Need-add-end
-add-end c = omega (arith, slot-at (c .before .before .before .before .before .before .before), short-at (c .before .before .before .before .before .before .before))
+add-end c = omega (arith, slot-at (c .before .before .before .before .before .before .before .before .before .before), short-at (c .before .before .before .before .before .before .before .before .before .before))
 
 sub-copy-into : tie.Need-sub-copy-into
 sub-copy-into c = search needs
@@ -60,37 +71,37 @@ part-copy-into-start : tie.Need-part-copy-into-start
 part-copy-into-start c = search needs
 
 part-copy-into-end : tie.Need-part-copy-into-end
-part-copy-into-end c = omega (arith, slot-at (c .before .before .before .before .before .before .before .before), short-at (c .before .before .before .before .before .before .before .before), c .before .before .before .before .before .before .before .before .pre .room)
+part-copy-into-end c = omega (arith, slot-at (c .before .before .before .before .before .before .before .before .before .before .before), short-at (c .before .before .before .before .before .before .before .before .before .before .before), c .before .before .before .before .before .before .before .before .before .before .before .pre .room)
 
 copy-into-requires : tie.Need-copy-into-requires
 copy-into-requires c κs =
-    let s = c .before .before .before .before .before .before .before .before .before in
+    let s = c .before .before .before .before .before .before .before .before .before .before .before .before in
     let b = s .args .t1 in
     omega (arith, s .pre .space, short-at s, cut-length (slotSize * getD (b .slots) 0 0) (getD (b .lengths) 0 0) (now (s .args .store)) (omega (arith, slot-at s, short-at s, s .pre .room)))
 
 remove-first-requires : tie.Need-remove-first-requires
-remove-first-requires c κs = (c .before .before .before .before .before .before .before .before .before .before .before .before .before .pre .some, few-at (c .before .before .before .before .before .before .before .before .before .before .before .before .before))
+remove-first-requires c κs = (c .before .before .before .before .before .before .before .before .before .before .before .before .before .before .before .before .pre .some, few-at (c .before .before .before .before .before .before .before .before .before .before .before .before .before .before .before .before))
 
 remove-first-requires-2 : tie.Need-remove-first-requires-2
-remove-first-requires-2 c κs = (c .before .before .before .before .before .before .before .before .before .before .before .before .before .before .before .pre .some, few-at (c .before .before .before .before .before .before .before .before .before .before .before .before .before .before .before))
+remove-first-requires-2 c κs = (c .before .before .before .before .before .before .before .before .before .before .before .before .before .before .before .before .before .before .pre .some, few-at (c .before .before .before .before .before .before .before .before .before .before .before .before .before .before .before .before .before .before))
 
 remove-first-requires-3 : tie.Need-remove-first-requires-3
-remove-first-requires-3 c κs = (c .before .before .before .before .before .before .before .before .before .before .before .before .before .before .before .before .before .pre .some, few-at (c .before .before .before .before .before .before .before .before .before .before .before .before .before .before .before .before .before))
+remove-first-requires-3 c κs = (c .before .before .before .before .before .before .before .before .before .before .before .before .before .before .before .before .before .before .before .before .pre .some, few-at (c .before .before .before .before .before .before .before .before .before .before .before .before .before .before .before .before .before .before .before .before))
 
 remove-first-requires-4 : tie.Need-remove-first-requires-4
-remove-first-requires-4 c κs = (c .before .before .before .before .before .before .before .before .before .before .before .before .before .before .before .before .before .before .before .pre .some, few-at (c .before .before .before .before .before .before .before .before .before .before .before .before .before .before .before .before .before .before .before))
+remove-first-requires-4 c κs = (c .before .before .before .before .before .before .before .before .before .before .before .before .before .before .before .before .before .before .before .before .before .before .pre .some, few-at (c .before .before .before .before .before .before .before .before .before .before .before .before .before .before .before .before .before .before .before .before .before .before))
 
 unmark-requires : tie.Need-unmark-requires
-unmark-requires c κs = let s = c .before .before .before .before .before .before .before .before .before .before .before .before .before .before .before .before .before .before .before .before in (slot-at s, first-marked (s .args .t1) (s .args .n) (now (s .args .store)) (now (s .args .area)) (s .pre))
+unmark-requires c κs = let s = c .before .before .before .before .before .before .before .before .before .before .before .before .before .before .before .before .before .before .before .before .before .before .before in (slot-at s, first-marked (s .args .t1) (s .args .n) (now (s .args .store)) (now (s .args .area)) (s .pre))
 
 same-length : tie.Need-same-length
 same-length c = search needs
 
 returns : tie.Need-returns
 returns c =
-    let s = c .before .before .before .before .before .before .before .before .before .before .before .before .before .before .before .before .before .before .before .before .before in
+    let s = c .before .before .before .before .before .before .before .before .before .before .before .before .before .before .before .before .before .before .before .before .before .before .before .before in
     let b = s .args .t1 in
-    left b (s .args .n) (now (s .args .store)) (now (s .args .area)) (s .pre) _ _ _ _ _ _ (c .before .before .before .before .before .before .before .remove-first .ensures) (c .before .before .before .before .before .remove-first2 .ensures) (c .before .before .before .remove-first3 .ensures) (c .before .remove-first4 .ensures) (c .unmark .ensures)
+    left b (s .args .n) (now (s .args .store)) (now (s .args .area)) (s .pre) _ _ (c .before .before .before .before .before .before .before .before .before .before .before .before .before .before .before .before .before .before .before .tag-channel .ensures .0) (c .before .before .before .before .before .before .before .before .before .before .before .before .before .before .before .before .before .tag-class .ensures) _ _ _ _ _ _ (c .before .before .before .before .before .before .before .remove-first .ensures) (c .before .before .before .before .before .remove-first2 .ensures) (c .before .before .before .remove-first3 .ensures) (c .before .remove-first4 .ensures) (c .unmark .ensures)
     (take (slotSize * getD (b .slots) 0 0 + getD (b .lengths) 0 0 - slotSize * getD (b .slots) 0 0) (drop (slotSize * getD (b .slots) 0 0) (now (s .args .store))))
     (part-cut (slotSize * getD (b .slots) 0 0) (getD (b .lengths) 0 0) (now (s .args .store)))
     (c .before .before .before .before .before .before .before .before .before .before .before .copy-into .ensures)
@@ -100,7 +111,10 @@ draw-first-spec =
     tie.close
     (tie.spec
     element-copy-out-time
-    element-copy-out-tag
+    element-copy-out-tag-channel
+    tag-channel-requires
+    element-copy-out-tag-class
+    tag-class-requires
     element-copy-out-length
     element-copy-out-slot
     cast-slot

@@ -16,6 +16,7 @@ use Rattle.reorder.specs.declared.calls.Offered.{Offered}
 use Rattle.reorder.specs.WellFormed.{wellFormed}
 use Rattle.reorder.specs.Arrays.{Machine}
 use Rattle.reorder.specs.Calls.{OfferOutcome, offerNumbers}
+use Rattle.reorder.proofs.CheckLaws.{passed, failed}
 use Rattle.reorder.proofs.CallLaws.{offer-malformed, offer-rows, offer-store, offer-reads}
 use Rattle.reorder.proofs.MachineLaws.{owned-machine}
 use Rattle.reorder.proofs.OfferLaws.{refused-words, refused-offer, words-fit, offer-asks, offer-gives}
@@ -25,30 +26,30 @@ use Rattle.reorder.proofs.calls.offer_checked.Tie as tie
 use Rattle.reorder.proofs.calls.offer_checked.Reads as reads
 use Rattle.reorder.proofs.calls.offer_checked.Lts as lts
 use Rattle.packet.proofs.reading.read.Reads as read-reads
+use Rattle.reorder.proofs.calls.offer_rows.Reads as offer-rows-reads
 use Rattle.reorder.proofs.calls.refuse_offer.Reads as refuse-offer-reads
-use Rattle.reorder.proofs.judging.judge_rows.Reads as judge-rows-reads
-use Rattle.reorder.proofs.judging.no_tally.Reads as no-tally-reads
 use Rattle.reorder.proofs.well_formed.well_formed.Reads as well-formed-reads
 
 outcome : List ℕ → List ℕ → Offered → OfferOutcome
 outcome rows store r = record { answer = offerNumbers (r .answer); buffer = r .buffer; rows = rows; store = store }
 
-machine-at : (s : tie.Start) → Machine (s .args .buffer)
-machine-at s = owned-machine (s .args .buffer) _ (s .good .0)
+machine-at : (s : tie.Start) → Machine (s .args .t1)
+machine-at s = owned-machine (s .args .t1) _ (s .good .0)
 
-fine-at : (c : tie.Then1) → wellFormed (c .before .before .before .before .before .before .before .before .before .before .before .before .before .before .before .args .buffer) ≡ true
-fine-at c = sym (c .before .well-formed .ensures) ∙ c .if1 .taken
+fine-at : (c : tie.Else1) → wellFormed (c .before .before .before .before .before .before .before .before .before .before .before .before .args .t1) ≡ true
+fine-at c = passed (c .before .well-formed .ensures) (c .if1 .left)
 
 -- what was read
-read-at : (c : tie.After-struct-known)
-    → readingNumbers (Reading.Read (c .before .before .head .given .0 .0)) ≡ outcomeNumbers (reading (c .before .before .before .before .before .before .before .before .before .before .before .before .before .before .before .before .before .before .before .before .before .before .before .before .before .args .buffer .settings) (length (now (c .before .before .before .before .before .before .before .before .before .before .before .before .before .before .before .before .before .before .before .before .before .before .before .before .before .args .rows))) (now (c .before .before .before .before .before .before .before .before .before .before .before .before .before .before .before .before .before .before .before .before .before .before .before .before .before .args .packet)))
-read-at c = ap readingNumbers (sym (c .before .before .head .given .1)) ∙ c .before .before .before .before .before .before .read .ensures .0
+read-at : (c : tie.After-head)
+    → readingNumbers (Reading.Read (c .head .given .0 .0)) ≡ outcomeNumbers (reading (c .before .before .before .before .before .before .before .before .before .before .before .before .before .before .before .before .before .before .before .before .args .t1 .settings) (length (now (c .before .before .before .before .before .before .before .before .before .before .before .before .before .before .before .before .before .before .before .before .args .rows))) (now (c .before .before .before .before .before .before .before .before .before .before .before .before .before .before .before .before .before .before .before .before .args .packet)))
+read-at c = ap readingNumbers (sym (c .head .given .1)) ∙ c .before .before .before .before .read .ensures .0
 
-fit-at : (c : tie.After-struct-known) → rowWidth * c .before .before .head .given .0 .0 .rows ≤ length (now (c .before .before .before .before .before .before .before .before .before .before .before .before .before .before .before .before .before .before .before .before .before .before .before .before .before .args .rows))
+fit-at : (c : tie.After-head) → rowWidth * c .head .given .0 .0 .rows ≤ length (now (c .before .before .before .before .before .before .before .before .before .before .before .before .before .before .before .before .before .before .before .before .args .rows))
 fit-at c =
-    let s = c .before .before .before .before .before .before .before .before .before .before .before .before .before .before .before .before .before .before .before .before .before .before .before .before .before in
-    words-fit (s .args .buffer) (now (s .args .packet)) (now (s .args .rows)) (now (s .args .store)) (s .pre) (fine-at (c .before .before .before .before .before .before .before .before .before .before)) (c .before .before .before .before .before .before .before .before .before .if2 .left) (c .before .before .before .before .before .before .before .before .if3 .left)
-    (c .before .before .head .given .0 .0) (read-at c) _ (c .before .before .before .before .before .before .read .ensures .1)
+    let s = c .before .before .before .before .before .before .before .before .before .before .before .before .before .before .before .before .before .before .before .before in
+    let a = s .args in
+    words-fit (a .t1) (now (a .packet)) (now (a .rows)) (now (a .store)) (s .pre) (fine-at (c .before .before .before .before .before .before .before .before)) (c .before .before .before .before .before .before .before .if2 .left) (c .before .before .before .before .before .before .if3 .left)
+    (c .head .given .0 .0) (read-at c) _ (c .before .before .before .before .read .ensures .1)
 
 well-formed-requires : tie.Need-well-formed-requires
 well-formed-requires c κs = search needs
@@ -58,14 +59,33 @@ refuse-offer-requires c κs = search needs
 
 returns : tie.Need-returns
 unfolding outcome
-returns c = let a = c .before .before .before .before .before .before .before .before .before .before .before .before .before .before .before .before .before .args in ap (outcome (now (a .rows)) (now (a .store))) (c .refuse-offer .ensures) ∙ sym (offer-rows (a .buffer) (now (a .packet)) (now (a .rows)) (now (a .store)) (c .before .before .before .before .before .before .before .before .before .before .before .before .before .before .before .before .before .pre) (fine-at (c .before .before)) (c .before .if2 .taken))
+returns c =
+    let s = c .before .before .before .before .before .before .before .before .before .before .before .before .before in
+    let a = s .args in
+    ap (outcome (now (a .rows)) (now (a .store))) (c .refuse-offer .ensures)
+    ∙ sym (offer-malformed (a .t1) (now (a .packet)) (now (a .rows)) (now (a .store)) (s .pre) (failed (c .before .before .well-formed .ensures) (c .before .if1 .taken)))
 
 refuse-offer-requires-2 : tie.Need-refuse-offer-requires-2
 refuse-offer-requires-2 c κs = search needs
 
 returns-2 : tie.Need-returns-2
 unfolding outcome
-returns-2 c = let a = c .before .before .before .before .before .before .before .before .before .before .before .before .before .before .before .before .before .before .args in ap (outcome (now (a .rows)) (now (a .store))) (c .refuse-offer2 .ensures) ∙ sym (offer-store (a .buffer) (now (a .packet)) (now (a .rows)) (now (a .store)) (c .before .before .before .before .before .before .before .before .before .before .before .before .before .before .before .before .before .before .pre) (fine-at (c .before .before .before)) (c .before .before .if2 .left) (c .before .if3 .taken))
+returns-2 c =
+    let s = c .before .before .before .before .before .before .before .before .before .before .before .before .before .before in
+    let a = s .args in
+    ap (outcome (now (a .rows)) (now (a .store))) (c .refuse-offer2 .ensures)
+    ∙ sym (offer-rows (a .t1) (now (a .packet)) (now (a .rows)) (now (a .store)) (s .pre) (fine-at (c .before .before)) (c .before .if2 .taken))
+
+refuse-offer-requires-3 : tie.Need-refuse-offer-requires-3
+refuse-offer-requires-3 c κs = search needs
+
+returns-3 : tie.Need-returns-3
+unfolding outcome
+returns-3 c =
+    let s = c .before .before .before .before .before .before .before .before .before .before .before .before .before .before .before in
+    let a = s .args in
+    ap (outcome (now (a .rows)) (now (a .store))) (c .refuse-offer3 .ensures)
+    ∙ sym (offer-store (a .t1) (now (a .packet)) (now (a .rows)) (now (a .store)) (s .pre) (fine-at (c .before .before .before)) (c .before .before .if2 .left) (c .before .if3 .taken))
 
 read-requires : tie.Need-read-requires
 read-requires c κs = search needs
@@ -73,8 +93,8 @@ read-requires c κs = search needs
 enum-known-refusal : tie.Need-enum-known-refusal
 enum-known-refusal c = search needs
 
-refuse-offer-requires-3 : tie.Need-refuse-offer-requires-3
-refuse-offer-requires-3 c κs = search needs
+refuse-offer-requires-4 : tie.Need-refuse-offer-requires-4
+refuse-offer-requires-4 c κs = search needs
 
 enum-known-head : tie.Need-enum-known-head
 enum-known-head c = search needs
@@ -85,54 +105,50 @@ cast-words c = search needs
 mul-words : tie.Need-mul-words
 mul-words c = search needs
 
-slice-reshare-prefix-judge-rows : tie.Need-slice-reshare-prefix-judge-rows
-slice-reshare-prefix-judge-rows c = omega (arith, fit-at (c .before .before .before .before))
+slice-reshare-prefix-offer-rows : tie.Need-slice-reshare-prefix-offer-rows
+slice-reshare-prefix-offer-rows c = omega (arith, fit-at (c .before .before))
 
-slice-aggregate-judge-rows : tie.Need-slice-aggregate-judge-rows
-slice-aggregate-judge-rows c = sym (length-take-le (rowWidth * c .before .before .before .before .before .before .before .head .given .0 .0 .rows) (c .before .before .before .before .before .before .before .before .before .before .before .read .last .1 .1 .0) (omega (arith, fit-at (c .before .before .before .before .before), c .before .before .before .before .before .before .before .before .before .before .before .read .kept .1 .1 .0)))
+slice-aggregate-offer-rows : tie.Need-slice-aggregate-offer-rows
+slice-aggregate-offer-rows c =
+    sym (length-take-le (rowWidth * c .before .before .before .head .given .0 .0 .rows) (c .before .before .before .before .before .before .before .read .last .1 .1 .0) (omega (arith, fit-at (c .before .before .before), c .before .before .before .before .before .before .before .read .kept .1 .1 .0)))
 
-no-tally-requires : tie.Need-no-tally-requires
-no-tally-requires c κs = search needs
-
-judge-rows-requires : tie.Need-judge-rows-requires
-judge-rows-requires c κs =
-    let s = c .before .before .before .before .before .before .before .before .before .before .before .before .before .before .before .before .before .before .before .before .before .before .before .before .before .before .before .before .before .before .before .before in
+offer-rows-requires : tie.Need-offer-rows-requires
+offer-rows-requires c κs =
+    let s = c .before .before .before .before .before .before .before .before .before .before .before .before .before .before .before .before .before .before .before .before .before .before .before .before in
     let a = s .args in
-    offer-asks (a .buffer) (now (a .packet)) (now (a .rows)) (now (a .store)) (s .pre) (fine-at (c .before .before .before .before .before .before .before .before .before .before .before .before .before .before .before .before .before)) (c .before .before .before .before .before .before .before .before .before .before .before .before .before .before .before .before .if2 .left) (c .before .before .before .before .before .before .before .before .before .before .before .before .before .before .before .if3 .left) (c .before .before .before .before .before .before .before .before .before .head .given .0 .0) (read-at (c .before .before .before .before .before .before .before)) _ (c .before .before .before .before .before .before .before .before .before .before .before .before .before .read .ensures .1) _ (c .before .no-tally .ensures) (machine-at s)
-
-refuse-offer-requires-4 : tie.Need-refuse-offer-requires-4
-refuse-offer-requires-4 c κs = search needs
+    offer-asks (a .t1) (now (a .packet)) (now (a .rows)) (now (a .store)) (s .pre) (fine-at (c .before .before .before .before .before .before .before .before .before .before .before .before)) (c .before .before .before .before .before .before .before .before .before .before .before .if2 .left) (c .before .before .before .before .before .before .before .before .before .before .if3 .left)
+    (c .before .before .before .before .head .given .0 .0) (read-at (c .before .before .before .before)) _ (c .before .before .before .before .before .before .before .before .read .ensures .1) (machine-at s)
 
 same-length : tie.Need-same-length
 same-length c = search needs
 
-returns-3 : tie.Need-returns-3
+returns-4 : tie.Need-returns-4
 unfolding outcome
-returns-3 c =
-    let a = c .before .before .before .before .before .before .before .before .before .before .before .before .before .before .before .before .before .before .before .before .before .before .before .before .before .args in
-    let o = reading (a .buffer .settings) (length (now (a .rows))) (now (a .packet)) in
-    let e : readingNumbers (Reading.Refused (c .before .before .refusal .given .0 .0)) ≡ outcomeNumbers o = ap readingNumbers (sym (c .before .before .refusal .given .1)) ∙ c .before .before .before .before .before .before .read .ensures .0 in
-    let z : now (a .rows) ≡ c .before .before .before .before .before .before .read .last .1 .1 .0 = sym (c .before .before .before .before .before .before .read .ensures .1 ∙ ap (λ (x : List ℕ). over x (now (a .rows))) (refused-words o (c .before .before .refusal .given .0 .0) e) ∙ over-none (now (a .rows))) in
-    ap (outcome (c .before .before .before .before .before .before .read .last .1 .1 .0) (now (a .store))) (c .refuse-offer3 .ensures)
-    ∙ sym (ap (λ (x : List ℕ). outcome x (now (a .store)) (record { answer = OfferAnswer.Refused (c .before .before .refusal .given .0 .0); buffer = a .buffer })) z)
-    ∙ refused-offer (a .buffer) (now (a .packet)) (now (a .rows)) (now (a .store)) o (c .before .before .refusal .given .0 .0) e
-    ∙ sym (offer-reads (a .buffer) (now (a .packet)) (now (a .rows)) (now (a .store)) (c .before .before .before .before .before .before .before .before .before .before .before .before .before .before .before .before .before .before .before .before .before .before .before .before .before .pre) (fine-at (c .before .before .before .before .before .before .before .before .before .before)) (c .before .before .before .before .before .before .before .before .before .if2 .left) (c .before .before .before .before .before .before .before .before .if3 .left))
+returns-4 c =
+    let s = c .before .before .before .before .before .before .before .before .before .before .before .before .before .before .before .before .before .before .before .before .before .before in
+    let a = s .args in
+    let r = c .before .before .before .before .before .before .read in
+    let q = c .before .before .refusal .given in
+    let o = reading (a .t1 .settings) (length (now (a .rows))) (now (a .packet)) in
+    let e : readingNumbers (Reading.Refused (q .0 .0)) ≡ outcomeNumbers o = ap readingNumbers (sym (q .1)) ∙ r .ensures .0 in
+    let z : now (a .rows) ≡ r .last .1 .1 .0 = sym (r .ensures .1 ∙ ap (λ (x : List ℕ). over x (now (a .rows))) (refused-words o (q .0 .0) e) ∙ over-none (now (a .rows))) in
+    ap (outcome (r .last .1 .1 .0) (now (a .store))) (c .refuse-offer4 .ensures)
+    ∙ sym (ap (λ (x : List ℕ). outcome x (now (a .store)) (record { answer = OfferAnswer.Refused (q .0 .0); buffer = a .t1 })) z)
+    ∙ refused-offer (a .t1) (now (a .packet)) (now (a .rows)) (now (a .store)) o (q .0 .0) e
+    ∙ sym (offer-reads (a .t1) (now (a .packet)) (now (a .rows)) (now (a .store)) (s .pre) (fine-at (c .before .before .before .before .before .before .before .before .before .before)) (c .before .before .before .before .before .before .before .before .before .if2 .left) (c .before .before .before .before .before .before .before .before .if3 .left))
 
 same-length-2 : tie.Need-same-length-2
-same-length-2 c = c .before .before .before .before .before .before .before .before .before .before .before .before .before .before .before .before .before .before .read .kept .1 .1 .0
+same-length-2 c = c .before .before .before .before .before .before .before .before .before .before .before .read .kept .1 .1 .0
 
 same-length-3 : tie.Need-same-length-3
 same-length-3 c = search needs
 
-returns-4 : tie.Need-returns-4
-returns-4 c =
-    let s = c .before .before .before .before .before .before .before .before .before .before .before .before .before .before .before .before .before .before .before .before .before .before .before .before .before .before .before .before .before .before .before .before .before .before .before .before .before in
-    let a = s .args in
-    offer-gives (a .buffer) (now (a .packet)) (now (a .rows)) (now (a .store)) (s .pre) (fine-at (c .before .before .before .before .before .before .before .before .before .before .before .before .before .before .before .before .before .before .before .before .before .before)) (c .before .before .before .before .before .before .before .before .before .before .before .before .before .before .before .before .before .before .before .before .before .if2 .left) (c .before .before .before .before .before .before .before .before .before .before .before .before .before .before .before .before .before .before .before .before .if3 .left) (c .before .before .before .before .before .before .before .before .before .before .before .before .before .before .head .given .0 .0) (read-at (c .before .before .before .before .before .before .before .before .before .before .before .before)) _ (c .before .before .before .before .before .before .before .before .before .before .before .before .before .before .before .before .before .before .read .ensures .1) _ (c .before .before .before .before .before .before .no-tally .ensures) _ _ _ (c .before .before .before .before .judge-rows .ensures)
-
 returns-5 : tie.Need-returns-5
-unfolding outcome
-returns-5 c = let a = c .before .before .before .before .before .before .before .before .before .before .before .before .before .before .before .before .args in ap (outcome (now (a .rows)) (now (a .store))) (c .refuse-offer4 .ensures) ∙ sym (offer-malformed (a .buffer) (now (a .packet)) (now (a .rows)) (now (a .store)) (c .before .before .before .before .before .before .before .before .before .before .before .before .before .before .before .before .pre) (sym (c .before .before .well-formed .ensures) ∙ c .before .if1 .left))
+returns-5 c =
+    let s = c .before .before .before .before .before .before .before .before .before .before .before .before .before .before .before .before .before .before .before .before .before .before .before .before .before .before .before in
+    let a = s .args in
+    offer-gives (a .t1) (now (a .packet)) (now (a .rows)) (now (a .store)) (s .pre) (fine-at (c .before .before .before .before .before .before .before .before .before .before .before .before .before .before .before)) (c .before .before .before .before .before .before .before .before .before .before .before .before .before .before .if2 .left) (c .before .before .before .before .before .before .before .before .before .before .before .before .before .if3 .left)
+    (c .before .before .before .before .before .before .before .head .given .0 .0) (read-at (c .before .before .before .before .before .before .before)) _ (c .before .before .before .before .before .before .before .before .before .before .before .read .ensures .1) _ _ _ (c .before .before .offer-rows .ensures)
 
 pub offer-checked-spec : {M : Type 1} → statement M
 offer-checked-spec =
@@ -143,20 +159,19 @@ offer-checked-spec =
     returns
     refuse-offer-requires-2
     returns-2
+    refuse-offer-requires-3
+    returns-3
     read-requires
     enum-known-refusal
-    refuse-offer-requires-3
+    refuse-offer-requires-4
     enum-known-head
     cast-words
     mul-words
-    slice-reshare-prefix-judge-rows
-    slice-aggregate-judge-rows
-    no-tally-requires
-    judge-rows-requires
-    refuse-offer-requires-4
+    slice-reshare-prefix-offer-rows
+    slice-aggregate-offer-rows
+    offer-rows-requires
     same-length
-    returns-3
+    returns-4
     same-length-2
     same-length-3
-    returns-4
     returns-5)

@@ -1,5 +1,8 @@
-use Prim.Native.Nat.{_≤_, _<_, Ordering·lt}
-use mathlib.Core.Path.{_≡_, sym, _∙_}
+use Prim.Native.Nat.{ℕ, _-_, _≤_, _<_, Ordering·lt}
+use mathlib.Core.Path.{_≡_, sym, ap, _∙_}
+use denote.Ref.{now}
+use lib.ListN.{getD}
+use Rattle.playout.specs.Pairs.{order, sideOf}
 use native.Mathlib.Nat.{lt-irrefl}
 use native.Mathlib.Omega.{arith}
 use Rattle.reorder.proofs.ColumnLaws.{from, side-order, search-none, search-same, search-after}
@@ -8,6 +11,7 @@ use Rattle.reorder.proofs.columns.find_place.Statement.{statement}
 use Rattle.reorder.proofs.columns.find_place.Tie as tie
 use Rattle.reorder.proofs.columns.find_place.Reads as reads
 use Rattle.reorder.proofs.columns.find_place.Lts as lts
+use Rattle.payload.proofs.rows.tag_channel.Reads as tag-channel-reads
 use Rattle.playout.proofs.order.side_of.Reads as side-of-reads
 
 abbrev Inv-loop : tie.InvT-loop
@@ -16,23 +20,30 @@ Inv-loop times tags n time channel i₀ i = (i ≤ n) × (i < n → from times t
 abbrev μ-loop : tie.MeasureT-loop
 μ-loop times tags n time channel i₀ i = i
 
+-- the side, by the entry's channel
+sided : (c : tie.After-side-of Inv-loop μ-loop) → c .side-of .result ≡ sideOf (from (now (c .before .before .before .before .before .before .args .times)) (now (c .before .before .before .before .before .before .args .tags)) (c .before .before .before .before .before .before .args .time) (c .before .before .before .before .before .before .args .channel) (c .before .before .before .before .before .loop .i - 1))
+sided c = c .side-of .ensures ∙ ap (λ (d : ℕ). sideOf (order (c .before .before .before .before .before .before .args .time) (c .before .before .before .before .before .before .args .channel) (getD (now (c .before .before .before .before .before .before .args .times)) (c .before .before .before .before .before .loop .i - 1) 0) d)) (c .before .before .tag-channel .ensures .0)
+
 loop-holds : tie.Need-loop-holds Inv-loop μ-loop
 loop-holds c = (search needs, λ l. absurd (lt-irrefl _ l))
 
 sub-last : tie.Need-sub-last Inv-loop μ-loop
 sub-last c = search needs
 
+mul-tag-channel : tie.Need-mul-tag-channel Inv-loop μ-loop
+mul-tag-channel c = search needs
+
+element-copy-out-tag-channel : tie.Need-element-copy-out-tag-channel Inv-loop μ-loop
+element-copy-out-tag-channel c = search needs
+
+tag-channel-requires : tie.Need-tag-channel-requires Inv-loop μ-loop
+tag-channel-requires c κs = search needs
+
 mul-side-of : tie.Need-mul-side-of Inv-loop μ-loop
 mul-side-of c = search needs
 
 element-copy-out-side-of : tie.Need-element-copy-out-side-of Inv-loop μ-loop
 element-copy-out-side-of c = search needs
-
-mul-side-of-2 : tie.Need-mul-side-of-2 Inv-loop μ-loop
-mul-side-of-2 c = search needs
-
-element-copy-out-side-of-2 : tie.Need-element-copy-out-side-of-2 Inv-loop μ-loop
-element-copy-out-side-of-2 c = search needs
 
 side-of-requires : tie.Need-side-of-requires Inv-loop μ-loop
 side-of-requires c κs = search needs
@@ -44,7 +55,7 @@ loop-less : tie.Need-loop-less Inv-loop μ-loop
 loop-less c = search needs
 
 loop-again : tie.Need-loop-again Inv-loop μ-loop
-loop-again c = (omega arith, λ l. side-order _ _ (sym (c .enum-told .given .1) ∙ c .before .before .side-of .ensures))
+loop-again c = (omega arith, λ l. side-order _ _ (sym (c .enum-told .given .1) ∙ sided (c .before .before)))
 
 enum-told-2 : tie.Need-enum-told-2 Inv-loop μ-loop
 enum-told-2 c = search needs
@@ -57,13 +68,13 @@ returns c = search-none _ _ _ _ _ _ (c .if1 .taken) (c .before .loop .inv .1)
 
 returns-2 : tie.Need-returns-2 Inv-loop μ-loop
 returns-2 c =
-    let l = c .before .before .before .before .before .before in
-    search-same _ _ _ _ _ (l .before .pre .1) (l .loop .i) (omega arith) (l .loop .inv .0) (side-order _ _ (sym (c .enum-told2 .given .1) ∙ c .before .before .side-of .ensures))
+    let l = c .before .before .before .before .before .before .before in
+    search-same _ _ _ _ _ (l .before .pre .1) (l .loop .i) (omega arith) (l .loop .inv .0) (side-order _ _ (sym (c .enum-told2 .given .1) ∙ sided (c .before .before)))
 
 returns-3 : tie.Need-returns-3 Inv-loop μ-loop
 returns-3 c =
-    let l = c .before .before .before .before .before .before in
-    search-after _ _ _ _ _ (l .before .pre .1) (l .loop .i) (omega arith) (l .loop .inv .0) (side-order _ _ (sym (c .enum-told3 .given .1) ∙ c .before .before .side-of .ensures)) (l .loop .inv .1)
+    let l = c .before .before .before .before .before .before .before in
+    search-after _ _ _ _ _ (l .before .pre .1) (l .loop .i) (omega arith) (l .loop .inv .0) (side-order _ _ (sym (c .enum-told3 .given .1) ∙ sided (c .before .before))) (l .loop .inv .1)
 
 pub find-place-spec : {M : Type 1} → statement M
 find-place-spec =
@@ -73,10 +84,11 @@ find-place-spec =
     μ-loop
     loop-holds
     sub-last
+    mul-tag-channel
+    element-copy-out-tag-channel
+    tag-channel-requires
     mul-side-of
     element-copy-out-side-of
-    mul-side-of-2
-    element-copy-out-side-of-2
     side-of-requires
     enum-told
     loop-less

@@ -4,19 +4,38 @@ use Rattle.reorder.proofs.well_formed.class_fine.Statement.{statement}
 use Rattle.reorder.proofs.well_formed.class_fine.Tie as tie
 use Rattle.reorder.proofs.well_formed.class_fine.Reads as reads
 use Rattle.reorder.proofs.well_formed.class_fine.Lts as lts
+use Rattle.payload.proofs.rows.tag_channel.Reads as tag-channel-reads
+use Rattle.payload.proofs.rows.tag_class.Reads as tag-class-reads
 use Rattle.reorder.proofs.well_formed.is_allowed.Reads as is-allowed-reads
+
+tag-class-requires : tie.Need-tag-class-requires
+tag-class-requires c κs = search needs
 
 is-allowed-requires : tie.Need-is-allowed-requires
 is-allowed-requires c κs = search needs
 
 returns : tie.Need-returns
-returns c = rw (← (c .before .is-allowed .ensures), not-true (c .before .is-allowed .result) (c .if1 .taken))
+returns c =
+    rw (← (c .before .before .tag-class .ensures), ← (c .before .is-allowed .ensures), not-true (c .before .is-allowed .result) (c .if1 .taken))
+
+tag-channel-requires : tie.Need-tag-channel-requires
+tag-channel-requires c κs = search needs
 
 cast-result : tie.Need-cast-result
 cast-result c = search needs
 
 returns-2 : tie.Need-returns-2
-returns-2 c = rw (← (c .before .before .is-allowed .ensures), not-false (c .before .before .is-allowed .result) (c .before .if1 .left))
+returns-2 c =
+    let a = c .before .before .before in
+    rw (← (a .before .tag-class .ensures), ← (a .is-allowed .ensures), not-false (a .is-allowed .result) (c .before .before .if1 .left), ← (c .before .tag-channel .ensures .0))
 
 pub class-fine-spec : {M : Type 1} → statement M
-class-fine-spec = tie.close (tie.spec is-allowed-requires returns cast-result returns-2)
+class-fine-spec =
+    tie.close
+    (tie.spec
+    tag-class-requires
+    is-allowed-requires
+    returns
+    tag-channel-requires
+    cast-result
+    returns-2)

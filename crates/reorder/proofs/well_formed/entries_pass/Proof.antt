@@ -1,7 +1,8 @@
-use Prim.Native.Nat.{ℕ, _+_, _-_, _%_, _^_, _≤_, _<_}
+use Prim.Native.Nat.{ℕ, _+_, _-_, _^_, _≤_, _<_}
 use lib.Dec.{eqb}
 use lib.ListN.{getD}
-use mathlib.Core.Path.{_≡_, _∙_, sym, ap, subst}
+use Rattle.payload.specs.Rows.{tagChannel}
+use mathlib.Core.Path.{_≡_, _∙_, sym, ap, ap₂, subst}
 use native.Mathlib.Nat.{sub-zero}
 use native.Mathlib.Numerals.{add-one}
 use native.Mathlib.Omega.{arith}
@@ -13,6 +14,7 @@ use Rattle.reorder.proofs.well_formed.entries_pass.Statement.{statement
 use Rattle.reorder.proofs.well_formed.entries_pass.Tie as tie
 use Rattle.reorder.proofs.well_formed.entries_pass.Reads as reads
 use Rattle.reorder.proofs.well_formed.entries_pass.Lts as lts
+use Rattle.payload.proofs.rows.tag_channel.Reads as tag-channel-reads
 use Rattle.reorder.proofs.bits.claim.Reads as claim-reads
 use Rattle.reorder.proofs.bits.same_words.Reads as same-words-reads
 use Rattle.reorder.proofs.well_formed.base_of.Reads as base-of-reads
@@ -66,37 +68,40 @@ mul-position c = search needs
 element-copy-out-position : tie.Need-element-copy-out-position Inv-loop μ-loop
 element-copy-out-position c = search needs
 
-mul-position-2 : tie.Need-mul-position-2 Inv-loop μ-loop
-mul-position-2 c = search needs
+mul-tag-channel : tie.Need-mul-tag-channel Inv-loop μ-loop
+mul-tag-channel c = search needs
 
-element-copy-out-position-2 : tie.Need-element-copy-out-position-2 Inv-loop μ-loop
-element-copy-out-position-2 c = search needs
+element-copy-out-tag-channel : tie.Need-element-copy-out-tag-channel Inv-loop μ-loop
+element-copy-out-tag-channel c = search needs
+
+tag-channel-requires : tie.Need-tag-channel-requires Inv-loop μ-loop
+tag-channel-requires c κs = search needs
 
 position-requires : tie.Need-position-requires Inv-loop μ-loop
-position-requires c κs = search needs
+position-requires c κs = c .tag-channel .ensures .1
 
 returns-2 : tie.Need-returns-2 Inv-loop μ-loop
 returns-2 c =
-    let l = c .before .before .before .before .before .before .before .before .before .loop in
-    let s = c .before .before .before .before .before .before .before .before .before .before .before .before .before .before in
-    let a = s .args in
-    let f = a .fixed in
-    let bo = c .before .before .before .before .before .before .before .before .before .before .before .base-of .ensures in
-    let lb : baseOf f (getD (a .times .now) 0 0) < 2 ^ 32 = subst (λ (b : ℕ). b < 2 ^ 32) bo (c .before .position .ensures .1) in
-    let p : c .before .position .result ≡ positionOf (baseOf f (getD (a .times .now) 0 0)) (getD (a .times .now) (l .i) 0) (getD (a .tags .now) (l .i) 0 % 256) = c .before .position .ensures .0 ∙ ap (λ (b : ℕ). positionOf b (getD (a .times .now) (l .i) 0) (getD (a .tags .now) (l .i) 0 % 256)) bo in
-    sym (fine-turn _ _ _ _ _ _ _ (l .i) (l .seen) (omega arith) (passed (c .before .before .before .before .before .class-fine .ensures) (c .before .before .before .before .if1 .left))
-    (turn-early (eqb (f .drawn) 0) (f .«last_time») (f .«last_channel») (a .times .now) (a .tags .now) (s .pre .1) lb (l .i) (l .least) (c .before .position .result) (l .inv .2) (c .before .position .ensures .2) p (c .if2 .taken))) ∙ l .inv .1
-
-returns-3 : tie.Need-returns-3 Inv-loop μ-loop
-returns-3 c =
     let l = c .before .before .before .before .before .before .before .before .before .before .loop in
     let s = c .before .before .before .before .before .before .before .before .before .before .before .before .before .before .before in
     let a = s .args in
     let f = a .fixed in
     let bo = c .before .before .before .before .before .before .before .before .before .before .before .before .base-of .ensures in
-    let lb : baseOf f (getD (a .times .now) 0 0) < 2 ^ 32 = subst (λ (b : ℕ). b < 2 ^ 32) bo (c .before .before .position .ensures .1) in
-    let p : c .before .before .position .result ≡ positionOf (baseOf f (getD (a .times .now) 0 0)) (getD (a .times .now) (l .i) 0) (getD (a .tags .now) (l .i) 0 % 256) = c .before .before .position .ensures .0 ∙ ap (λ (b : ℕ). positionOf b (getD (a .times .now) (l .i) 0) (getD (a .tags .now) (l .i) 0 % 256)) bo in
+    let lb : baseOf f (getD (a .times .now) 0 0) < 2 ^ 32 = subst (λ (b : ℕ). b < 2 ^ 32) bo (c .before .position .ensures .1) in
+    let p : c .before .position .result ≡ positionOf (baseOf f (getD (a .times .now) 0 0)) (getD (a .times .now) (l .i) 0) (tagChannel (getD (a .tags .now) (l .i) 0)) = c .before .position .ensures .0 ∙ ap₂ (λ (b d : ℕ). positionOf b (getD (a .times .now) (l .i) 0) d) bo (c .before .before .tag-channel .ensures .0) in
     sym (fine-turn _ _ _ _ _ _ _ (l .i) (l .seen) (omega arith) (passed (c .before .before .before .before .before .before .class-fine .ensures) (c .before .before .before .before .before .if1 .left))
+    (turn-early (eqb (f .drawn) 0) (f .«last_time») (f .«last_channel») (a .times .now) (a .tags .now) (s .pre .1) lb (l .i) (l .least) (c .before .position .result) (l .inv .2) (c .before .position .ensures .2) p (c .if2 .taken))) ∙ l .inv .1
+
+returns-3 : tie.Need-returns-3 Inv-loop μ-loop
+returns-3 c =
+    let l = c .before .before .before .before .before .before .before .before .before .before .before .loop in
+    let s = c .before .before .before .before .before .before .before .before .before .before .before .before .before .before .before .before in
+    let a = s .args in
+    let f = a .fixed in
+    let bo = c .before .before .before .before .before .before .before .before .before .before .before .before .before .base-of .ensures in
+    let lb : baseOf f (getD (a .times .now) 0 0) < 2 ^ 32 = subst (λ (b : ℕ). b < 2 ^ 32) bo (c .before .before .position .ensures .1) in
+    let p : c .before .before .position .result ≡ positionOf (baseOf f (getD (a .times .now) 0 0)) (getD (a .times .now) (l .i) 0) (tagChannel (getD (a .tags .now) (l .i) 0)) = c .before .before .position .ensures .0 ∙ ap₂ (λ (b d : ℕ). positionOf b (getD (a .times .now) (l .i) 0) d) bo (c .before .before .before .tag-channel .ensures .0) in
+    sym (fine-turn _ _ _ _ _ _ _ (l .i) (l .seen) (omega arith) (passed (c .before .before .before .before .before .before .before .class-fine .ensures) (c .before .before .before .before .before .before .if1 .left))
     (turn-far (eqb (f .drawn) 0) (f .«last_time») (f .«last_channel») (a .times .now) (a .tags .now) (s .pre .1) lb (l .i) (l .least) (c .before .before .position .result) (l .inv .2) (c .before .before .position .ensures .2) p (omega (arith, c .if3 .taken)))) ∙ l .inv .1
 
 add-least : tie.Need-add-least Inv-loop μ-loop
@@ -109,22 +114,22 @@ shared-slice-read-slot : tie.Need-shared-slice-read-slot Inv-loop μ-loop
 shared-slice-read-slot c = search needs
 
 cast-slot : tie.Need-cast-slot Inv-loop μ-loop
-cast-slot c = omega (arith, c .shared-slice-known .given (c .before .before .before .before .before .before .before .before .before .before .before .loop .i))
+cast-slot c = omega (arith, c .shared-slice-known .given (c .before .before .before .before .before .before .before .before .before .before .before .before .loop .i))
 
 claim-requires : tie.Need-claim-requires Inv-loop μ-loop
 claim-requires c κs = search needs
 
 returns-4 : tie.Need-returns-4 Inv-loop μ-loop
 returns-4 c =
-    let l = c .before .before .before .before .before .before .before .before .before .before .before .before .before .before .loop in
-    let s = c .before .before .before .before .before .before .before .before .before .before .before .before .before .before .before .before .before .before .before in
+    let l = c .before .before .before .before .before .before .before .before .before .before .before .before .before .before .before .loop in
+    let s = c .before .before .before .before .before .before .before .before .before .before .before .before .before .before .before .before .before .before .before .before in
     let a = s .args in
     let f = a .fixed in
-    let bo = c .before .before .before .before .before .before .before .before .before .before .before .before .before .before .before .before .base-of .ensures in
+    let bo = c .before .before .before .before .before .before .before .before .before .before .before .before .before .before .before .before .before .base-of .ensures in
     let lb : baseOf f (getD (a .times .now) 0 0) < 2 ^ 32 = subst (λ (b : ℕ). b < 2 ^ 32) bo (c .before .before .before .before .before .before .position .ensures .1) in
-    let p : c .before .before .before .before .before .before .position .result ≡ positionOf (baseOf f (getD (a .times .now) 0 0)) (getD (a .times .now) (l .i) 0) (getD (a .tags .now) (l .i) 0 % 256) = c .before .before .before .before .before .before .position .ensures .0 ∙ ap (λ (b : ℕ). positionOf b (getD (a .times .now) (l .i) 0) (getD (a .tags .now) (l .i) 0 % 256)) bo in
+    let p : c .before .before .before .before .before .before .position .result ≡ positionOf (baseOf f (getD (a .times .now) 0 0)) (getD (a .times .now) (l .i) 0) (tagChannel (getD (a .tags .now) (l .i) 0)) = c .before .before .before .before .before .before .position .ensures .0 ∙ ap₂ (λ (b d : ℕ). positionOf b (getD (a .times .now) (l .i) 0) d) bo (c .before .before .before .before .before .before .before .tag-channel .ensures .0) in
     let h = c .before .before .before .before in
-    sym (fine-taken _ _ _ _ _ _ _ (l .i) (l .seen) (omega arith) (passed (c .before .before .before .before .before .before .before .before .before .before .class-fine .ensures) (c .before .before .before .before .before .before .before .before .before .if1 .left))
+    sym (fine-taken _ _ _ _ _ _ _ (l .i) (l .seen) (omega arith) (passed (c .before .before .before .before .before .before .before .before .before .before .before .class-fine .ensures) (c .before .before .before .before .before .before .before .before .before .before .if1 .left))
     (turn-fine (eqb (f .drawn) 0) (f .«last_time») (f .«last_channel») (a .times .now) (a .tags .now) (s .pre .1) lb (l .i) (l .least) (c .before .before .before .before .before .before .position .result) (l .inv .2) (c .before .before .before .before .before .before .position .ensures .2) p (h .before .if2 .left) (omega (arith, h .if3 .left))) (failed (c .before .claim .ensures .0) (c .if4 .taken))) ∙ l .inv .1
 
 add-i : tie.Need-add-i Inv-loop μ-loop
@@ -135,18 +140,18 @@ loop-less c = search needs
 
 loop-again : tie.Need-loop-again Inv-loop μ-loop
 loop-again c =
-    let l = c .before .before .before .before .before .before .before .before .before .before .before .before .before .before .loop in
-    let s = c .before .before .before .before .before .before .before .before .before .before .before .before .before .before .before .before .before .before .before in
+    let l = c .before .before .before .before .before .before .before .before .before .before .before .before .before .before .before .loop in
+    let s = c .before .before .before .before .before .before .before .before .before .before .before .before .before .before .before .before .before .before .before .before in
     let a = s .args in
     let f = a .fixed in
-    let bo = c .before .before .before .before .before .before .before .before .before .before .before .before .before .before .before .before .base-of .ensures in
+    let bo = c .before .before .before .before .before .before .before .before .before .before .before .before .before .before .before .before .before .base-of .ensures in
     let lb : baseOf f (getD (a .times .now) 0 0) < 2 ^ 32 = subst (λ (b : ℕ). b < 2 ^ 32) bo (c .before .before .before .before .before .before .position .ensures .1) in
-    let p : c .before .before .before .before .before .before .position .result ≡ positionOf (baseOf f (getD (a .times .now) 0 0)) (getD (a .times .now) (l .i) 0) (getD (a .tags .now) (l .i) 0 % 256) = c .before .before .before .before .before .before .position .ensures .0 ∙ ap (λ (b : ℕ). positionOf b (getD (a .times .now) (l .i) 0) (getD (a .tags .now) (l .i) 0 % 256)) bo in
+    let p : c .before .before .before .before .before .before .position .result ≡ positionOf (baseOf f (getD (a .times .now) 0 0)) (getD (a .times .now) (l .i) 0) (tagChannel (getD (a .tags .now) (l .i) 0)) = c .before .before .before .before .before .before .position .ensures .0 ∙ ap₂ (λ (b d : ℕ). positionOf b (getD (a .times .now) (l .i) 0) d) bo (c .before .before .before .before .before .before .before .tag-channel .ensures .0) in
     let h = c .before .before .before .before in
     let g = passed (c .before .claim .ensures .0) (c .if4 .left) in (
       omega arith,
       ap (restFine (a .times .now) (a .tags .now) (a .lengths .now) (a .slots .now) (a .occupied) (a .fixed) (a .n) (l .i + 1)) (c .before .claim .ensures .1 ∙ claimed-free (l .seen) _ g)
-          ∙ sym (fine-more _ _ _ _ _ _ _ (l .i) (l .seen) (omega arith) (passed (c .before .before .before .before .before .before .before .before .before .before .class-fine .ensures) (c .before .before .before .before .before .before .before .before .before .if1 .left))
+          ∙ sym (fine-more _ _ _ _ _ _ _ (l .i) (l .seen) (omega arith) (passed (c .before .before .before .before .before .before .before .before .before .before .before .class-fine .ensures) (c .before .before .before .before .before .before .before .before .before .before .if1 .left))
           (turn-fine (eqb (f .drawn) 0) (f .«last_time») (f .«last_channel») (a .times .now) (a .tags .now) (s .pre .1) lb (l .i) (l .least) (c .before .before .before .before .before .before .position .result) (l .inv .2) (c .before .before .before .before .before .before .position .ensures .2) p (h .before .if2 .left) (omega (arith, h .if3 .left))) g) ∙ l .inv .1,
       rw (add-one (l .i)) (told-next (eqb (f .drawn) 0) (f .«last_time») (f .«last_channel») (a .times .now) (a .tags .now) (s .pre .1) lb (l .i) (l .least) (c .before .before .before .before .before .before .position .result) (l .inv .2) (c .before .before .before .before .before .before .position .ensures .2) p (h .before .if2 .left) (omega (arith, h .if3 .left))),
     )
@@ -177,8 +182,9 @@ entries-pass-spec =
     returns
     mul-position
     element-copy-out-position
-    mul-position-2
-    element-copy-out-position-2
+    mul-tag-channel
+    element-copy-out-tag-channel
+    tag-channel-requires
     position-requires
     returns-2
     returns-3

@@ -1,29 +1,31 @@
 use mathlib.Core.List.{List}
-use Prim.Native.Nat.{ℕ, _+_, _-_, _*_, _/_}
+use Prim.Native.Nat.{ℕ, _+_, _-_, _*_}
 use lib.ListN.{getD, take, drop}
+use Rattle.payload.specs.Rows.{tagClass}
 use Rattle.playout.specs.Copies.{betterFrame}
-use Rattle.reorder.specs.declared.judging.FrameHead.{FrameHead}
+use Rattle.reorder.specs.declared.laying.FrameHead.{FrameHead}
 use mathlib.Core.Path.{_≡_, sym, _∙_, ap}
 use mathlib.Core.Bool.{true, false}
 use native.Mathlib.Omega.{arith}
 use denote.Ref.{now}
 use Rattle.playout.specs.Sizes.{slotSize}
-use Rattle.reorder.specs.Judging.{beats}
+use Rattle.reorder.specs.Laying.{classIn, beats}
 use borrow.Author.Needs.{needs}
-use Rattle.reorder.proofs.judging.replace_copy.Statement.{statement}
-use Rattle.reorder.proofs.judging.replace_copy.Tie as tie
-use Rattle.reorder.proofs.judging.replace_copy.Reads as reads
-use Rattle.reorder.proofs.judging.replace_copy.Lts as lts
+use Rattle.reorder.proofs.laying.replace_copy.Statement.{statement}
+use Rattle.reorder.proofs.laying.replace_copy.Tie as tie
+use Rattle.reorder.proofs.laying.replace_copy.Reads as reads
+use Rattle.reorder.proofs.laying.replace_copy.Lts as lts
+use Rattle.payload.proofs.rows.tag_class.Reads as tag-class-reads
 use Rattle.playout.proofs.compare.is_better.Reads as is-better-reads
-use Rattle.reorder.proofs.judging.copy_into.Reads as copy-into-reads
+use Rattle.reorder.proofs.laying.copy_into.Reads as copy-into-reads
 
 -- the part of the store from the slot's start to the frame's end
-part-is : (h : FrameHead) (frame tags lengths slots' : List ℕ) (at : ℕ) (store : List ℕ)
-    → betterFrame (h .class) frame (getD tags at 0 / 256) (take (slotSize * getD slots' at 0 + getD lengths at 0 - slotSize * getD slots' at 0) (drop (slotSize * getD slots' at 0) store))
+part-is : (h : FrameHead) (frame tags lengths slots' : List ℕ) (at : ℕ) (store : List ℕ) (k m : ℕ) → k ≡ classIn h → m ≡ tagClass (getD tags at 0)
+    → betterFrame k frame m (take (slotSize * getD slots' at 0 + getD lengths at 0 - slotSize * getD slots' at 0) (drop (slotSize * getD slots' at 0) store))
     ≡ beats h frame tags lengths slots' at store
-part-is h frame tags lengths slots' at store =
+part-is h frame tags lengths slots' at store k m p q =
     let e : slotSize * getD slots' at 0 + getD lengths at 0 - slotSize * getD slots' at 0 ≡ getD lengths at 0 = omega arith in
-    ap (λ (n : ℕ). betterFrame (h .class) frame (getD tags at 0 / 256) (take n (drop (slotSize * getD slots' at 0) store))) e
+    λ i. betterFrame (p i) frame (q i) (take (e i) (drop (slotSize * getD slots' at 0) store))
 
 mul-start : tie.Need-mul-start
 mul-start c = search needs
@@ -49,11 +51,17 @@ cast-end c = search needs
 add-end : tie.Need-add-end
 add-end c = search needs
 
-mul-is-better : tie.Need-mul-is-better
-mul-is-better c = search needs
+mul-tag-class : tie.Need-mul-tag-class
+mul-tag-class c = search needs
 
-element-copy-out-is-better : tie.Need-element-copy-out-is-better
-element-copy-out-is-better c = search needs
+element-copy-out-tag-class : tie.Need-element-copy-out-tag-class
+element-copy-out-tag-class c = search needs
+
+tag-class-requires : tie.Need-tag-class-requires
+tag-class-requires c κs = search needs
+
+tag-class-requires-2 : tie.Need-tag-class-requires-2
+tag-class-requires-2 c κs = search needs
 
 sub-is-better : tie.Need-sub-is-better
 sub-is-better c = search needs
@@ -69,12 +77,6 @@ is-better-requires c κs = search needs
 
 mul-tags : tie.Need-mul-tags
 mul-tags c = search needs
-
-add-tags : tie.Need-add-tags
-add-tags c = search needs
-
-mul-tags-2 : tie.Need-mul-tags-2
-mul-tags-2 c = search needs
 
 element-write-tags : tie.Need-element-write-tags
 element-write-tags c = search needs
@@ -97,7 +99,7 @@ same-length c = search needs
 returns : tie.Need-returns
 returns c =
     let a = c .before .before .before .before .before .before .before .before .before .before .before .before .before .before .before .args in
-    let t : beats (a .head) (now (a .frame)) (now (a .tags)) (now (a .lengths)) (now (a .slots)) (a .at) (now (a .store)) ≡ true = sym (part-is (a .head) (now (a .frame)) (now (a .tags)) (now (a .lengths)) (now (a .slots)) (a .at) (now (a .store))) ∙ sym (c .before .before .before .before .before .before .before .is-better .ensures) ∙ c .before .before .before .before .before .before .if1 .taken in
+    let t : beats (a .head) (now (a .frame)) (now (a .tags)) (now (a .lengths)) (now (a .slots)) (a .at) (now (a .store)) ≡ true = sym (part-is (a .head) (now (a .frame)) (now (a .tags)) (now (a .lengths)) (now (a .slots)) (a .at) (now (a .store)) _ _ (c .before .before .before .before .before .before .before .before .tag-class2 .ensures) (c .before .before .before .before .before .before .before .before .before .tag-class .ensures)) ∙ sym (c .before .before .before .before .before .is-better .ensures) ∙ c .before .before .before .before .if1 .taken in
     record { verdict = rw t; tags-left = rw t; lengths-left = rw t; store-left = rw t (c .before .before .copy-into .ensures) }
 
 same-length-2 : tie.Need-same-length-2
@@ -105,8 +107,8 @@ same-length-2 c = search needs
 
 returns-2 : tie.Need-returns-2
 returns-2 c =
-    let a = c .before .before .before .before .before .before .before .before .before .args in
-    let t : beats (a .head) (now (a .frame)) (now (a .tags)) (now (a .lengths)) (now (a .slots)) (a .at) (now (a .store)) ≡ false = sym (part-is (a .head) (now (a .frame)) (now (a .tags)) (now (a .lengths)) (now (a .slots)) (a .at) (now (a .store))) ∙ sym (c .before .is-better .ensures) ∙ c .if1 .left in
+    let a = c .before .before .before .before .before .before .before .before .before .before .before .args in
+    let t : beats (a .head) (now (a .frame)) (now (a .tags)) (now (a .lengths)) (now (a .slots)) (a .at) (now (a .store)) ≡ false = sym (part-is (a .head) (now (a .frame)) (now (a .tags)) (now (a .lengths)) (now (a .slots)) (a .at) (now (a .store)) _ _ (c .before .before .before .before .tag-class2 .ensures) (c .before .before .before .before .before .tag-class .ensures)) ∙ sym (c .before .is-better .ensures) ∙ c .if1 .left in
     record { verdict = rw t; tags-left = rw t; lengths-left = rw t; store-left = rw t }
 
 pub replace-copy-spec : {M : Type 1} → statement M
@@ -121,15 +123,15 @@ replace-copy-spec =
     element-copy-out-end
     cast-end
     add-end
-    mul-is-better
-    element-copy-out-is-better
+    mul-tag-class
+    element-copy-out-tag-class
+    tag-class-requires
+    tag-class-requires-2
     sub-is-better
     part-is-better-start
     part-is-better-end
     is-better-requires
     mul-tags
-    add-tags
-    mul-tags-2
     element-write-tags
     cast-lengths
     mul-lengths

@@ -12,17 +12,19 @@ use Rattle.playout.specs.Verdicts.{isLate, isFar}
 use Rattle.playout.proofs.InsertionLaws.{Asc, Cmp, cmp}
 use Rattle.playout.proofs.WrapLaws.{Near, place, order-place, order-after}
 use Rattle.playout.proofs.HeldLaws.{entryPlace, Sorted, sorted-with}
+use Rattle.rtp.proofs.RangeLaws.{few-channels}
 use Rattle.reorder.specs.declared.buffer.Buffer.{Buffer}
-use Rattle.reorder.specs.declared.judging.FrameHead.{FrameHead}
+use Rattle.reorder.specs.declared.laying.FrameHead.{FrameHead}
 use Rattle.reorder.specs.Bits.{heldIn}
 use Rattle.reorder.specs.Columns.{Parted}
 use Rattle.reorder.specs.Layout.{entryAt, decode}
-use Rattle.reorder.specs.Judging.{copyIn, Judgeable}
+use Rattle.reorder.specs.Laying.{channelIn, copyIn}
+use Rattle.reorder.specs.Judging.{Judgeable}
 use Rattle.reorder.proofs.LayoutLaws.{noEntry, at-member}
 use Rattle.reorder.proofs.WellFormedLaws.{decode-length}
 use Rattle.reorder.proofs.StateLaws.{good-facts, fit-frame}
-use Rattle.reorder.proofs.BridgeLaws.{few-channels, buffer-good}
-use Rattle.reorder.proofs.StepLaws.{entries-at}
+use Rattle.reorder.proofs.BufferLaws.{buffer-good}
+use Rattle.reorder.proofs.VerdictLaws.{entries-at}
 
 -- in an ascending list, what comes later is greater
 asc-at : (key : Entry → ℕ) (es : List Entry) → Asc key es → (i j : ℕ) → i < j → j < length es → key (getD es i noEntry) < key (getD es j noEntry)
@@ -51,7 +53,7 @@ sorted-parted b t c es S N i j l h n =
 module _ (b : Buffer) (head : FrameHead) (frame store : List ℕ) (ask : Judgeable b head frame store) (word : head .time < 2 ^ 32) where
   -- the stretch is from the last time drawn; where nothing was drawn, from the first time held or from the pair's own
   pub parts : isLate (decode b) (copyIn head frame) ≡ false → isFar (decode b) (copyIn head frame) ≡ false → (n : ℕ) → n ≡ heldIn (b .occupied)
-      → Parted (b .times) (b .tags) (head .time) (head .channel) n
+      → Parted (b .times) (b .tags) (head .time) (channelIn head) n
   parts late far n count i j l h k =
       let few = few-channels (b .settings) (ask .settings) in
       let S = good-facts (b .settings) (decode b) store (buffer-good b (ask .machine) (ask .settings) (ask .fine) store (ask .room)) in
@@ -60,6 +62,6 @@ module _ (b : Buffer) (head : FrameHead) (frame store : List ℕ) (ask : Judgeab
       let size = decode-length b (ask .machine) (ask .fine) in
       let at : (i : ℕ) → i < n → getD (decode b .entries) i noEntry ≡ entryAt b i
       = λ i l. entries-at b (heldIn (b .occupied)) 0 i (omega arith) ∙ ap (entryAt b) (zero-add i) in
-      subst (λ (e : Entry). order (head .time) (head .channel) (e .time) (e .channel) ≡ Ordering·gt) (at i (omega arith))
-      (sorted-parted (T .0) (head .time) (head .channel) (decode b .entries) (T .1) (T .2) i j l (omega arith)
-      (subst (λ (e : Entry). order (head .time) (head .channel) (e .time) (e .channel) ≡ Ordering·lt → ⊥) (sym (at j h)) k))
+      subst (λ (e : Entry). order (head .time) (channelIn head) (e .time) (e .channel) ≡ Ordering·gt) (at i (omega arith))
+      (sorted-parted (T .0) (head .time) (channelIn head) (decode b .entries) (T .1) (T .2) i j l (omega arith)
+      (subst (λ (e : Entry). order (head .time) (channelIn head) (e .time) (e .channel) ≡ Ordering·lt → ⊥) (sym (at j h)) k))

@@ -9,7 +9,7 @@ use native.Mathlib.Omega.{arith}
 use lib.ListN.{length, getD, set}
 use lib.Seq.{paste}
 use lib.Dec.{ltb, eqb}
-use borrow.Author.Tests.{lt-ltb, le-ltb}
+use borrow.Author.Tests.{lt-ltb, le-ltb, eqb-true, eqb-false}
 use Rattle.rtp.proofs.TestLaws.{by-test}
 use Rattle.playout.specs.declared.verdict.Verdict.{Verdict}
 use Rattle.playout.specs.declared.verdict.Verdict.the-variants.{Late, Far, Repeated, Better, NoRoom, Inserted}
@@ -19,17 +19,18 @@ use Rattle.playout.specs.Entries.{Entry, view, entryOf, sideOfEntry, put, findB
 use Rattle.playout.specs.Verdicts.{Judged, isLate, fits, isFar, keeps, lays, judgeHeld, judge}
 use Rattle.reorder.specs.declared.buffer.Buffer.{Buffer}
 use Rattle.reorder.specs.declared.columns.Place.{Place}
-use Rattle.reorder.specs.declared.judging.FrameHead.{FrameHead}
+use Rattle.reorder.specs.declared.laying.FrameHead.{FrameHead}
 use Rattle.reorder.specs.Bits.{heldIn, wordsOf, marked, lowestFree}
 use Rattle.reorder.specs.Columns.{insertAt, placeFrom, fitsFrom}
-use Rattle.reorder.specs.Layout.{tagOf, column, flagOf, encode, entryAt, entriesFrom, decode}
+use Rattle.reorder.specs.Layout.{entryTag, column, flagOf, encode, entryAt, entriesFrom, decode}
 use Rattle.reorder.specs.WellFormed.{wellFormed}
 use Rattle.reorder.specs.Arrays.{Machine}
-use Rattle.reorder.specs.Judging.{copyIn, tagIn, HeldAt, beats, Replaced, Laid, JudgedAs}
+use Rattle.reorder.specs.Laying.{channelIn, copyIn, HeldAt, beats, Replaced, Laid}
+use Rattle.reorder.specs.Judging.{JudgedAs}
 use Rattle.reorder.proofs.ColumnLaws.{inserted}
 use Rattle.reorder.proofs.WordLaws.{slotOf, slotsOf, free-is}
 use Rattle.reorder.proofs.FreeLaws.{free-when-room}
-use Rattle.reorder.proofs.LayoutLaws.{noEntry, at-member, column-insert, column-set, column-same, words-insert, words-set}
+use Rattle.reorder.proofs.LayoutLaws.{tag-back, noEntry, at-member, column-insert, column-set, column-same, words-insert, words-set}
 use Rattle.reorder.proofs.PlaceLaws.{AtPlace, place-at, fits-is}
 use Rattle.reorder.proofs.WellFormedLaws.{facts, decode-length, words-held, encode-decode}
 use Rattle.reorder.proofs.AllowedLaws.{allowed-frame}
@@ -96,29 +97,28 @@ module _ (b : Buffer) (m : Machine b) (w : wellFormed b ≡ true) (head : FrameH
       far-none : b .drawn ≡ 0 → isFar (decode b) c ≡ not (fitsFrom (b .times) (head .time) n)
       far-none z = ap (λ (d : ℕ). cond (eqb d 1) false (not (fits (head .time) es))) z ∙ ap not (sym fits-here)
 
-      pub step-far : b .drawn ≡ 0 → fitsFrom (b .times) (head .time) n ≡ false → JudgedAs b b c store store Far
-      step-far z f =
-          kept Far
-          (judge-timely
-          ∙ ap (λ (v : Bool). cond v (keeps (decode b) store Far) (judgeHeld c (decode b) store (findBy (sideOfEntry (entryOf c 0)) es))) (far-none z ∙ ap not f))
-
-      pub near-none : b .drawn ≡ 0 → fitsFrom (b .times) (head .time) n ≡ true → isFar (decode b) c ≡ false
-      near-none z f = far-none z ∙ ap not f
-
-      pub near-some : (b .drawn ≡ 0 → ⊥) → isFar (decode b) c ≡ false
+      near-some : (b .drawn ≡ 0 → ⊥) → isFar (decode b) c ≡ false
       near-some z =
           by-test (eqb (b .drawn) 1)
           (λ t. ap (λ (v : Bool). cond v false (not (fits (head .time) es))) t)
           (λ t. absurd (z (sym (ap (λ (a : Buffer). a .drawn) back) ∙ ap flagOf t)))
 
-      module _ (p : Place) (found : p ≡ placeFrom (b .times) (b .tags) (head .time) (head .channel) n 0) where
+      pub far-is : isFar (decode b) c ≡ cond (eqb (b .drawn) 0) (not (fitsFrom (b .times) (head .time) n)) false
+      far-is = by-test (eqb (b .drawn) 0) (λ t. rw t (far-none (eqb-true (b .drawn) 0 t))) (λ t. rw t (near-some (eqb-false (b .drawn) 0 t)))
+
+      pub step-far : isFar (decode b) c ≡ true → JudgedAs b b c store store Far
+      step-far f =
+          kept Far
+          (judge-timely ∙ ap (λ (v : Bool). cond v (keeps (decode b) store Far) (judgeHeld c (decode b) store (findBy (sideOfEntry (entryOf c 0)) es))) f)
+
+      module _ (p : Place) (found : p ≡ placeFrom (b .times) (b .tags) (head .time) (channelIn head) n 0) where
         at : (k : ℕ) → AtPlace (entryOf c k) es p
         unfolding entryOf
         at k =
             place-at (entryOf c k) es (facts b m w .room) (λ e i. facts b m w .each e i .octet) p
             (found
-            ∙ ap₂ (λ (xs ys : List ℕ). placeFrom xs ys (head .time) (head .channel) n 0) (sym (ap (λ (a : Buffer). a .times) back)) (sym (ap (λ (a : Buffer). a .tags) back))
-            ∙ ap (λ (k : ℕ). placeFrom (column (λ e. e .time) es) (column tagOf es) (head .time) (head .channel) k 0) size)
+            ∙ ap₂ (λ (xs ys : List ℕ). placeFrom xs ys (head .time) (channelIn head) n 0) (sym (ap (λ (a : Buffer). a .times) back)) (sym (ap (λ (a : Buffer). a .tags) back))
+            ∙ ap (λ (k : ℕ). placeFrom (column (λ e. e .time) es) (column entryTag es) (head .time) (channelIn head) k 0) size)
 
         judge-near : isFar (decode b) c ≡ false → (o : Option Entry) → findBy (sideOfEntry (entryOf c 0)) es ≡ o → judge (decode b) store c ≡ judgeHeld c (decode b) store o
         judge-near far o q =
@@ -127,7 +127,7 @@ module _ (b : Buffer) (m : Machine b) (w : wellFormed b ≡ true) (head : FrameH
 
       -- The pair is held
 
-      module _ (i : ℕ) (found : Place.FoundAt i ≡ placeFrom (b .times) (b .tags) (head .time) (head .channel) n 0) where
+      module _ (i : ℕ) (found : Place.FoundAt i ≡ placeFrom (b .times) (b .tags) (head .time) (channelIn head) n 0) where
         abbrev here-at : (k : ℕ) → AtPlace (entryOf c k) es (Place.FoundAt i)
         here-at = at (Place.FoundAt i) found
 
@@ -170,11 +170,11 @@ module _ (b : Buffer) (m : Machine b) (w : wellFormed b ≡ true) (head : FrameH
         column-put f = ap (column f) put-is
 
         buffer-better : encode (b .settings) (lays c slot-of (decode b) store Better .held)
-            ≡ laid (b .times) (set (b .tags) i (tagIn head)) (set (b .lengths) i (length frame)) (b .slots) (b .occupied)
+            ≡ laid (b .times) (set (b .tags) i (head .tag)) (set (b .lengths) i (length frame)) (b .slots) (b .occupied)
         unfolding entryOf
         buffer-better = λ j. record {
           times = (column-put (λ e. e .time) ∙ column-same (λ e. e .time) es i (entryOf c slot-of) (here-at slot-of .same .0) ∙ ap (λ (a : Buffer). a .times) back) j;
-          tags = (column-put tagOf ∙ column-set tagOf es i (entryOf c slot-of) (here-at 0 .within) ∙ ap (λ (a : Buffer). set (a .tags) i (tagIn head)) back) j;
+          tags = (column-put entryTag ∙ column-set entryTag es i (entryOf c slot-of) (here-at 0 .within) ∙ ap₂ (λ (a : Buffer) (g : ℕ). set (a .tags) i g) back (tag-back (head .tag))) j;
           lengths = (column-put (λ e. e .length) ∙ column-set (λ e. e .length) es i (entryOf c slot-of) (here-at 0 .within) ∙ ap (λ (a : Buffer). set (a .lengths) i (length frame)) back) j;
           slots = (column-put slotOf ∙ column-same slotOf es i (entryOf c slot-of) refl ∙ ap (λ (a : Buffer). a .slots) back) j;
           occupied = (ap (λ (l : List Entry). wordsOf (slotsOf l)) put-is ∙ words-set es i (entryOf c slot-of) refl ∙ words-held b m w) j;
@@ -192,7 +192,7 @@ module _ (b : Buffer) (m : Machine b) (w : wellFormed b ≡ true) (head : FrameH
             by-test (beats head frame (b .tags) (b .lengths) (b .slots) i store)
             (λ t.
             let q = judge-found far true t in
-            let u : tags ≡ set (b .tags) i (tagIn head) = r .tags-left ∙ ap (λ (x : Bool). cond x (set (b .tags) i (tagIn head)) (b .tags)) t in
+            let u : tags ≡ set (b .tags) i (head .tag) = r .tags-left ∙ ap (λ (x : Bool). cond x (set (b .tags) i (head .tag)) (b .tags)) t in
             let y : lengths ≡ set (b .lengths) i (length frame) = r .lengths-left ∙ ap (λ (x : Bool). cond x (set (b .lengths) i (length frame)) (b .lengths)) t in
             record {
               verdict = r .verdict ∙ ap (λ (x : Bool). cond x Better Repeated) t ∙ sym (ap (λ (j : Judged). j .verdict) q);
@@ -203,7 +203,7 @@ module _ (b : Buffer) (m : Machine b) (w : wellFormed b ≡ true) (head : FrameH
             })
             (λ t.
             let q = judge-found far false t in
-            let u : tags ≡ b .tags = r .tags-left ∙ ap (λ (x : Bool). cond x (set (b .tags) i (tagIn head)) (b .tags)) t in
+            let u : tags ≡ b .tags = r .tags-left ∙ ap (λ (x : Bool). cond x (set (b .tags) i (head .tag)) (b .tags)) t in
             let y : lengths ≡ b .lengths = r .lengths-left ∙ ap (λ (x : Bool). cond x (set (b .lengths) i (length frame)) (b .lengths)) t in
             record {
               verdict = r .verdict ∙ ap (λ (x : Bool). cond x Better Repeated) t ∙ sym (ap (λ (j : Judged). j .verdict) q);
@@ -214,7 +214,7 @@ module _ (b : Buffer) (m : Machine b) (w : wellFormed b ≡ true) (head : FrameH
 
       -- The pair is not held
 
-      module _ (i : ℕ) (found : Place.InsertAt i ≡ placeFrom (b .times) (b .tags) (head .time) (head .channel) n 0) where
+      module _ (i : ℕ) (found : Place.InsertAt i ≡ placeFrom (b .times) (b .tags) (head .time) (channelIn head) n 0) where
         pub place-in : i ≤ n
         place-in = omega (arith, at (Place.InsertAt i) found 0 .within, size)
 
@@ -245,11 +245,11 @@ module _ (b : Buffer) (m : Machine b) (w : wellFormed b ≡ true) (head : FrameH
               ∙ ap (λ (x : ℕ). insertAt (column f es) x i (f (entryOf c k))) (sym size)
 
           buffer-new : encode (b .settings) (lays c (freeSlot es) (decode b) store Inserted .held)
-              ≡ laid (insertAt (b .times) n i (head .time)) (insertAt (b .tags) n i (tagIn head)) (insertAt (b .lengths) n i (length frame)) (insertAt (b .slots) n i k) (marked (b .occupied) k)
+              ≡ laid (insertAt (b .times) n i (head .time)) (insertAt (b .tags) n i (head .tag)) (insertAt (b .lengths) n i (length frame)) (insertAt (b .slots) n i k) (marked (b .occupied) k)
           unfolding entryOf
           buffer-new = λ j. record {
             times = (column-new (λ e. e .time) ∙ ap (λ (a : Buffer). insertAt (a .times) n i (head .time)) back) j;
-            tags = (column-new tagOf ∙ ap (λ (a : Buffer). insertAt (a .tags) n i (tagIn head)) back) j;
+            tags = (column-new entryTag ∙ ap₂ (λ (a : Buffer) (g : ℕ). insertAt (a .tags) n i g) back (tag-back (head .tag))) j;
             lengths = (column-new (λ e. e .length) ∙ ap (λ (a : Buffer). insertAt (a .lengths) n i (length frame)) back) j;
             slots = (column-new slotOf ∙ ap (λ (a : Buffer). insertAt (a .slots) n i k) back) j;
             occupied =
@@ -268,7 +268,7 @@ module _ (b : Buffer) (m : Machine b) (w : wellFormed b ≡ true) (head : FrameH
           step-new far times tags lengths slots' occupied store' r =
               let q = judge-new far true (lt-ltb (length es) slots (omega (arith, size))) in
               let z : laid times tags lengths slots' occupied
-              ≡ laid (insertAt (b .times) n i (head .time)) (insertAt (b .tags) n i (tagIn head)) (insertAt (b .lengths) n i (length frame)) (insertAt (b .slots) n i k) (marked (b .occupied) k)
+              ≡ laid (insertAt (b .times) n i (head .time)) (insertAt (b .tags) n i (head .tag)) (insertAt (b .lengths) n i (length frame)) (insertAt (b .slots) n i k) (marked (b .occupied) k)
               = λ j. laid (r .times-left j) (r .tags-left j) (r .lengths-left j) (r .slots-left j) (r .words-left j) in
               record {
                 verdict = sym (ap (λ (j : Judged). j .verdict) q);

@@ -1,19 +1,22 @@
 -- Laws between a buffer and its model.
-use mathlib.Core.Path.{_≡_, refl}
+use mathlib.Core.Path.{_≡_, refl, ap, sym, _∙_, subst}
 use mathlib.Core.List.{List, [], _∷_, map, List·Memᴰ, List·Memᴰ·head as here, List·Memᴰ·tail as there}
-use mathlib.Core.Bool.{true}
-use Prim.Native.Nat.{ℕ, zero, suc, _≤_, _<_, _^_}
+use mathlib.Core.Bool.{Bool, true, false, cond}
+use Prim.Native.Nat.{ℕ, zero, suc, _+_, _*_, _≤_, _<_, _^_}
 use native.Mathlib.Omega.{arith}
 use lib.ListN.{length, getD}
-use lib.Dec.{eqb}
+use lib.Dec.{ltb, eqb}
+use borrow.Author.Tests.{ltb-true, ltb-false, eqb-true, eqb-false}
 use Rattle.rtp.specs.Ranges.{inRange}
 use Rattle.rtp.specs.declared.settings.Settings.{Settings}
-use Rattle.rtp.proofs.TestLaws.{by-test}
-pub use Rattle.rtp.proofs.RangeLaws.{few-channels}
-use Rattle.playout.specs.Sizes.{slots, storeSize}
+use Rattle.rtp.proofs.TestLaws.{by-test, not-both}
+use Rattle.rtp.proofs.RangeLaws.{few-channels}
+use Rattle.playout.specs.Sizes.{slots, slotSize, storeSize}
 use Rattle.playout.specs.Entries.{Entry, Held}
+use Rattle.playout.proofs.HeldLaws.{HeldFacts}
 use Rattle.reorder.specs.declared.buffer.Buffer.{Buffer}
-use Rattle.reorder.specs.Layout.{tagOf, padTo, column, encode, decode}
+use Rattle.reorder.specs.Bits.{heldIn, wordsOf}
+use Rattle.reorder.specs.Layout.{entryTag, padTo, column, encode, decode}
 use Rattle.reorder.specs.WellFormed.{wellFormed}
 use Rattle.reorder.specs.Arrays.{Column, Machine}
 use Rattle.reorder.proofs.LayoutLaws.{column-length, decode-encode}
@@ -57,7 +60,7 @@ module _ (st : Settings) (h : Held) (s : List ℕ) (g : Good st h s) where
       let S = good-facts st h s g in
       record {
         times = column-word (λ e. e .time) (h .entries) (g .words);
-        tags = column-word tagOf (h .entries) (λ e m. let i = S .each e m in omega (arith, i .octet, i .class .1));
+        tags = column-word entryTag (h .entries) (λ e m. let i = S .each e m in omega (arith, i .octet, i .class .1));
         lengths = column-word (λ e. e .length) (h .entries) (λ e m. let i = S .each e m in omega (arith, i .size));
         slots-column = column-word (λ e. e .slot) (h .entries) (λ e m. let i = S .each e m in omega (arith, i .slot));
         occupied = refl;

@@ -9,17 +9,17 @@ use Rattle.reorder.specs.Bits.{marked}
 use Rattle.reorder.specs.Columns.{insertAt}
 use Rattle.reorder.proofs.FreeLaws.{free-when-room, free-unmarked}
 use borrow.Author.Needs.{needs}
-use Rattle.reorder.proofs.judging.insert_copy.Statement.{statement}
-use Rattle.reorder.proofs.judging.insert_copy.Tie as tie
-use Rattle.reorder.proofs.judging.insert_copy.Reads as reads
-use Rattle.reorder.proofs.judging.insert_copy.Lts as lts
+use Rattle.reorder.proofs.laying.insert_copy.Statement.{statement}
+use Rattle.reorder.proofs.laying.insert_copy.Tie as tie
+use Rattle.reorder.proofs.laying.insert_copy.Reads as reads
+use Rattle.reorder.proofs.laying.insert_copy.Lts as lts
 use Rattle.reorder.proofs.bits.lowest_free.Reads as lowest-free-reads
 use Rattle.reorder.proofs.bits.mark.Reads as mark-reads
 use Rattle.reorder.proofs.columns.insert_at.Reads as insert-at-reads
-use Rattle.reorder.proofs.judging.copy_into.Reads as copy-into-reads
+use Rattle.reorder.proofs.laying.copy_into.Reads as copy-into-reads
 
 slot-at : (c : tie.After-lowest-free) → c .lowest-free .result < slots
-slot-at c = rw (c .lowest-free .ensures) (free-when-room (c .before .before .before .args .occupied) (omega (arith, c .before .before .before .pre .1 .held, c .before .before .before .pre .1 .space)))
+slot-at c = rw (c .lowest-free .ensures) (free-when-room (c .before .before .before .args .occupied) (omega (arith, c .before .before .before .pre .held, c .before .before .before .pre .space)))
 
 lowest-free-requires : tie.Need-lowest-free-requires
 lowest-free-requires c κs = search needs
@@ -29,12 +29,6 @@ mark-requires c κs = (slot-at c, rw (c .lowest-free .ensures) (free-unmarked (c
 
 insert-at-requires : tie.Need-insert-at-requires
 insert-at-requires c κs = search needs
-
-mul-insert-at : tie.Need-mul-insert-at
-mul-insert-at c = search needs
-
-add-insert-at : tie.Need-add-insert-at
-add-insert-at c = search needs
 
 insert-at-requires-2 : tie.Need-insert-at-requires-2
 insert-at-requires-2 c κs = search needs
@@ -46,30 +40,30 @@ insert-at-requires-3 : tie.Need-insert-at-requires-3
 insert-at-requires-3 c κs = search needs
 
 cast-insert-at-2 : tie.Need-cast-insert-at-2
-cast-insert-at-2 c = omega (arith, slot-at (c .before .before .before .before .before .before .before .before .before .before))
+cast-insert-at-2 c = omega (arith, slot-at (c .before .before .before .before .before .before .before .before))
 
 insert-at-requires-4 : tie.Need-insert-at-requires-4
 insert-at-requires-4 c κs = search needs
 
 mul-copy-into : tie.Need-mul-copy-into
-mul-copy-into c = omega (arith, slot-at (c .before .before .before .before .before .before .before .before .before .before .before .before))
+mul-copy-into c = omega (arith, slot-at (c .before .before .before .before .before .before .before .before .before .before))
 
 copy-into-requires : tie.Need-copy-into-requires
-copy-into-requires c κs = omega (arith, slot-at (c .before .before .before .before .before .before .before .before .before .before .before .before), c .before .before .before .before .before .before .before .before .before .before .before .before .before .before .before .pre .0 .short, c .before .before .before .before .before .before .before .before .before .before .before .before .before .before .before .pre .1 .room)
+copy-into-requires c κs = omega (arith, slot-at (c .before .before .before .before .before .before .before .before .before .before), c .before .before .before .before .before .before .before .before .before .before .before .before .before .pre .short, c .before .before .before .before .before .before .before .before .before .before .before .before .before .pre .room)
 
 same-length : tie.Need-same-length
 same-length c = search needs
 
 returns : tie.Need-returns
 returns c =
-    let a = c .before .before .before .before .before .before .before .before .before .before .before .before .before .before .before .before .before .before .args in
-    let e = c .before .before .before .before .before .before .before .before .before .before .before .before .before .before .before .lowest-free .ensures in
+    let a = c .before .before .before .before .before .before .before .before .before .before .before .before .before .before .before .before .args in
+    let e = c .before .before .before .before .before .before .before .before .before .before .before .before .before .lowest-free .ensures in
     record {
-      times-left = c .before .before .before .before .before .before .before .before .before .before .before .before .insert-at .ensures;
+      times-left = c .before .before .before .before .before .before .before .before .before .before .insert-at .ensures;
       tags-left = c .before .before .before .before .before .before .before .before .insert-at2 .ensures;
       lengths-left = c .before .before .before .before .before .before .insert-at3 .ensures;
       slots-left = c .before .before .before .before .insert-at4 .ensures ∙ ap (insertAt (now (a .slots)) (a .n) (a .at)) e;
-      words-left = c .before .before .before .before .before .before .before .before .before .before .before .before .before .before .mark .ensures ∙ ap (marked (a .occupied)) e;
+      words-left = c .before .before .before .before .before .before .before .before .before .before .before .before .mark .ensures ∙ ap (marked (a .occupied)) e;
       store-left = c .before .before .copy-into .ensures ∙ ap (λ (k : ℕ). paste (now (a .store)) (slotSize * k) (now (a .frame)) (length (now (a .frame)))) e;
     }
 
@@ -80,8 +74,6 @@ insert-copy-spec =
     lowest-free-requires
     mark-requires
     insert-at-requires
-    mul-insert-at
-    add-insert-at
     insert-at-requires-2
     cast-insert-at
     insert-at-requires-3

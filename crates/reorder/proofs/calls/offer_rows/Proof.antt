@@ -1,0 +1,48 @@
+use mathlib.Core.Path.{_≡_, sym, subst}
+use mathlib.Core.List.{List}
+use Prim.Native.Nat.{ℕ}
+use denote.Ref.{now}
+use Rattle.payload.specs.Rows.{rowsIn}
+use Rattle.reorder.specs.declared.buffer.Buffer.{Buffer}
+use Rattle.reorder.specs.declared.judging.Judged.{Judged}
+use Rattle.reorder.specs.Layout.{assembled}
+use Rattle.reorder.specs.Judging.{RowsJudgeable}
+use Rattle.reorder.proofs.OfferLaws.{rows-offer}
+use borrow.Author.Needs.{needs}
+use Rattle.reorder.proofs.calls.offer_rows.Statement.{statement}
+use Rattle.reorder.proofs.calls.offer_rows.Tie as tie
+use Rattle.reorder.proofs.calls.offer_rows.Reads as reads
+use Rattle.reorder.proofs.calls.offer_rows.Lts as lts
+use Rattle.reorder.proofs.judging.judge_rows.Reads as judge-rows-reads
+use Rattle.reorder.proofs.judging.none_judged.Reads as none-judged-reads
+
+abbrev buffer-at : tie.Start → List ℕ → Buffer
+buffer-at s occupied = let a = s .args in assembled (a .buffer .times) (a .buffer .tags) (a .buffer .lengths) (a .buffer .slots) occupied (a .fixed)
+
+none-judged-requires : tie.Need-none-judged-requires
+none-judged-requires c κs = search needs
+
+judge-rows-requires : tie.Need-judge-rows-requires
+judge-rows-requires c κs =
+    let s = c .before .before .before .before .before .before .before .before .before .before .before .before .before .before in
+    let a = s .args in
+    subst (λ (j : Judged). RowsJudgeable (buffer-at s (j .occupied)) (now (a .packet)) (rowsIn (now (a .rows))) (j .tally) (now (a .store))) (sym (c .before .none-judged .ensures)) (s .pre)
+
+same-length : tie.Need-same-length
+same-length c = search needs
+
+returns : tie.Need-returns
+returns c =
+    let s = c .before .before .before .before .before .before .before .before .before .before .before .before .before .before .before .before .before .before .before .before in
+    let a = s .args in
+    rows-offer (buffer-at s) (a .buffer .occupied) _ (c .before .before .before .before .before .before .before .none-judged .ensures) _ (now (a .packet)) (rowsIn (now (a .rows))) _ (now (a .store)) _
+    (c .before .before .before .before .before .judge-rows .ensures)
+
+pub offer-rows-spec : {M : Type 1} → statement M
+offer-rows-spec =
+    tie.close
+    (tie.spec
+    none-judged-requires
+    judge-rows-requires
+    same-length
+    returns)

@@ -1,0 +1,21 @@
+use mathlib.Core.Path.{ap}
+use mathlib.Core.Bool.{not}
+use borrow.Author.Tests.{eq-eqb, ne-eqb}
+use borrow.Author.Needs.{needs}
+use Rattle.reorder.proofs.judging.is_far.Statement.{statement}
+use Rattle.reorder.proofs.judging.is_far.Tie as tie
+use Rattle.reorder.proofs.judging.is_far.Reads as reads
+use Rattle.reorder.proofs.judging.is_far.Lts as lts
+use Rattle.reorder.proofs.columns.in_stretch.Reads as in-stretch-reads
+
+in-stretch-requires : tie.Need-in-stretch-requires
+in-stretch-requires c κs = search needs
+
+returns : tie.Need-returns
+returns c = rw (eq-eqb _ _ (c .before .if1 .taken)) (ap not (c .in-stretch .ensures))
+
+returns-2 : tie.Need-returns-2
+returns-2 c = rw (ne-eqb _ _ (c .if1 .left))
+
+pub is-far-spec : {M : Type 1} → statement M
+is-far-spec = tie.close (tie.spec in-stretch-requires returns returns-2)

@@ -1,0 +1,134 @@
+use mathlib.Core.Path.{_≡_, sym, _∙_, ap, subst}
+use Prim.Native.Nat.{ℕ, _<_, _≤_, _^_}
+use mir.Val.{Fits}
+use mir.Syntax.{w32}
+use lib.ListN.{length}
+use denote.Ref.{now}
+use Rattle.playout.specs.Sizes.{slotSize}
+use Rattle.reorder.specs.declared.buffer.Buffer.{Buffer}
+use Rattle.reorder.specs.declared.columns.Place.{Place}
+use Rattle.reorder.specs.Columns.{Parted, placeFrom}
+use Rattle.reorder.specs.Layout.{assembled}
+use Rattle.reorder.specs.Laying.{classIn, channelIn}
+use Rattle.reorder.proofs.AllowedLaws.{allowed-frame}
+use Rattle.reorder.proofs.VerdictLaws.{held-at, step-found, place-in, step-full, step-new}
+use Rattle.reorder.proofs.PlaceSearchLaws.{parts}
+use borrow.Author.Needs.{needs}
+use Rattle.reorder.proofs.judging.lay_copy.Statement.{statement}
+use Rattle.reorder.proofs.judging.lay_copy.Tie as tie
+use Rattle.reorder.proofs.judging.lay_copy.Reads as reads
+use Rattle.reorder.proofs.judging.lay_copy.Lts as lts
+use Rattle.payload.proofs.rows.tag_channel.Reads as tag-channel-reads
+use Rattle.reorder.proofs.columns.find_place.Reads as find-place-reads
+use Rattle.reorder.proofs.laying.insert_copy.Reads as insert-copy-reads
+use Rattle.reorder.proofs.laying.replace_copy.Reads as replace-copy-reads
+
+abbrev buffer-at : tie.Start → Buffer
+buffer-at s = let a = s .args in assembled (now (a .times)) (now (a .tags)) (now (a .lengths)) (now (a .slots)) (a .occupied) (a .fixed)
+
+short-at : (s : tie.Start) → length (now (s .args .frame)) ≤ slotSize
+short-at s = let a = s .args in allowed-frame (a .fixed .settings .format) (classIn (a .head)) (length (now (a .frame))) (s .pre .2 .class) .1
+
+word-at : (s : tie.Start) → s .args .head .time < 2 ^ 32
+word-at s = let f : Fits w32 (s .args .head .time) = search needs in f .fits
+
+-- where the pair is held or belongs
+abbrev place-at : tie.Start → Place
+place-at s = let a = s .args in placeFrom (now (a .times)) (now (a .tags)) (a .head .time) (channelIn (a .head)) (a .n) 0
+
+found-at : (c : tie.After-find-place) → c .find-place .result ≡ place-at (c .before .before .before .before .before .before)
+found-at c =
+    let a = c .before .before .before .before .before .before .args in
+    c .find-place .ensures ∙ ap (λ (d : ℕ). placeFrom (now (a .times)) (now (a .tags)) (a .head .time) d (a .n) 0) (c .before .before .before .tag-channel .ensures .0)
+
+tag-channel-requires : tie.Need-tag-channel-requires
+tag-channel-requires c κs = search needs
+
+find-place-requires : tie.Need-find-place-requires
+find-place-requires c κs =
+    let s = c .before .before .before .before .before in
+    let a = s .args in
+    let t = s .pre .3 in (
+      s .pre .1,
+      subst (λ (d : ℕ). Parted (now (a .times)) (now (a .tags)) (a .head .time) d (a .n)) (sym (c .before .before .tag-channel .ensures .0))
+          (parts (buffer-at s) (a .head) (now (a .frame)) (now (a .store)) (s .pre .2) (word-at s) (t .not-late) (t .not-far) (a .n) (s .pre .0)),
+    )
+
+enum-known-at : tie.Need-enum-known-at
+enum-known-at c = search needs
+
+replace-copy-requires : tie.Need-replace-copy-requires
+replace-copy-requires c κs =
+    let s = c .before .before .before .before .before .before .before .before .before .before .before .before .before in
+    let a = s .args in
+    let g = s .pre .2 in (
+      short-at s,
+      held-at (buffer-at s) (g .machine) (g .fine) (a .head) (now (a .frame)) (now (a .store)) (s .pre .3 .not-late) (a .n) (s .pre .0)
+          (c .before .before .before .before .before .at .given .0 .0) (sym (c .before .before .before .before .before .at .given .1) ∙ found-at (c .before .before .before .before .before .before .before)) (g .room),
+    )
+
+enum-known-at-2 : tie.Need-enum-known-at-2
+enum-known-at-2 c = search needs
+
+returns : tie.Need-returns
+returns c =
+    let s = c .before .before .before .before .before .before .before .before .before .before in
+    let a = s .args in
+    let g = s .pre .2 in
+    let t = s .pre .3 in
+    step-full (buffer-at s) (g .machine) (g .fine) (a .head) (now (a .frame)) (now (a .store)) (t .not-late) (a .n) (s .pre .0)
+    (c .before .before .at2 .given .0 .0) (sym (c .before .before .at2 .given .1) ∙ found-at (c .before .before .before .before)) (t .not-far) (c .if1 .taken)
+
+insert-copy-requires : tie.Need-insert-copy-requires
+insert-copy-requires c κs =
+    let s = c .before .before .before .before .before .before .before .before .before .before .before .before .before .before .before in
+    let a = s .args in
+    let g = s .pre .2 in
+    record {
+      held = s .pre .0;
+      space = c .before .before .before .before .before .if1 .left;
+      place = place-in (buffer-at s) (g .machine) (g .fine) (a .head) (now (a .frame)) (now (a .store)) (s .pre .3 .not-late) (a .n) (s .pre .0)
+          (c .before .before .before .before .before .before .before .at2 .given .0 .0) (sym (c .before .before .before .before .before .before .before .at2 .given .1) ∙ found-at (c .before .before .before .before .before .before .before .before .before));
+      short = short-at s;
+      room = g .room;
+    }
+
+same-length : tie.Need-same-length
+same-length c = search needs
+
+returns-2 : tie.Need-returns-2
+returns-2 c =
+    let s = c .before .before .before .before .before .before .before .before .before .before .before .before .before .before .before .before in
+    let a = s .args in
+    let g = s .pre .2 in
+    let t = s .pre .3 in
+    step-found (buffer-at s) (g .machine) (g .fine) (a .head) (now (a .frame)) (now (a .store)) (t .not-late) (a .n) (s .pre .0)
+    (c .before .before .before .before .before .before .before .before .at .given .0 .0) (sym (c .before .before .before .before .before .before .before .before .at .given .1) ∙ found-at (c .before .before .before .before .before .before .before .before .before .before)) (t .not-far) _ _ _ _ (c .before .before .replace-copy .ensures)
+
+same-length-2 : tie.Need-same-length-2
+same-length-2 c = search needs
+
+returns-3 : tie.Need-returns-3
+returns-3 c =
+    let s = c .before .before .before .before .before .before .before .before .before .before .before .before .before .before .before .before .before .before in
+    let a = s .args in
+    let g = s .pre .2 in
+    let t = s .pre .3 in
+    step-new (buffer-at s) (g .machine) (g .fine) (a .head) (now (a .frame)) (now (a .store)) (t .not-late) (a .n) (s .pre .0)
+    (c .before .before .before .before .before .before .before .before .before .before .at2 .given .0 .0) (sym (c .before .before .before .before .before .before .before .before .before .before .at2 .given .1) ∙ found-at (c .before .before .before .before .before .before .before .before .before .before .before .before)) (c .before .before .before .before .before .before .before .before .if1 .left) (t .not-far) _ _ _ _ _ _ (c .before .before .insert-copy .ensures)
+
+pub lay-copy-spec : {M : Type 1} → statement M
+lay-copy-spec =
+    tie.close
+    (tie.spec
+    tag-channel-requires
+    find-place-requires
+    enum-known-at
+    replace-copy-requires
+    enum-known-at-2
+    returns
+    insert-copy-requires
+    same-length
+    returns-2
+    same-length-2
+    returns-3)
