@@ -4,8 +4,8 @@ use crate::lists::RowWords;
 use crate::plans;
 use formats::codes;
 use formats::facts;
+use formats::tagging;
 use payload::contents;
-use payload::rows;
 use rtp::sizes::ROW_WIDTH;
 ghost use mathlib.Core.Path.{_≡_};
 ghost use Prim.Native.Nat.{_≤_, _<_};
@@ -56,7 +56,7 @@ fn joined_blocks(format: u8, channels: usize, row: RowWords, rows: &[u32]) -> us
     }
     let next = lists::row_at(rows, 0);
     let gap = plans::gap_between(format, row.time, next.time);
-    if plans::joins_run(format, row, rows::tag_class(next.tag), next.length, gap) {
+    if plans::joins_run(format, row, tagging::tag_class(next.tag), next.length, gap) {
         let width = ROW_WIDTH * channels;
         return joined_blocks(format, channels, next, &rows[width..]) + 1;
     }
@@ -135,7 +135,7 @@ fn put_entry(
     put_start(
         format,
         more,
-        rows::tag_class(row.tag),
+        tagging::tag_class(row.tag),
         row.length,
         blocks,
         out,

@@ -2,3 +2,4 @@
 pub mod codes;
 pub mod facts;
 pub mod frames;
+pub mod tagging;

@@ -2,6 +2,7 @@
 use crate::contents;
 use crate::contents::EntryRead;
 use formats::frames;
+use formats::tagging;
 use rtp::sizes::ROW_WIDTH;
 ghost use mathlib.Core.Path.{_≡_};
 ghost use Prim.Native.Nat.{_*_, _<_};
@@ -9,35 +10,17 @@ ghost use lib.ListN.{length};
 ghost use Rattle.rtp.specs.Areas.{over};
 ghost use Rattle.formats.specs.Frames.{stepOf};
 ghost use Rattle.payload.specs.Contents.{gapsFrom, contents, sizesAnswer};
-ghost use Rattle.payload.specs.Rows.{tagOf, tagClass, tagChannel, rowWords, words, blockRows, groupRows, timeAfter};
+ghost use Rattle.payload.specs.Rows.{rowWords, words, blockRows, groupRows, timeAfter};
 ghost use Rattle.payload.specs.Room.{RowRoom, BlockRoom, GroupRoom, TableRoom, contentsWords};
-
-// A row's second word: 256 times its class, and its channel.
-pub fn pack_tag(class: u8, channel: u8) -> u32
-    ensures { λ r. ⌜ r ≡ tagOf class channel ⌝ }
-{
-    256 * (class as u32) + (channel as u32)
-}
-
-pub fn tag_class(tag: u32) -> u32
-    ensures { λ r. ⌜ r ≡ tagClass tag ⌝ }
-{
-    tag / 256
-}
-
-pub fn tag_channel(tag: u32) -> u32
-    ensures { λ r. ⌜ (r ≡ tagChannel tag) × (r < 256) ⌝ }
-{
-    tag % 256
-}
 
 // A row at the front of the area.
 fn put_row(rows: &mut [u32], time: u32, class: usize, channel: usize, start: usize, size: usize)
     requires { ⌜ RowRoom channel class start size (length (now rows)) ⌝ }
-    ensures { λ _. ⌜ now (rows .exit) ≡ over (rowWords (record { time = time; class = class; channel = channel; start = start; length = size })) (now (rows .entry)) ⌝ }
+    ensures { λ _. ⌜ now (rows .exit) ≡
+        over (rowWords (record { time = time; class = class; channel = channel; start = start; length = size })) (now (rows .entry)) ⌝ }
 {
     rows[0] = time;
-    rows[1] = pack_tag(class as u8, channel as u8);
+    rows[1] = tagging::pack_tag(class as u8, channel as u8);
     rows[2] = start as u32;
     rows[3] = size as u32;
 }
@@ -93,7 +76,8 @@ fn put_group(
 ) -> u32
     requires { ⌜ GroupRoom format (now s) k count channels class start size (length (now rows)) ⌝ }
     ensures { λ r. ⌜ (r ≡ timeAfter (stepOf format) time (gapsFrom format (now (s .entry)) k count))
-        × (now (rows .exit) ≡ over (words (groupRows (stepOf format) channels time class start size (gapsFrom format (now (s .entry)) k count))) (now (rows .entry))) ⌝ }
+        × (now (rows .exit) ≡
+        over (words (groupRows (stepOf format) channels time class start size (gapsFrom format (now (s .entry)) k count))) (now (rows .entry))) ⌝ }
 {
     if count == 0 {
         return time;

@@ -5,7 +5,7 @@ use mathlib.Core.Bool.{Bool, cond, _&&_, _||_}
 use lib.ListN.{getD, drop, replicate}
 use lib.Dec.{eqb}
 use Rattle.rtp.specs.declared.settings.Settings.{Settings}
-use Rattle.payload.specs.Rows.{tagOf, tagClass, tagChannel}
+use Rattle.formats.specs.Tags.{tagOf, tagClass, tagChannel}
 use Rattle.playout.specs.Sizes.{slots}
 use Rattle.playout.specs.Entries.{Entry, Held}
 use Rattle.reorder.specs.declared.buffer.Buffer.{Buffer}

@@ -5,7 +5,8 @@ use native.Mathlib.Omega.{arith}
 use lib.ListN.{length, getD, take, drop}
 use denote.Ref.{now}
 use Rattle.formats.specs.Frames.{noData}
-use Rattle.payload.specs.Rows.{Row, rowsIn, tagClass}
+use Rattle.formats.specs.Tags.{tagClass}
+use Rattle.payload.specs.Rows.{Row, rowsIn}
 use Rattle.reorder.specs.declared.buffer.Buffer.{Buffer}
 use Rattle.reorder.specs.declared.laying.FrameHead.{FrameHead}
 use Rattle.reorder.specs.Layout.{assembled}
@@ -17,7 +18,7 @@ use Rattle.reorder.proofs.judging.judge_row.Statement.{statement}
 use Rattle.reorder.proofs.judging.judge_row.Tie as tie
 use Rattle.reorder.proofs.judging.judge_row.Reads as reads
 use Rattle.reorder.proofs.judging.judge_row.Lts as lts
-use Rattle.payload.proofs.rows.tag_class.Reads as tag-class-reads
+use Rattle.formats.proofs.tagging.tag_class.Reads as tag-class-reads
 use Rattle.reorder.proofs.judging.judge_copy.Reads as judge-copy-reads
 use Rattle.reorder.proofs.tally.count_verdict.Reads as count-verdict-reads
 
