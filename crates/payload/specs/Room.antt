@@ -12,7 +12,7 @@ use Rattle.payload.specs.Rows.{words, tableRows}
 -- a code that a frame table has
 abbrev pub InTable : FrameTable → ℕ → Type 0
 InTable FrameTable.G719 code = code < 32
-InTable FrameTable.GsmHr code = code < 8
+InTable FrameTable.GsmHr code = Unit {0}
 InTable FrameTable.Empty code = Unit {0}
 
 pub record RowRoom (channel class start size area : ℕ) : Type 0 where

@@ -4,7 +4,6 @@ use crate::buffer::Fixed;
 use crate::buffer::SLOTS;
 use crate::columns;
 use payload::codes;
-use payload::codes::NO_CODE;
 use playout::order;
 use playout::order::Side;
 ghost use mathlib.Core.Path.{_≡_};
@@ -38,7 +37,7 @@ fn is_allowed(format: u8, class: u32, length: u32) -> bool
     if class == 0 {
         return false;
     }
-    codes::code_for(format, class, length) < NO_CODE
+    codes::has_code(format, class, length)
 }
 
 // Whether the flag is one, and the last pair is kept as zeros or is in range.
