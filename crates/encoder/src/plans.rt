@@ -2,7 +2,6 @@
 use crate::lists;
 use crate::lists::RowWords;
 use formats::codes;
-use formats::codes::NO_CODE;
 use formats::facts;
 use formats::frames;
 use formats::tagging;
@@ -88,7 +87,7 @@ fn next_channel(channels: u32, c: u32) -> u32
 fn starts_block(format: u8, previous: u32, row: RowWords) -> bool
     ensures { λ r. ⌜ r ≡ starts format previous (rowAs row) ⌝ }
 {
-    if codes::code_for(format, tagging::tag_class(row.tag), row.length) < NO_CODE {
+    if codes::has_code(format, tagging::tag_class(row.tag), row.length) {
         return whole_steps(format, ticks_after(format, previous, row.time));
     }
     false

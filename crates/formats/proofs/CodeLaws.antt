@@ -1,21 +1,21 @@
 -- Laws of frame codes: a code that is found stands for its frame, and where a code does, one is found.
-use mathlib.Core.Path.{_≡_, refl, subst, _∙_}
+use mathlib.Core.Path.{_≡_, refl, sym, subst, _∙_}
 use mathlib.Core.Bool.{Bool, true, false, cond}
-use Prim.Native.Nat.{ℕ, zero, suc, _+_, _-_, _/_, _%_, _≤_, _<_}
+use Prim.Native.Nat.{ℕ, zero, suc, _+_, _/_, _%_, _≤_, _<_}
 use native.Mathlib.Omega.{arith}
 use lib.Dec.{T, ltb, leb, eqb, eqb→eq}
-use borrow.Author.Tests.{le-ltb, lt-leb, eq-eqb, ne-eqb, ltb-true, ltb-false, leb-true, leb-false, eqb-true, eqb-false}
+use borrow.Author.Tests.{lt-ltb, le-ltb, lt-leb, eq-eqb, ltb-true, ltb-false, leb-true, leb-false, eqb-true, eqb-false}
 use Rattle.rtp.specs.Sizes.{maxFrame}
-use Rattle.rtp.proofs.TestLaws.{by-test, not-both}
+use Rattle.rtp.proofs.TestLaws.{by-test, not-both, both}
 use Rattle.formats.specs.declared.facts.Format.{Format}
 use Rattle.formats.specs.declared.facts.FrameTable.{FrameTable}
 use Rattle.formats.specs.declared.frames.Coded.{Coded}
 use Rattle.formats.specs.declared.frames.Frame.{Frame}
 use Rattle.formats.specs.Formats.{noCode, g719Format, gsmFormat, formatOf}
-use Rattle.formats.specs.Frames.{noData, sound, sid, maxClass, g719Length, gsmLength, lengthIn, frame, frameIn, frameOf}
+use Rattle.formats.specs.Frames.{noData, sound, sid, g719Length, gsmLength, lengthIn, frame, frameIn, frameOf}
 use Rattle.formats.specs.Codes.{isFrame, codeBelow, highestCode, codeFor}
 use Rattle.formats.proofs.TableRule.{allBelow, at}
-use Rattle.formats.proofs.FormatLaws.{each, code-placed, Small, smallTable, small-in, small-all}
+use Rattle.formats.proofs.FormatLaws.{each, code-placed, Small, keeps, keeps-at, smallFrame, small-is, small-all}
 
 frame-is : (class n : ℕ) (c : Coded) → isFrame class n c ≡ true → c ≡ frame class n
 frame-is class n Coded.Reserved h = not-both false h refl
@@ -58,14 +58,14 @@ module _ (f : Format) (class n : ℕ) where
   within zero h = omega arith
   within (suc k) h = by-test (isFrame class n (frameIn f k)) (λ a. rw a (omega arith)) (λ a. rw a (within k (omega arith)))
 
-  small : T (smallTable f) → highestCode f class n < noCode → Small (record { class = class; length = n })
-  small t h = let i = found (f .codes) h in small-in f t (highestCode f class n) (i .below) (record { class = class; length = n }) (i .back)
+  kept : (p : ℕ → ℕ → Bool) → T (keeps f p) → highestCode f class n < noCode → T (p class n)
+  kept p t h = let i = found (f .codes) h in keeps-at f p t (highestCode f class n) (i .below) (record { class = class; length = n }) (i .back)
 
-  -- no other class and nothing longer has a code
-  none : T (smallTable f) → f .codes ≤ noCode → (Small (record { class = class; length = n }) → ⊥) → noCode ≡ highestCode f class n
-  none t few o =
+  -- what breaks a rule of the format has no code
+  none : (p : ℕ → ℕ → Bool) → T (keeps f p) → f .codes ≤ noCode → p class n ≡ false → noCode ≡ highestCode f class n
+  none p t few o =
       by-test (ltb (highestCode f class n) noCode)
-      (λ a. absurd (o (small t (ltb-true (highestCode f class n) noCode a))))
+      (λ a. absurd (rw o at (kept p t (ltb-true (highestCode f class n) noCode a))))
       (λ a. omega (arith, within (f .codes) few, ltb-false (highestCode f class n) noCode a))
 
 -- Over the formats
@@ -82,81 +82,124 @@ module _ (format class n : ℕ) where
 
     pub code-small : Small (record { class = class; length = n })
     unfolding codeFor
-    code-small = small (formatOf format) class n (small-all format) h
+    code-small = small-is class n (kept (formatOf format) class n smallFrame (small-all format) h)
 
   pub code-some : (k : ℕ) → k < formatOf format .codes → frameOf format k ≡ frame class n → codeFor format class n < noCode
   unfolding codeFor
   code-some k h e =
       omega (arith, some (formatOf format) class n (formatOf format .codes) k h (is-frame class n (frameOf format k) e), code-placed format .few)
 
--- The tables, searched by arithmetic
+-- The codes of G.719 and of GSM-HR, as the code finds them
 
--- the G.719 code of a length, by the two arithmetic rows
-unfoldable pub lengthCode : ℕ → ℕ
-lengthCode n =
-    cond (ltb n 80) noCode
-    (cond (leb n 220) (cond (eqb ((n - 80) % 10) 0) (8 + (n - 80) / 10) noCode)
-    (cond (ltb n 240) noCode
-    (cond (leb n 320) (cond (eqb ((n - 240) % 20) 0) (23 + (n - 240) / 20) noCode) noCode)))
+-- the lengths of G.719's sound, and their codes
+unfoldable pub isLength : ℕ → Bool
+isLength n = cond (ltb n 80) false (cond (leb n 220) (eqb (n % 10) 0) (cond (leb n maxFrame) (eqb (n % 20) 0) false))
 
-abbrev pub g719Code : ℕ → ℕ → ℕ
-g719Code class n = cond (eqb class noData) (cond (eqb n 0) 0 noCode) (cond (eqb class sound) (lengthCode n) noCode)
+unfoldable pub soundCode : ℕ → ℕ
+soundCode n = cond (leb n 220) (n / 10) (n / 20 + 11)
 
-abbrev pub gsmCode : ℕ → ℕ → ℕ
-gsmCode class n =
-    cond (eqb class noData) (cond (eqb n 0) 7 noCode)
-    (cond (eqb n gsmLength) (cond (eqb class sound) 0 (cond (eqb class sid) 2 noCode)) noCode)
+abbrev g719Rule : ℕ → ℕ → Bool
+g719Rule class n = cond (eqb class noData) (eqb n 0) (cond (eqb class sound) (leb n maxFrame) false)
 
--- by one test at every class and length that has a code
-abbrev agrees : Format → (ℕ → ℕ → ℕ) → Bool
-agrees f quick = allBelow (λ class. allBelow (λ n. eqb (quick class n) (highestCode f class n)) (suc maxFrame)) (suc maxClass)
+pub g719-none : (class n : ℕ) → g719Rule class n ≡ false → noCode ≡ highestCode (g719Format false) class n
+unfolding frameIn lengthIn g719Length
+g719-none class n h = none (g719Format false) class n g719Rule tt (omega arith) h
 
-searched : (f : Format) (quick : ℕ → ℕ → ℕ) → T (smallTable f) → f .codes ≤ noCode → T (agrees f quick)
-    → ((class n : ℕ) → maxClass < class → quick class n ≡ noCode) → ((class n : ℕ) → maxFrame < n → quick class n ≡ noCode)
-    → (class n : ℕ) → quick class n ≡ highestCode f class n
-searched f quick t few a over long class n =
-    by-test (leb class maxClass)
-    (λ b. by-test (leb n maxFrame)
-    (λ c. let x = leb-true class maxClass b in let y = leb-true n maxFrame c in
-    eqb→eq _ _ (at (λ n. eqb (quick class n) (highestCode f class n)) (suc maxFrame) (at (λ class. allBelow (λ n. eqb (quick class n) (highestCode f class n)) (suc maxFrame)) (suc maxClass) a class (omega arith)) n (omega arith)))
-    (λ c. let y = leb-false n maxFrame c in long class n y ∙ none f class n t few (λ s. omega (arith, s .short, y))))
-    (λ b. let y = leb-false class maxClass b in over class n y ∙ none f class n t few (λ s. omega (arith, s .classes, y)))
+pub g719-no-data : _≡_ {A = ℕ} 0 (highestCode (g719Format false) 0 0)
+unfolding codeBelow frameIn lengthIn g719Length
+g719-no-data = refl
 
-pub g719-code : (class n : ℕ) → g719Code class n ≡ highestCode (g719Format false) class n
-unfolding codeBelow frameIn lengthIn g719Length lengthCode
-g719-code = searched (g719Format false) g719Code tt (omega arith) tt
-    (λ c n h. let a : c ≡ 0 → ⊥ = omega arith in let b : c ≡ 1 → ⊥ = omega arith in rw (ne-eqb c 0 a, ne-eqb c 1 b))
-    (λ c n h. longer c n h)
-  where
-    longer : (c n : ℕ) → maxFrame < n → g719Code c n ≡ noCode
-    longer c n h =
-        let a : n ≡ 0 → ⊥ = omega arith in
-        let b : 80 ≤ n = omega arith in
-        let d : 220 < n = omega arith in
-        let e : 240 ≤ n = omega arith in
-        by-test (eqb c noData) (λ i. rw (i, ne-eqb n 0 a))
-        (λ i. by-test (eqb c sound) (λ k. rw (i, k, le-ltb n 80 b, lt-leb n 220 d, le-ltb n 240 e, lt-leb n 320 h)) (λ k. rw (i, k)))
+-- by one test at every length
+right : ℕ → Bool
+right n = eqb (cond (isLength n) (soundCode n) noCode) (highestCode (g719Format false) sound n)
 
-pub sound-code : (n : ℕ) → lengthCode n ≡ highestCode (g719Format false) sound n
-sound-code n = g719-code sound n
+right-all : T (allBelow right (suc maxFrame))
+unfolding right isLength soundCode codeBelow frameIn lengthIn g719Length
+right-all = tt
 
-pub gsm-code : (class n : ℕ) → gsmCode class n ≡ highestCode gsmFormat class n
+no-longer : (n : ℕ) → maxFrame < n → isLength n ≡ false
+unfolding isLength
+no-longer n h =
+    let a : 80 ≤ n = omega arith in
+    let b : 220 < n = omega arith in
+    rw (le-ltb n 80 a, lt-leb n 220 b, lt-leb n maxFrame h)
+
+pub sound-code : (n : ℕ) → cond (isLength n) (soundCode n) noCode ≡ highestCode (g719Format false) sound n
+unfolding right
+sound-code n =
+    by-test (leb n maxFrame)
+    (λ a. let h = leb-true n maxFrame a in eqb→eq _ _ (at right (suc maxFrame) right-all n (omega arith)))
+    (λ a. rw (no-longer n (leb-false n maxFrame a)) (g719-none sound n a))
+
+sound-small : (n : ℕ) → isLength n ≡ true → soundCode n < noCode
+unfolding soundCode
+sound-small n q =
+    by-test (leb n maxFrame)
+    (λ a. let h = leb-true n maxFrame a in by-test (leb n 220) (λ b. let k = leb-true n 220 b in rw b (omega arith)) (λ b. rw b (omega arith)))
+    (λ a. not-both (isLength n) q (no-longer n (leb-false n maxFrame a)))
+
+-- whether there is a code
+lacks : (k : ℕ) → noCode ≡ k → false ≡ ltb k noCode
+lacks k h = sym (le-ltb k noCode (omega arith))
+
+has : (k m : ℕ) → m ≡ k → m < noCode → true ≡ ltb k noCode
+has k m h l = sym (lt-ltb k noCode (omega arith))
+
+pub length-is : (n : ℕ) → isLength n ≡ ltb (highestCode (g719Format false) sound n) noCode
+length-is n =
+    let c = sound-code n in
+    by-test (isLength n)
+    (λ a. a ∙ has (highestCode (g719Format false) sound n) (soundCode n) (rw a at c) (sound-small n a))
+    (λ a. a ∙ lacks (highestCode (g719Format false) sound n) (rw a at c))
+
+abbrev pub g719Has : ℕ → ℕ → Bool
+g719Has class n = cond (eqb class noData) (eqb n 0) (cond (eqb class sound) (isLength n) false)
+
+pub g719-has : (class n : ℕ) → g719Has class n ≡ ltb (highestCode (g719Format false) class n) noCode
+g719-has class n =
+    by-test (eqb class noData)
+    (λ a. by-test (eqb n 0)
+    (λ b. rw (a, b) (has (highestCode (g719Format false) class n) 0 (g719-no-data ∙ rw (eqb-true class noData a, eqb-true n 0 b)) (omega arith)))
+    (λ b. rw (a, b) (lacks (highestCode (g719Format false) class n) (g719-none class n (rw (a, b))))))
+    (λ a. by-test (eqb class sound)
+    (λ b. rw (a, b) (length-is n ∙ rw (eqb-true class sound b)))
+    (λ b. rw (a, b) (lacks (highestCode (g719Format false) class n) (g719-none class n (rw (a, b))))))
+
+abbrev pub gsmRule : ℕ → ℕ → Bool
+gsmRule class n = cond (eqb class noData) (eqb n 0) (cond (eqb n gsmLength) (leb class sid) false)
+
+pub gsm-none : (class n : ℕ) → gsmRule class n ≡ false → noCode ≡ highestCode gsmFormat class n
+unfolding frameIn lengthIn
+gsm-none class n h = none gsmFormat class n gsmRule tt (omega arith) h
+
+pub gsm-codes : (_≡_ {A = ℕ} 7 (highestCode gsmFormat 0 0)) × (_≡_ {A = ℕ} 0 (highestCode gsmFormat 1 gsmLength)) × (_≡_ {A = ℕ} 2 (highestCode gsmFormat 2 gsmLength))
 unfolding codeBelow frameIn lengthIn
-gsm-code = searched gsmFormat gsmCode tt (omega arith) tt
-    (λ c n h. over c n h) (λ c n h. longer c n h)
-  where
-    over : (c n : ℕ) → maxClass < c → gsmCode c n ≡ noCode
-    over c n h =
-        let x : c ≡ 0 → ⊥ = omega arith in
-        let y : c ≡ 1 → ⊥ = omega arith in
-        let z : c ≡ 2 → ⊥ = omega arith in
-        by-test (eqb n gsmLength) (λ i. rw (ne-eqb c 0 x, i, ne-eqb c 1 y, ne-eqb c 2 z)) (λ i. rw (ne-eqb c 0 x, i))
+gsm-codes = (refl, refl, refl)
 
-    longer : (c n : ℕ) → maxFrame < n → gsmCode c n ≡ noCode
-    longer c n h =
-        let x : n ≡ 0 → ⊥ = omega arith in
-        let y : n ≡ gsmLength → ⊥ = omega arith in
-        by-test (eqb c noData) (λ i. rw (i, ne-eqb n 0 x)) (λ i. rw (i, ne-eqb n gsmLength y))
+pub gsm-has : (class n : ℕ) → gsmRule class n ≡ ltb (highestCode gsmFormat class n) noCode
+gsm-has class n =
+    by-test (gsmRule class n) (λ a. a ∙ has (highestCode gsmFormat class n) (gsmCode class n) (coded class n a) (some-code class n)) (λ a. a ∙ lacks (highestCode gsmFormat class n) (gsm-none class n a))
+  where
+    gsmCode : ℕ → ℕ → ℕ
+    gsmCode class n = cond (eqb class noData) 7 (cond (eqb class sound) 0 2)
+
+    some-code : (class n : ℕ) → gsmCode class n < noCode
+    some-code class n = by-test (eqb class noData) (λ a. rw a (omega arith)) (λ a. by-test (eqb class sound) (λ b. rw (a, b) (omega arith)) (λ b. rw (a, b) (omega arith)))
+
+    coded : (class n : ℕ) → gsmRule class n ≡ true → gsmCode class n ≡ highestCode gsmFormat class n
+    coded class n h =
+        by-test (eqb class noData)
+        (λ a. rw a (gsm-codes .0 ∙ rw (eqb-true class noData a, eqb-true n 0 (rw a at h))))
+        (λ a.
+        let e = both (eqb n gsmLength) _ (rw a at h) in
+        let l = eqb-true n gsmLength (e .0) in
+        by-test (eqb class sound)
+        (λ b. rw (a, b) (gsm-codes .1 ∙ rw (l, eqb-true class sound b)))
+        (λ b.
+        let x = eqb-false class noData a in
+        let y = eqb-false class sound b in
+        let z : class ≡ sid = omega (arith, leb-true class sid (e .1)) in
+        rw (a, b) (gsm-codes .2 ∙ rw (l, z))))
 
 -- the code by a format's table
 abbrev tableCode : FrameTable → ℕ → ℕ → ℕ

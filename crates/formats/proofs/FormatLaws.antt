@@ -4,7 +4,6 @@ use mathlib.Core.Bool.{Bool, true, false, cond}
 use Prim.Native.Nat.{ℕ, _+_, _*_, _/_, _%_, _≤_, _<_}
 use native.Mathlib.Omega.{arith}
 use lib.Dec.{T, eqb, leb}
-use lib.ListN.{List·getD-eq-default}
 use borrow.Author.Tests.{leb-true, le-ltb, ne-eqb}
 use Rattle.rtp.specs.Ranges.{g719, g719Interleaved, gsmHr}
 use Rattle.rtp.specs.Sizes.{maxFrame}
@@ -13,7 +12,7 @@ use Rattle.formats.specs.declared.facts.Format.{Format}
 use Rattle.formats.specs.declared.frames.Frame.{Frame}
 use Rattle.formats.specs.declared.frames.Coded.{Coded}
 use Rattle.formats.specs.Formats.{noCode, g719Format, gsmFormat, noFormat, formatOf, stepOf, maxGap}
-use Rattle.formats.specs.Frames.{reserved, maxClass, g719Length, gsmLengths, lengthIn, frameIn, frameOf}
+use Rattle.formats.specs.Frames.{maxClass, g719Length, lengthIn, frameIn, frameOf}
 use Rattle.formats.specs.Room.{InTable}
 use Rattle.formats.proofs.TableRule.{allBelow, at}
 
@@ -58,7 +57,7 @@ code-placed = each Placed
 
 -- the frame tables have a length for each code
 pub in-table : (format code : ℕ) → code < formatOf format .codes → InTable (formatOf format .table) code
-in-table format code = each (λ f. code < f .codes → InTable (f .table) code) (λ b h. h) (λ h. h) (λ h. tt) format
+in-table format code = each (λ f. code < f .codes → InTable (f .table) code) (λ b h. h) (λ h. tt) (λ h. tt) format
 
 -- and no code past its codes stands for a frame
 pub beyond : (format code : ℕ) → formatOf format .codes ≤ code → frameOf format code ≡ Coded.Reserved
@@ -66,32 +65,36 @@ unfolding frameIn lengthIn g719Length
 beyond format code =
     each (λ f. f .codes ≤ code → frameIn f code ≡ Coded.Reserved)
     (λ b h. rw (ne-eqb code 0 (λ e. absurd (omega arith)), le-ltb code 8 (omega arith), le-ltb code 23 (omega arith), le-ltb code 28 (omega arith)))
-    (λ h. rw (List·getD-eq-default gsmLengths reserved {n = code} h)) (λ h. refl) format
+    (λ h. rw (ne-eqb code 0 (λ e. absurd (omega arith)), ne-eqb code 2 (λ e. absurd (omega arith)), ne-eqb code 7 (λ e. absurd (omega arith)))) (λ h. refl) format
 
 -- a frame's class and length are small
 pub record Small (f : Frame) : Type 0 where
   pub classes : f .class ≤ maxClass
   pub short : f .length ≤ maxFrame
 
-abbrev small : Coded → Bool
-small Coded.Reserved = true
-small (Coded.Frame f) = cond (leb (f .class) maxClass) (leb (f .length) maxFrame) false
+-- a rule on class and length that every frame of a format keeps, computed at each of its codes
+abbrev kept : (ℕ → ℕ → Bool) → Coded → Bool
+kept p Coded.Reserved = true
+kept p (Coded.Frame g) = p (g .class) (g .length)
 
-abbrev pub smallTable : Format → Bool
-smallTable f = allBelow (λ k. small (frameIn f k)) (f .codes)
+abbrev pub keeps : Format → (ℕ → ℕ → Bool) → Bool
+keeps f p = allBelow (λ k. kept p (frameIn f k)) (f .codes)
 
-pub small-in : (f : Format) → T (smallTable f) → (code : ℕ) → code < f .codes → (g : Frame) → frameIn f code ≡ Coded.Frame g → Small g
-small-in f t code h g e = is g (subst (λ (c : Coded). T (small c)) e (at (λ k. small (frameIn f k)) (f .codes) t code h))
-  where
-    is : (g : Frame) → T (small (Coded.Frame g)) → Small g
-    is g t =
-        by-test (leb (g .class) maxClass)
-        (λ a. by-test (leb (g .length) maxFrame) (λ b. record { classes = leb-true _ _ a; short = leb-true _ _ b }) (λ b. absurd (rw (a, b) at t)))
-        (λ a. absurd (rw a at t))
+pub keeps-at : (f : Format) (p : ℕ → ℕ → Bool) → T (keeps f p) → (code : ℕ) → code < f .codes → (g : Frame) → frameIn f code ≡ Coded.Frame g → T (p (g .class) (g .length))
+keeps-at f p t code h g e = subst (λ (c : Coded). T (kept p c)) e (at (λ k. kept p (frameIn f k)) (f .codes) t code h)
 
-pub small-all : (format : ℕ) → T (smallTable (formatOf format))
+abbrev pub smallFrame : ℕ → ℕ → Bool
+smallFrame class n = cond (leb class maxClass) (leb n maxFrame) false
+
+pub small-is : (class n : ℕ) → T (smallFrame class n) → Small (record { class = class; length = n })
+small-is class n t =
+    by-test (leb class maxClass)
+    (λ a. by-test (leb n maxFrame) (λ b. record { classes = leb-true _ _ a; short = leb-true _ _ b }) (λ b. absurd (rw (a, b) at t)))
+    (λ a. absurd (rw a at t))
+
+pub small-all : (format : ℕ) → T (keeps (formatOf format) smallFrame)
 unfolding frameIn lengthIn g719Length
-small-all = each (λ f. T (smallTable f)) (λ b. tt) tt tt
+small-all = each (λ f. T (keeps f smallFrame)) (λ b. tt) tt tt
 
 pub small-frame : (format code : ℕ) (g : Frame) → code < formatOf format .codes → frameOf format code ≡ Coded.Frame g → Small g
-small-frame format code g h e = small-in (formatOf format) (small-all format) code h g e
+small-frame format code g h e = small-is (g .class) (g .length) (keeps-at (formatOf format) smallFrame (small-all format) code h g e)

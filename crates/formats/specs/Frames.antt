@@ -1,9 +1,7 @@
 -- Document 01, "G.719 tables of contents" and "GSM-HR tables": frame codes, classes and lengths.
 use Prim.Native.Nat.{ℕ, _+_, _-_, _*_}
-use mathlib.Core.List.{List, [], _∷_}
 use mathlib.Core.Bool.{cond}
 use lib.Dec.{ltb, eqb}
-use lib.ListN.{getD}
 use Rattle.formats.specs.declared.facts.Format.{Format}
 use Rattle.formats.specs.declared.facts.FrameTable.{FrameTable}
 use Rattle.formats.specs.declared.frames.Frame.{Frame}
@@ -40,14 +38,10 @@ g719Length l =
 abbrev pub gsmLength : ℕ
 gsmLength = 14
 
--- GSM-HR's lengths by type: 0 and 2 are frames, 7 is no data, the others are reserved
-abbrev pub gsmLengths : List ℕ
-gsmLengths = gsmLength ∷ reserved ∷ gsmLength ∷ reserved ∷ reserved ∷ reserved ∷ reserved ∷ 0 ∷ []
-
--- the length of a code in a frame table: 0 is no data
+-- the length of a code in a frame table. GSM-HR: types 0 and 2 are frames, 7 is no data, the others are reserved
 unfoldable pub lengthIn : FrameTable → ℕ → ℕ
 lengthIn FrameTable.G719 code = g719Length code
-lengthIn FrameTable.GsmHr code = getD gsmLengths code reserved
+lengthIn FrameTable.GsmHr code = cond (eqb code 0) gsmLength (cond (eqb code 2) gsmLength (cond (eqb code 7) 0 reserved))
 lengthIn FrameTable.Empty code = reserved
 
 -- a frame of a class and a length

@@ -5,5 +5,5 @@ use Rattle.formats.specs.declared.facts.FrameTable.{FrameTable}
 -- a code that a frame table has
 abbrev pub InTable : FrameTable → ℕ → Type 0
 InTable FrameTable.G719 code = code < 32
-InTable FrameTable.GsmHr code = code < 8
+InTable FrameTable.GsmHr code = Unit {0}
 InTable FrameTable.Empty code = Unit {0}

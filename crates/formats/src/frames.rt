@@ -55,18 +55,6 @@ const G719_LENGTHS: [usize; 32] = [
 // The bytes of a GSM-HR frame.
 pub(crate) const GSM_HR_FRAME: usize = 14;
 
-// GSM-HR frame lengths by type.
-const GSM_HR_LENGTHS: [usize; 8] = [
-    GSM_HR_FRAME,
-    RESERVED,
-    GSM_HR_FRAME,
-    RESERVED,
-    RESERVED,
-    RESERVED,
-    RESERVED,
-    0,
-];
-
 pub struct Frame {
     pub class: usize,
     pub length: usize,
@@ -86,10 +74,18 @@ fn g719_length(code: usize) -> usize
 }
 
 fn gsm_hr_length(code: usize) -> usize
-    requires { ⌜ code < 8 ⌝ }
     ensures { λ r. ⌜ r ≡ lengthIn FrameTable.GsmHr code ⌝ }
 {
-    GSM_HR_LENGTHS[code]
+    if code == 0 {
+        return GSM_HR_FRAME;
+    }
+    if code == 2 {
+        return GSM_HR_FRAME;
+    }
+    if code == 7 {
+        return 0;
+    }
+    RESERVED
 }
 
 // The length of a code in a frame table.

@@ -4,7 +4,6 @@ use crate::buffer::Fixed;
 use crate::buffer::SLOTS;
 use crate::columns;
 use formats::codes;
-use formats::codes::NO_CODE;
 use formats::tagging;
 use playout::order;
 use playout::order::Side;
@@ -39,7 +38,7 @@ fn is_allowed(format: u8, class: u32, length: u32) -> bool
     if class == 0 {
         return false;
     }
-    codes::code_for(format, class, length) < NO_CODE
+    codes::has_code(format, class, length)
 }
 
 // Whether the flag is one, and the last pair is kept as zeros or is in range.

@@ -13,7 +13,7 @@ enum-told-2 : tie.Need-enum-told-2
 enum-told-2 c = search needs
 
 gsm-hr-length-requires : tie.Need-gsm-hr-length-requires
-gsm-hr-length-requires c κs = rw (c .enum-told2 .given .1) at (c .before .before .pre)
+gsm-hr-length-requires c κs = search needs
 
 enum-told-3 : tie.Need-enum-told-3
 enum-told-3 c = search needs
