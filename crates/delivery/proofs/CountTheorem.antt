@@ -1,7 +1,7 @@
 -- The counts: the proofs of the claims.
-use mathlib.Core.Path.{_≡_, refl, ap, sym, _∙_, subst}
+use mathlib.Core.Path.{_≡_, refl, ap}
 use mathlib.Core.List.{List, [], _∷_, _++_}
-use mathlib.Core.Bool.{Bool, true, false, cond}
+use mathlib.Core.Bool.{true, cond}
 use Prim.Native.Nat.{ℕ, _+_}
 use native.Mathlib.Omega.{arith}
 use lib.ListN.{length}
@@ -17,7 +17,7 @@ use Rattle.rtp.proofs.RefusalLaws.{number-positive}
 use Rattle.rtp.specs.Areas.{over}
 use Rattle.payload.specs.Rows.{words}
 use Rattle.playout.specs.Entries.{Entry, Held}
-use Rattle.playout.specs.Verdicts.{Counts, noCounts, Judgement, tally, judgeAll}
+use Rattle.playout.specs.Verdicts.{Counts, noCounts, tally, judgeAll}
 use Rattle.playout.proofs.JudgeLaws.{judgeAll-count, tally-append}
 use Rattle.playout.proofs.HeldLaws.{fresh, drawnFirst}
 use Rattle.reorder.specs.declared.buffer.Buffer.{Buffer}
@@ -27,7 +27,7 @@ use Rattle.reorder.specs.Rows.{copiesOf}
 use Rattle.reorder.specs.ModelCalls.{Result, refused, done, Offered, offerTo}
 use Rattle.reorder.specs.Calls.{countNumbers, OfferOutcome, offerRefused, offerDone, offerCall}
 use Rattle.reorder.proofs.BufferLaws.{good-back}
-use Rattle.delivery.specs.Runs.{State, lent, Offer, Call, offer, draw, Yield, offered, Step, judgementsOf, judgedBy, step, run, judged, served, frames}
+use Rattle.delivery.specs.Runs.{State, lent, Call, offer, draw, Yield, offered, Step, judgementsOf, judgedBy, step, run, judged, served, frames}
 use Rattle.delivery.specs.Claims.{Counted, CountsVerdicts, framesHeld, Count}
 use Rattle.delivery.proofs.StepLaws.{spare, Fine, at, fresh-fine, begun-at, offer-cases, judged-fine, draw-cases, drawn-fine}
 

@@ -1,8 +1,8 @@
 -- Demand 3: the proof of the claim.
-use mathlib.Core.Path.{_≡_, refl, ap, sym, _∙_, subst}
-use mathlib.Core.List.{List, [], _∷_, _++_, map, List·Memᴰ, List·Memᴰ·not-nil as nowhere}
-use mathlib.Core.Bool.{Bool, true, false}
-use Prim.Native.Nat.{ℕ, _≤_, _<_}
+use mathlib.Core.Path.{_≡_, ap, sym, _∙_, subst}
+use mathlib.Core.List.{List, [], _++_, map, List·Memᴰ, List·Memᴰ·not-nil as nowhere}
+use mathlib.Core.Bool.{true}
+use Prim.Native.Nat.{ℕ}
 use lib.ListN.{length}
 use lib.Dec.{ltb}
 use borrow.Author.Tests.{ltb-true, ltb-false}
@@ -11,13 +11,13 @@ use Rattle.rtp.specs.declared.settings.Settings.{Settings}
 use Rattle.rtp.proofs.TestLaws.{by-test}
 use Rattle.playout.specs.Sizes.{slots, storeSize}
 use Rattle.playout.specs.Copies.{Copy}
-use Rattle.playout.specs.Entries.{Held, views}
-use Rattle.playout.specs.Verdicts.{Gathered, judgeAll}
+use Rattle.playout.specs.Entries.{views}
+use Rattle.playout.specs.Verdicts.{judgeAll}
 use Rattle.playout.specs.Lists.{Playout, WithinStretch, AtMost}
 use Rattle.playout.proofs.HeldLaws.{fresh}
 use Rattle.playout.proofs.PlayoutLaws.{gathered, playout-of, playout-unique}
-use Rattle.delivery.specs.Runs.{State, Offer, Call, offer, draw, run, refusalOf, served}
-use Rattle.delivery.specs.Claims.{refusals, accepted, copiesIn, SamePackets, inTurn, delivery, Demand3, Demand}
+use Rattle.delivery.specs.Runs.{State, Offer, offer, draw, run, refusalOf, served}
+use Rattle.delivery.specs.Claims.{accepted, copiesIn, SamePackets, inTurn, delivery, Demand}
 use Rattle.delivery.proofs.StepLaws.{spare, at, fresh-fine, begun-at}
 use Rattle.delivery.proofs.RunLaws.{run-refusals}
 use Rattle.delivery.proofs.AcceptedLaws.{accepted-none, copies-frames, copies-among}

@@ -1,12 +1,11 @@
 -- Laws of draws one after another, and of draws after offers: what they hand out.
 use mathlib.Core.Path.{_≡_, refl, ap, ap₂, sym, _∙_, subst}
 use mathlib.Core.List.{List, [], _∷_, _++_, map, List·Memᴰ, List·Memᴰ·head as here}
-use mathlib.Core.Bool.{Bool, true, false, cond}
-use Prim.Native.Nat.{ℕ, zero, suc, _≤_}
+use mathlib.Core.Bool.{true}
+use Prim.Native.Nat.{ℕ, suc, _≤_}
 use native.Mathlib.Omega.{arith}
 use lib.ListN.{length, take, drop}
 use lib.Seq.{take-at}
-use lib.Dec.{eqb}
 use borrow.Author.Tests.{ne-eqb}
 use Rattle.rtp.specs.Ranges.{inRange}
 use Rattle.rtp.specs.Refusals.{number}
@@ -21,8 +20,8 @@ use Rattle.playout.specs.Verdicts.{Gathered, judgeAll}
 use Rattle.playout.proofs.HeldLaws.{drawnFirst, frame-length}
 use Rattle.reorder.specs.Rows.{copiesOf}
 use Rattle.reorder.proofs.StateLaws.{good-facts}
-use Rattle.delivery.specs.Runs.{State, lent, Offer, Call, offer, draw, Yield, Step, run, Served, served}
-use Rattle.delivery.specs.Claims.{offerRefusal, accepted, copiesIn, handed, nothing, inTurn}
+use Rattle.delivery.specs.Runs.{lent, Offer, offer, draw, Step, run, Served, served}
+use Rattle.delivery.specs.Claims.{accepted, copiesIn, handed, nothing, inTurn}
 use Rattle.delivery.proofs.StepLaws.{spare, Fine, with-room, at, offer-cases, judged-fine, store-length, rows-length, draw-cases, drawn-fine}
 use Rattle.delivery.proofs.AcceptedLaws.{accepted-length, judge-more}
 

@@ -1,17 +1,14 @@
 -- Laws of runs from the buffer of a model: what is refused, and the buffer that is left.
-use mathlib.Core.Path.{_≡_, refl, ap, ap₂, sym, _∙_}
+use mathlib.Core.Path.{_≡_, refl, ap₂, sym, _∙_}
 use mathlib.Core.List.{List, [], _∷_, map}
-use mathlib.Core.Bool.{Bool, true, false, cond}
+use mathlib.Core.Bool.{true}
 use Prim.Native.Nat.{ℕ}
 use lib.ListN.{length}
 use Rattle.rtp.specs.Ranges.{inRange}
-use Rattle.rtp.specs.Refusals.{number}
 use Rattle.rtp.specs.declared.settings.Settings.{Settings}
-use Rattle.rtp.specs.declared.refusal.Refusal.the-variants.{AreaTooShort}
-use Rattle.playout.specs.Entries.{Entry, Held}
-use Rattle.playout.specs.Verdicts.{judgeAll}
+use Rattle.playout.specs.Entries.{Held}
 use Rattle.playout.proofs.HeldLaws.{drawnFirst}
-use Rattle.delivery.specs.Runs.{State, RowsLent, again, anew, lent, Offer, Call, offer, draw, Step, run, refusalOf}
+use Rattle.delivery.specs.Runs.{State, RowsLent, again, anew, lent, Call, offer, draw, Step, run, refusalOf}
 use Rattle.delivery.specs.Claims.{offerRefusal, drawRefusal, refusals}
 use Rattle.delivery.proofs.StepLaws.{Fine, at, offer-cases, judged-fine, store-length, rows-length, draw-cases, drawn-fine}
 

@@ -1,13 +1,13 @@
 -- Laws of one call from the buffer of a model: each way that it goes, and what it leaves.
 use mathlib.Core.Path.{_≡_, refl, ap, sym, _∙_, subst}
 use mathlib.Core.List.{List, [], _∷_, List·Memᴰ·not-nil as nowhere}
-use mathlib.Core.Bool.{Bool, true, false, cond, true≢false}
-use Prim.Native.Nat.{ℕ, _*_, _≤_, _<_}
+use mathlib.Core.Bool.{true, false, cond, true≢false}
+use Prim.Native.Nat.{ℕ, _≤_}
 use native.Mathlib.Omega.{arith}
 use lib.ListN.{length, replicate, length-replicate, length-append, length-drop, drop}
 use lib.Dec.{ltb, eqb}
-use borrow.Author.Tests.{ltb-true, ltb-false, lt-ltb, le-ltb, ne-eqb}
-use Rattle.rtp.specs.Sizes.{rowWidth, rowArea, maxRows}
+use borrow.Author.Tests.{ltb-true, ltb-false, ne-eqb}
+use Rattle.rtp.specs.Sizes.{rowArea}
 use Rattle.rtp.specs.Ranges.{inRange}
 use Rattle.rtp.specs.Refusals.{number}
 use Rattle.rtp.specs.Areas.{over}
@@ -22,14 +22,13 @@ use Rattle.payload.proofs.RowLaws.{length-words}
 use Rattle.packet.specs.Readings.{Outcome, refused as unread, readAs, reading}
 use Rattle.packet.proofs.RowFactLaws.{rows-fine}
 use Rattle.playout.specs.Sizes.{slotSize, storeSize}
-use Rattle.playout.specs.Copies.{Copy}
 use Rattle.playout.specs.Entries.{Entry, Held, frameOf}
-use Rattle.playout.specs.Verdicts.{noCounts, Judgement, tally, Gathered, judgeAll}
+use Rattle.playout.specs.Verdicts.{noCounts, tally, judgeAll}
 use Rattle.playout.proofs.HeldLaws.{fresh, drawnFirst, judgeAll-length}
 use Rattle.reorder.specs.declared.buffer.Buffer.{Buffer}
 use Rattle.reorder.specs.Layout.{encode, model}
 use Rattle.reorder.specs.Rows.{copiesOf}
-use Rattle.reorder.specs.ModelCalls.{Result, refused, done, Offered, judgeRead, offerTo}
+use Rattle.reorder.specs.ModelCalls.{Result, refused, Offered, judgeRead, offerTo}
 use Rattle.reorder.specs.Calls.{NewOutcome, countNumbers, OfferOutcome, offerDone, offerCall, DrawNumbers, noFrame, DrawOutcome, drawRefused, drawCall}
 use Rattle.reorder.proofs.LayoutLaws.{fresh-encode}
 use Rattle.reorder.proofs.CallLaws.{new-in, drawFirst, draw-store, draw-area, draw-goes}

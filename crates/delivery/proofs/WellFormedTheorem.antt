@@ -1,23 +1,22 @@
 -- Runs keep a buffer well-formed: the proof of the claim.
-use mathlib.Core.Path.{_≡_, refl, ap, sym, _∙_, subst}
+use mathlib.Core.Path.{_≡_, refl, ap, _∙_, subst}
 use mathlib.Core.List.{List, [], _∷_}
-use mathlib.Core.Bool.{Bool, true, false}
+use mathlib.Core.Bool.{true, false}
 use Prim.Native.Nat.{ℕ}
 use Rattle.rtp.specs.Ranges.{inRange}
-use Rattle.rtp.specs.declared.settings.Settings.{Settings}
 use Rattle.rtp.proofs.TestLaws.{by-test}
 use Rattle.reorder.specs.declared.buffer.Buffer.{Buffer}
 use Rattle.reorder.specs.Arrays.{Machine}
-use Rattle.reorder.specs.Layout.{encode, decode}
+use Rattle.reorder.specs.Layout.{decode}
 use Rattle.reorder.specs.WellFormed.{wellFormed}
 use Rattle.reorder.specs.Calls.{NewOutcome, OfferOutcome, DrawOutcome}
 use Rattle.reorder.proofs.CallLaws.{new-in, offer-out, draw-out}
 use Rattle.reorder.proofs.WellFormedLaws.{encode-decode, fresh-formed}
 use Rattle.reorder.proofs.BufferLaws.{buffer-good, good-fine}
-use Rattle.delivery.specs.Runs.{State, lent, Offer, Call, offer, draw, step, run}
+use Rattle.delivery.specs.Runs.{State, lent, Call, offer, draw, step, run}
 use Rattle.delivery.specs.Claims.{KeepsWellFormed}
-use Rattle.delivery.proofs.StepLaws.{spare, at}
-use Rattle.delivery.proofs.RunLaws.{Left, run-leaves}
+use Rattle.delivery.proofs.StepLaws.{spare}
+use Rattle.delivery.proofs.RunLaws.{run-leaves}
 
 -- under settings out of range every call is refused
 module _ (b : Buffer) (out : inRange (b .settings) ≡ false) where

@@ -2,13 +2,13 @@
 use Prim.Native.Nat.{ℕ}
 use mathlib.Core.Path.{_≡_}
 use mathlib.Core.List.{List, [], _∷_, _++_}
-use mathlib.Core.Bool.{Bool, true, false}
+use mathlib.Core.Bool.{true, false}
 use lib.ListN.{length}
-use Rattle.payload.specs.Frames.{sound}
+use Rattle.formats.specs.Frames.{sound}
 use Rattle.packet.specs.CheckedTable.{CheckedTable, filler}
 use Rattle.playout.specs.declared.verdict.Verdict.the-variants.{Late, Far, Repeated, Better, Inserted}
 use Rattle.playout.specs.Copies.{Copy}
-use Rattle.playout.specs.Entries.{Entry, Held}
+use Rattle.playout.specs.Entries.{Held}
 use Rattle.playout.specs.Verdicts.{keeps, judge}
 
 -- a copy of so many bytes

@@ -2,7 +2,7 @@
 -- It speaks of the definitions that the contracts of the calls cite.
 use Prim.Native.Nat.{ℕ}
 use mathlib.Core.List.{List, [], _∷_, _++_}
-use mathlib.Core.Bool.{Bool, true, false, cond}
+use mathlib.Core.Bool.{cond}
 use lib.ListN.{length, take}
 use lib.Dec.{eqb}
 use Rattle.rtp.specs.declared.settings.Settings.{Settings}
@@ -10,7 +10,7 @@ use Rattle.playout.specs.Verdicts.{Judgement}
 use Rattle.reorder.specs.declared.buffer.Buffer.{Buffer}
 use Rattle.reorder.specs.Layout.{model}
 use Rattle.reorder.specs.ModelCalls.{Result, refused, done, Offered, offerTo}
-use Rattle.reorder.specs.Calls.{newCall, OfferNumbers, OfferOutcome, offerCall, DrawNumbers, DrawOutcome, drawCall}
+use Rattle.reorder.specs.Calls.{newCall, OfferNumbers, offerCall, DrawNumbers, drawCall}
 
 -- The calls
 

@@ -1,16 +1,16 @@
 // Frames in words, from their rows.
 use crate::words;
+use formats::tagging;
 use libc::STDOUT_FILENO;
-use payload::rows;
 use rtp::sizes::MAX_ROWS;
 use rtp::sizes::ROW_AREA;
 use rtp::sizes::ROW_WIDTH;
 
 // A frame, by the four words of its row.
 fn print_words(time: u32, tag: u32, start: u32, length: u32) {
-    let class = rows::tag_class(tag);
+    let class = tagging::tag_class(tag);
     words::print_number(b"    time ", time as u64);
-    words::print_number(b", channel ", rows::tag_channel(tag) as u64);
+    words::print_number(b", channel ", tagging::tag_channel(tag) as u64);
     words::print(b", ");
     words::print_class(class);
     if class != 0 {

@@ -12,10 +12,10 @@ use borrow.Author.Tests.{ltb-true, ltb-false, eqb-true, eqb-false, eq-eqb, ne-eq
 use Rattle.rtp.specs.Sizes.{rowWidth}
 use Rattle.rtp.specs.declared.refusal.Refusal.{Refusal}
 use Rattle.rtp.proofs.TestLaws.{by-test, not-both}
-use Rattle.payload.specs.Formats.{stepOf}
+use Rattle.formats.specs.Formats.{stepOf}
 use Rattle.payload.specs.Contents.{Group, Contents, refused, groups, framesIn}
 use Rattle.payload.specs.Rows.{Row}
-use Rattle.payload.specs.Codes.{noCode, codeFor}
+use Rattle.formats.specs.Codes.{noCode, codeFor}
 use Rattle.encoder.specs.Lists.{rowsIn}
 use Rattle.encoder.specs.Plans.{gapBetween, starts, follows, headGap, joins, attach, planFrom, nextChannel}
 use Rattle.encoder.specs.Room.{rowAs, wordsAt, lengthsIn}

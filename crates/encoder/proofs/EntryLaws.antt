@@ -9,12 +9,12 @@ use borrow.Rule.Slice.PartMut.{putMid}
 use Rattle.rtp.specs.Areas.{over}
 use Rattle.rtp.proofs.AreaLaws.{over-part}
 use Rattle.rtp.proofs.TestLaws.{by-test}
-use Rattle.payload.specs.Formats.{formatOf, stepOf}
+use Rattle.formats.specs.Formats.{formatOf, stepOf}
 use Rattle.payload.specs.Contents.{Group, minEntry, gapsSize, entrySize, sizeIn}
-use Rattle.payload.specs.Codes.{noCode, codeFor}
+use Rattle.formats.specs.Codes.{noCode, codeFor}
 use Rattle.encoder.specs.Bytes.{halves, flag, firstByte, startBytes, gapBytes, entryBytes, tableBytes}
-use Rattle.payload.proofs.FormatLaws.{code-placed}
-use Rattle.payload.proofs.CodeLaws.{code-below}
+use Rattle.formats.proofs.FormatLaws.{code-placed}
+use Rattle.formats.proofs.CodeLaws.{code-below}
 use Rattle.encoder.specs.Room.{rowAs, wordsAt, blockGaps, runGroup, GapRoom, StartRoom, EntryRoom}
 use Rattle.encoder.proofs.StoreLaws.{over-one, over-two}
 use Rattle.encoder.proofs.GapLaws.{length-gaps}

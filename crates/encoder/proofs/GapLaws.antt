@@ -10,7 +10,7 @@ use lib.Seq.{drop-drop, getD-drop}
 use borrow.Rule.Slice.PartMut.{putMid}
 use Rattle.rtp.specs.Areas.{over}
 use Rattle.rtp.proofs.AreaLaws.{over-none, over-part}
-use Rattle.payload.specs.Formats.{stepOf}
+use Rattle.formats.specs.Formats.{stepOf}
 use Rattle.encoder.specs.Plans.{gapBetween}
 use Rattle.encoder.specs.Bytes.{halves}
 use Rattle.encoder.specs.Room.{blockGaps, Halves, GapRoom}

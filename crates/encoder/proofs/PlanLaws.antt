@@ -15,10 +15,10 @@ use Rattle.payload.specs.Contents.{Group, Contents, refused, groups, gapsSize, 
 use Rattle.payload.specs.Rows.{Row}
 use Rattle.encoder.specs.declared.plans.Plan.{Plan}
 use Rattle.encoder.specs.declared.plans.Planned.{Planned}
-use Rattle.payload.specs.Formats.{formatOf, stepOf, maxGap}
-use Rattle.payload.specs.Codes.{noCode, codeFor}
+use Rattle.formats.specs.Formats.{formatOf, stepOf, maxGap}
+use Rattle.formats.specs.Codes.{noCode, codeFor}
 use Rattle.payload.proofs.EntryLaws.{min-few}
-use Rattle.payload.proofs.CodeLaws.{code-small}
+use Rattle.formats.proofs.CodeLaws.{code-small}
 use Rattle.encoder.specs.Plans.{maxPayload, gapBetween, starts, headGap, joinsRun, joins, attach, follows, planFrom, plan, nextChannel, stepBefore, fitting}
 use Rattle.encoder.specs.Lists.{rowsIn}
 use Rattle.encoder.proofs.ListLaws.{rows-none, rows-more, length-rows}

@@ -11,11 +11,11 @@ use lib.Dec.{ltb, eqb}
 use borrow.Author.Tests.{ltb-true, ltb-false, eqb-true}
 use Rattle.rtp.specs.Sizes.{rowWidth}
 use Rattle.rtp.proofs.TestLaws.{by-test}
-use Rattle.payload.specs.Formats.{stepOf}
+use Rattle.formats.specs.Formats.{stepOf}
 use Rattle.payload.specs.Contents.{Group, Contents, refused, groups}
 use Rattle.payload.specs.Rows.{Row}
-use Rattle.payload.specs.Codes.{noCode, codeFor}
-use Rattle.payload.proofs.FormatLaws.{gap-small}
+use Rattle.formats.specs.Codes.{noCode, codeFor}
+use Rattle.formats.proofs.FormatLaws.{gap-small}
 use Rattle.encoder.specs.Lists.{rowsIn}
 use Rattle.encoder.specs.Plans.{joinsRun, gapBetween, headGap, single, joins, attach, planFrom}
 use Rattle.encoder.specs.Room.{rowAs, wordsAt, timed, joined, Accepted, blockGaps, runGroup, Halves, Direct}

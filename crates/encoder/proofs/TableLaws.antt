@@ -13,7 +13,7 @@ use Rattle.rtp.specs.Sizes.{rowWidth}
 use Rattle.rtp.specs.Areas.{over}
 use Rattle.rtp.proofs.TestLaws.{by-test}
 use Rattle.rtp.proofs.AreaLaws.{over-none, over-part}
-use Rattle.payload.specs.Formats.{stepOf}
+use Rattle.formats.specs.Formats.{stepOf}
 use Rattle.payload.specs.Contents.{Group, Contents, refused, groups, entrySize, sizeIn}
 use Rattle.payload.specs.Rows.{Row}
 use Rattle.encoder.specs.Lists.{rowsIn}

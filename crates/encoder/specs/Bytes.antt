@@ -3,10 +3,10 @@ use Prim.Native.Nat.{ℕ, _+_, _*_}
 use mathlib.Core.List.{List, [], _∷_, _++_}
 use mathlib.Core.Bool.{Bool, true, false, cond}
 use lib.ListN.{length, take, drop}
-use Rattle.payload.specs.Formats.{formatOf}
+use Rattle.formats.specs.Formats.{formatOf}
 use Rattle.payload.specs.Contents.{Group}
 use Rattle.payload.specs.Rows.{Row}
-use Rattle.payload.specs.Codes.{codeFor}
+use Rattle.formats.specs.Codes.{codeFor}
 
 -- 4-bit numbers in bytes, high half first, with four zero bits after an odd number
 unfoldable pub halves : List ℕ → List ℕ

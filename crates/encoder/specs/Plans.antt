@@ -8,10 +8,10 @@ use lib.Dec.{ltb, leb, eqb}
 use Rattle.rtp.specs.Sizes.{maxRows, minPacket, maxPacket}
 use Rattle.rtp.specs.Time.{difference}
 use Rattle.rtp.specs.declared.refusal.Refusal.the-variants.{Unwritable}
-use Rattle.payload.specs.Formats.{formatOf, stepOf, maxGap}
+use Rattle.formats.specs.Formats.{formatOf, stepOf, maxGap}
 use Rattle.payload.specs.Contents.{Group, Contents, refused, groups, sizeIn, framesIn}
 use Rattle.payload.specs.Rows.{Row}
-use Rattle.payload.specs.Codes.{noCode, codeFor}
+use Rattle.formats.specs.Codes.{noCode, codeFor}
 
 -- the longest payload that is written alone: what a packet has room for after its header
 abbrev pub maxPayload : ℕ

@@ -7,13 +7,13 @@ use lib.ListN.{length, getD, drop}
 use lib.Dec.{eqb}
 use Rattle.rtp.specs.Sizes.{maxRows, maxFrame, rowWidth}
 use Rattle.payload.specs.Contents.{Group, Contents, refused, groups, minEntry, entrySize, sizeIn, framesIn}
-use Rattle.payload.specs.Formats.{stepOf}
+use Rattle.formats.specs.Formats.{stepOf}
 use Rattle.payload.specs.Rows.{Row}
 use Rattle.encoder.specs.declared.lists.RowWords.{RowWords}
 use Rattle.encoder.specs.declared.plans.Plan.{Plan}
 use Rattle.encoder.specs.declared.plans.Planned.{Planned}
 use Rattle.encoder.specs.Lists.{rowOf, rowsIn, outside}
-use Rattle.payload.specs.Codes.{noCode, codeFor}
+use Rattle.formats.specs.Codes.{noCode, codeFor}
 use Rattle.encoder.specs.Plans.{headGap, gapBetween, joinsRun, joins, planFrom, plan}
 use Rattle.encoder.specs.Bytes.{tableBytes}
 

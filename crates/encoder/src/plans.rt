@@ -1,12 +1,11 @@
 // The table of contents that a frame list is written with.
 use crate::lists;
 use crate::lists::RowWords;
-use payload::codes;
-use payload::codes::NO_CODE;
+use formats::codes;
+use formats::facts;
+use formats::frames;
+use formats::tagging;
 use payload::contents;
-use payload::formats;
-use payload::frames;
-use payload::rows;
 use rtp::sizes::MAX_PACKET;
 use rtp::sizes::MAX_ROWS;
 use rtp::sizes::MIN_PACKET;
@@ -17,7 +16,7 @@ ghost use Prim.Native.Nat.{_+_, _*_, _/_, _%_, _<_};
 ghost use lib.Dec.{eqb};
 ghost use lib.ListN.{length};
 ghost use Rattle.rtp.specs.Sizes.{rowWidth, maxRows};
-ghost use Rattle.payload.specs.Formats.{stepOf, maxGap};
+ghost use Rattle.formats.specs.Formats.{stepOf, maxGap};
 ghost use Rattle.encoder.specs.Lists.{rowsIn};
 ghost use Rattle.encoder.specs.Plans.{ticksAfter, gapBetween, nextChannel, starts, continues, follows, joinsRun, planFrom, plan};
 ghost use Rattle.encoder.specs.Room.{rowAs, planAnswer, attachPlan, Attachable};
@@ -71,7 +70,7 @@ pub(crate) fn gap_between(format: u8, previous: u32, time: u32) -> u32
 fn max_gap(format: u8) -> u32
     ensures { λ r. ⌜ r ≡ maxGap format ⌝ }
 {
-    if formats::format_of(format).displaced {
+    if facts::format_of(format).displaced {
         return 15;
     }
     0
@@ -88,7 +87,7 @@ fn next_channel(channels: u32, c: u32) -> u32
 fn starts_block(format: u8, previous: u32, row: RowWords) -> bool
     ensures { λ r. ⌜ r ≡ starts format previous (rowAs row) ⌝ }
 {
-    if codes::code_for(format, rows::tag_class(row.tag), row.length) < NO_CODE {
+    if codes::has_code(format, tagging::tag_class(row.tag), row.length) {
         return whole_steps(format, ticks_after(format, previous, row.time));
     }
     false
@@ -98,7 +97,7 @@ fn continues_block(previous: RowWords, row: RowWords) -> bool
     ensures { λ r. ⌜ r ≡ continues (rowAs previous) (rowAs row) ⌝ }
 {
     if row.time == previous.time {
-        if rows::tag_class(row.tag) == rows::tag_class(previous.tag) {
+        if tagging::tag_class(row.tag) == tagging::tag_class(previous.tag) {
             return row.length == previous.length;
         }
         return false;
@@ -110,7 +109,7 @@ fn continues_block(previous: RowWords, row: RowWords) -> bool
 fn follows_row(format: u8, c: u32, previous: RowWords, row: RowWords) -> bool
     ensures { λ r. ⌜ r ≡ follows format c (rowAs previous) (rowAs row) ⌝ }
 {
-    if rows::tag_channel(row.tag) == c {
+    if tagging::tag_channel(row.tag) == c {
         if c == 0 {
             return starts_block(format, previous.time, row);
         }
@@ -123,8 +122,8 @@ fn follows_row(format: u8, c: u32, previous: RowWords, row: RowWords) -> bool
 pub(crate) fn joins_run(format: u8, row: RowWords, class: u32, length: u32, gap: u32) -> bool
     ensures { λ r. ⌜ r ≡ joinsRun format (rowAs row) class length gap ⌝ }
 {
-    if formats::format_of(format).counted {
-        if rows::tag_class(row.tag) == class {
+    if facts::format_of(format).counted {
+        if tagging::tag_class(row.tag) == class {
             if row.length == length {
                 return gap <= max_gap(format);
             }
@@ -140,7 +139,7 @@ fn attach_block(format: u8, channels: u32, row: RowWords, gap: u32, rest: Planne
     requires { ⌜ Attachable format channels (rowAs row) rest ⌝ }
     ensures { λ r. ⌜ r ≡ attachPlan format channels (rowAs row) gap rest ⌝ }
 {
-    let class = rows::tag_class(row.tag);
+    let class = tagging::tag_class(row.tag);
     let length = row.length;
     let frames = (channels as usize) * (length as usize);
     match rest {

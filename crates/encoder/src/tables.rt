@@ -2,18 +2,18 @@
 use crate::lists;
 use crate::lists::RowWords;
 use crate::plans;
-use payload::codes;
+use formats::codes;
+use formats::facts;
+use formats::tagging;
 use payload::contents;
-use payload::formats;
-use payload::rows;
 use rtp::sizes::ROW_WIDTH;
 ghost use mathlib.Core.Path.{_≡_};
 ghost use Prim.Native.Nat.{_≤_, _<_};
 ghost use lib.ListN.{length};
 ghost use Rattle.rtp.specs.Areas.{over};
-ghost use Rattle.payload.specs.Formats.{stepOf};
+ghost use Rattle.formats.specs.Formats.{stepOf};
 ghost use Rattle.encoder.specs.Lists.{rowsIn};
-ghost use Rattle.payload.specs.Codes.{noCode, codeFor};
+ghost use Rattle.formats.specs.Codes.{noCode, codeFor};
 ghost use Rattle.encoder.specs.Plans.{planFrom};
 ghost use Rattle.encoder.specs.Bytes.{flag, halves, firstByte, startBytes, entryBytes, frames};
 ghost use Rattle.encoder.specs.Room.{rowAs, FramesRoom, joined, RunRoom, timed, blockGaps, runGroup, GapRoom, StartRoom, EntryRoom, TableRoom, planBytes};
@@ -56,7 +56,7 @@ fn joined_blocks(format: u8, channels: usize, row: RowWords, rows: &[u32]) -> us
     }
     let next = lists::row_at(rows, 0);
     let gap = plans::gap_between(format, row.time, next.time);
-    if plans::joins_run(format, row, rows::tag_class(next.tag), next.length, gap) {
+    if plans::joins_run(format, row, tagging::tag_class(next.tag), next.length, gap) {
         let width = ROW_WIDTH * channels;
         return joined_blocks(format, channels, next, &rows[width..]) + 1;
     }
@@ -76,7 +76,7 @@ fn first_byte(format: u8, more: bool, class: u32, length: u32) -> u8
     ensures { λ r. ⌜ r ≡ firstByte format more class length ⌝ }
 {
     let code = lists::wide(codes::code_for(format, class, length));
-    let facts = formats::format_of(format);
+    let facts = facts::format_of(format);
     (flag_of(more) + facts.unit * code) as u8
 }
 
@@ -86,7 +86,7 @@ fn put_start(format: u8, more: bool, class: u32, size: u32, blocks: usize, out: 
     ensures { λ _. ⌜ now (out .exit) ≡ over (startBytes format more class size blocks) (now (out .entry)) ⌝ }
 {
     out[0] = first_byte(format, more, class, size);
-    if formats::format_of(format).counted {
+    if facts::format_of(format).counted {
         out[1] = blocks as u8;
     }
 }
@@ -135,12 +135,12 @@ fn put_entry(
     put_start(
         format,
         more,
-        rows::tag_class(row.tag),
+        tagging::tag_class(row.tag),
         row.length,
         blocks,
         out,
     );
-    if formats::format_of(format).displaced {
+    if facts::format_of(format).displaced {
         let start = contents::min_entry(format);
         put_gaps(format, width, blocks, previous, rows, &mut out[start..]);
     }

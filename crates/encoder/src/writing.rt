@@ -3,7 +3,7 @@ use crate::lists;
 use crate::plans;
 use crate::plans::Planned;
 use crate::tables;
-use payload::frames;
+use formats::frames;
 use rtp::refusal::Refusal;
 use rtp::settings;
 use rtp::settings::Settings;
@@ -52,7 +52,9 @@ fn put_payload(
     out: &mut [u8],
 )
     requires { ⌜ PayloadRoom format channels table (length (now bytes)) (now rows) (length (now out)) ⌝ }
-    ensures { λ _. ⌜ now (out .exit) ≡ over (encodedBytes (plannedBytes format (now (bytes .entry)) (rowsIn (now (rows .entry))) (plan format channels (rowsIn (now (rows .entry)))))) (now (out .entry)) ⌝ }
+    ensures { λ _. ⌜ now (out .exit) ≡
+        over (encodedBytes (plannedBytes format (now (bytes .entry)) (rowsIn (now (rows .entry)))
+        (plan format channels (rowsIn (now (rows .entry)))))) (now (out .entry)) ⌝ }
 {
     let previous = time::difference(rows[0], frames::step_of(format));
     tables::put_table(format, channels, previous, rows, out);

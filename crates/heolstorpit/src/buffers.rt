@@ -101,7 +101,8 @@ pub extern "C" fn hsp_offer(
     rows: &mut [u32],
     store: &mut [u8],
 ) -> HspOffered
-    ensures { λ r. ⌜ record { answer = offeredAnswer r; buffer = r .buffer; rows = now (rows .exit); store = now (store .exit) } ≡ offerCall buffer (now (packet .entry)) (now (rows .entry)) (now (store .entry)) ⌝ }
+    ensures { λ r. ⌜ record { answer = offeredAnswer r; buffer = r .buffer; rows = now (rows .exit); store = now (store .exit) } ≡
+        offerCall buffer (now (packet .entry)) (now (rows .entry)) (now (store .entry)) ⌝ }
 {
     let offered = calls::offer(buffer, packet, rows, store);
     let left = offered.buffer;
@@ -162,7 +163,8 @@ fn draw_fields(answer: DrawAnswer) -> DrawFields
 
 #[no_mangle]
 pub extern "C" fn hsp_draw(buffer: Buffer, store: &[u8], area: &mut [u8]) -> HspDrawn
-    ensures { λ r. ⌜ record { answer = drawnAnswer r; buffer = r .buffer; area = now (area .exit) } ≡ drawCall buffer (now (store .entry)) (now (area .entry)) ⌝ }
+    ensures { λ r. ⌜ record { answer = drawnAnswer r; buffer = r .buffer; area = now (area .exit) } ≡
+        drawCall buffer (now (store .entry)) (now (area .entry)) ⌝ }
 {
     let drawn = calls::draw(buffer, store, area);
     let left = drawn.buffer;

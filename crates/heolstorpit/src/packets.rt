@@ -23,8 +23,12 @@ pub extern "C" fn hsp_write_packet(
     bytes: &[u8],
     out: &mut [u8],
 ) -> HspWritten
-    ensures { λ r. ⌜ (writtenAnswer r ≡ encodedNumbers (sending settings (record { marker = marker; sequence = sequence; source = source }) (now (counts .entry)) (now (rows .entry)) (now (bytes .entry)) (length (now (out .entry)))))
-        × (now (out .exit) ≡ over (encodedBytes (sending settings (record { marker = marker; sequence = sequence; source = source }) (now (counts .entry)) (now (rows .entry)) (now (bytes .entry)) (length (now (out .entry))))) (now (out .entry))) ⌝ }
+    ensures { λ r. ⌜ (writtenAnswer r ≡
+        encodedNumbers (sending settings (record { marker = marker; sequence = sequence; source = source }) (now (counts .entry)) (now (rows .entry))
+        (now (bytes .entry)) (length (now (out .entry)))))
+        × (now (out .exit) ≡ over
+        (encodedBytes (sending settings (record { marker = marker; sequence = sequence; source = source }) (now (counts .entry))
+        (now (rows .entry)) (now (bytes .entry)) (length (now (out .entry))))) (now (out .entry))) ⌝ }
 {
     match packets::write_packet(settings, marker, sequence, source, counts, rows, bytes, out) {
         Written::Refused(reason) => HspWritten {

@@ -23,7 +23,7 @@ use Rattle.rtp.proofs.AreaLaws.{over-part}
 use Rattle.rtp.proofs.RedundancyLaws.{headers-step, at-redundant, ahead}
 use Rattle.payload.specs.declared.contents.ContentsRead.{ContentsRead}
 use Rattle.payload.specs.declared.reading.PayloadRead.{PayloadRead}
-use Rattle.payload.specs.Frames.{stepOf}
+use Rattle.formats.specs.Frames.{stepOf}
 use Rattle.payload.specs.Contents.{Contents, refused as unread, groups, contents, sizeIn, sizesAnswer}
 use Rattle.payload.specs.Payloads.{payload, Rows, noRows, rowsOf, placedRows, payloadRows, rowsAnswer, rowsWords, askedRows}
 use Rattle.payload.proofs.PayloadLaws.{length-table, pay-refused, pay-part, pay-rows, pay-small, asked-in}

@@ -3,8 +3,8 @@ use mathlib.Core.Path.{refl}
 use Rattle.rtp.specs.Ranges.{maxChannels, inRange}
 use Rattle.rtp.specs.Header.{payloadStart, payloadEnd, fields, header}
 use Rattle.rtp.specs.Redundancy.{blockHeader, headersBy, headers, redundancyHeaders, headersSize, redundantSize}
-use Rattle.payload.specs.Formats.{formatOf}
-use Rattle.payload.specs.Frames.{g719Length, lengthIn, frameIn}
+use Rattle.formats.specs.Formats.{formatOf}
+use Rattle.formats.specs.Frames.{g719Length, lengthIn, frameIn}
 use Rattle.payload.specs.Contents.{minEntry, gapsSize, entrySize, entryOf, gapAt, gapsFrom, meaning, contentsBy, contents, sizeIn, framesIn}
 use Rattle.payload.specs.Rows.{timeAfter, groupRows, tableRows}
 use Rattle.payload.specs.Rows.{blockRows}

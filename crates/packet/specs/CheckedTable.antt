@@ -13,7 +13,7 @@ use Rattle.rtp.specs.declared.refusal.Refusal.the-variants.{ReservedCode}
 use Rattle.rtp.specs.declared.redundancy.Redundant.{Redundant}
 use Rattle.rtp.specs.declared.redundancy.BlockHeader.{BlockHeader}
 use Rattle.payload.specs.declared.contents.EntryRead.{EntryRead}
-use Rattle.payload.specs.Frames.{g719Length, noData, sound}
+use Rattle.formats.specs.Frames.{g719Length, noData, sound}
 use Rattle.payload.specs.Contents.{entryOf}
 use Rattle.payload.specs.Rows.{Row}
 use Rattle.payload.specs.Payloads.{Rows, noRows, rowsOf}

@@ -44,7 +44,9 @@ fn put_block(
     rows: &mut [u32],
 ) -> PayloadRead
     ensures { λ r. ⌜ (r ≡ rowsAnswer (askedBlock settings done (length (now (rows .entry))) time «block_type» offset at (now (s .entry))))
-        × (now (rows .exit) ≡ over (rowsWords (askedBlock settings done (length (now (rows .entry))) time «block_type» offset at (now (s .entry)))) (now (rows .entry))) ⌝ }
+        × (now (rows .exit) ≡
+        over (rowsWords (askedBlock settings done (length (now (rows .entry))) time «block_type» offset at (now (s .entry)))) (now (rows .entry)))
+        ⌝ }
 {
     if block_type == settings.payload_type {
         if s.len() == 0 {

@@ -13,14 +13,14 @@ use Rattle.rtp.specs.Sizes.{maxFrame}
 use Rattle.rtp.specs.declared.refusal.Refusal.{Refusal}
 use Rattle.rtp.proofs.TestLaws.{by-test}
 use Rattle.rtp.proofs.RedundancyLaws.{Bytes}
-use Rattle.payload.specs.declared.frames.Frame.{Frame}
-use Rattle.payload.specs.declared.frames.Coded.{Coded}
+use Rattle.formats.specs.declared.frames.Frame.{Frame}
+use Rattle.formats.specs.declared.frames.Coded.{Coded}
 use Rattle.payload.specs.declared.contents.Entry.{Entry}
 use Rattle.payload.specs.declared.contents.EntryRead.{EntryRead}
-use Rattle.payload.specs.Formats.{formatOf}
-use Rattle.payload.specs.Frames.{maxClass, frameOf}
+use Rattle.formats.specs.Formats.{formatOf}
+use Rattle.formats.specs.Frames.{maxClass, frameOf}
 use Rattle.payload.specs.Contents.{minEntry, codeIn, blocksIn, gapsSize, entrySize, codedEntry, entryOf}
-use Rattle.payload.proofs.FormatLaws.{code-placed, small-frame}
+use Rattle.formats.proofs.FormatLaws.{code-placed, small-frame}
 
 -- what is read past a refusal
 pub past : (b : Bool) (r : Refusal) (x : EntryRead) (e : Entry) → cond b (EntryRead.Refused r) x ≡ EntryRead.Entry e → (b ≡ false) × (x ≡ EntryRead.Entry e)

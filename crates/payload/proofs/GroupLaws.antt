@@ -11,7 +11,7 @@ use Rattle.rtp.specs.Sizes.{rowWidth}
 use Rattle.rtp.specs.Areas.{over}
 use Rattle.rtp.proofs.AreaLaws.{over-none, over-part}
 use Rattle.rtp.proofs.TestLaws.{by-test}
-use Rattle.payload.specs.Formats.{formatOf}
+use Rattle.formats.specs.Formats.{formatOf}
 use Rattle.payload.specs.Contents.{gapsSize, entrySize, gapAt, gapsFrom}
 use Rattle.payload.specs.Rows.{words, placed, nextPlace, timeAfter, blockRows, groupRows}
 use Rattle.payload.specs.Room.{BlockRoom, GroupRoom}

@@ -1,10 +1,7 @@
-pub mod TableRule
-pub mod FormatLaws
 pub mod EntryLaws
 pub mod ContentsLaws
 pub mod RowLaws
 pub mod GroupLaws
 pub mod TableLaws
 pub mod PayloadLaws
-pub mod CodeLaws
 pub mod RowFactLaws

@@ -17,7 +17,7 @@ use Rattle.rtp.proofs.AreaLaws.{over-none}
 use Rattle.payload.specs.declared.contents.Sizes.{Sizes}
 use Rattle.payload.specs.declared.contents.ContentsRead.{ContentsRead}
 use Rattle.payload.specs.declared.reading.PayloadRead.{PayloadRead}
-use Rattle.payload.specs.Frames.{stepOf}
+use Rattle.formats.specs.Frames.{stepOf}
 use Rattle.payload.specs.Contents.{Group, Contents, refused, groups, contents, rowCount, sizeIn, framesIn, sizesAnswer}
 use Rattle.payload.specs.Rows.{tableRows, timeAfter}
 use Rattle.payload.specs.Payloads.{exact, payload, Rows, noRows, rowsOf, placedRows, payloadRows, rowsWords, rowsAnswer, askedRows}

@@ -11,16 +11,16 @@ use borrow.Author.Tests.{eqb-true}
 use Rattle.rtp.specs.Sizes.{maxRows}
 use Rattle.rtp.specs.Numbers.{byteAt}
 use Rattle.rtp.proofs.TestLaws.{by-test}
-use Rattle.payload.specs.declared.frames.Coded.{Coded}
+use Rattle.formats.specs.declared.frames.Coded.{Coded}
 use Rattle.payload.specs.declared.contents.Entry.{Entry}
 use Rattle.payload.specs.declared.contents.EntryRead.{EntryRead}
-use Rattle.payload.specs.Formats.{formatOf}
-use Rattle.payload.specs.Frames.{frameOf, stepOf}
-use Rattle.payload.specs.Codes.{noCode, codeFor}
+use Rattle.formats.specs.Formats.{formatOf}
+use Rattle.formats.specs.Frames.{frameOf, stepOf}
+use Rattle.formats.specs.Codes.{noCode, codeFor}
 use Rattle.payload.specs.Contents.{minEntry, codeIn, blocksIn, entrySize, codedEntry, entryOf, Group, Contents, refused, groups, meaning, prepend, contentsStep, contents, sizeIn, framesIn, sizesAnswer}
 use Rattle.payload.specs.Rows.{Row, placed, nextPlace, timeAfter, blockRows, groupRows, tableRows}
 use Rattle.payload.specs.Payloads.{exact, payload, Rows, noRows, rowsOf, placedRows, payloadRows}
-use Rattle.payload.proofs.CodeLaws.{code-some}
+use Rattle.formats.proofs.CodeLaws.{code-some}
 use Rattle.payload.proofs.EntryLaws.{code-in}
 use Rattle.payload.proofs.ContentsLaws.{contents-step, shorter, Within, within}
 use Rattle.payload.proofs.PayloadLaws.{length-table}

@@ -18,7 +18,7 @@ use Rattle.rtp.proofs.AreaLaws.{over-none, over-part, part-to-end}
 use Rattle.payload.specs.declared.contents.Entry.{Entry}
 use Rattle.payload.specs.declared.contents.EntryRead.{EntryRead}
 use Rattle.payload.specs.declared.contents.ContentsRead.{ContentsRead}
-use Rattle.payload.specs.Frames.{stepOf}
+use Rattle.formats.specs.Frames.{stepOf}
 use Rattle.payload.specs.Contents.{entryOf, gapsFrom, Contents, refused, groups, meaning, prepend, contents, sizesAnswer}
 use Rattle.payload.specs.Rows.{words, timeAfter, groupRows, tableRows}
 use Rattle.payload.specs.Room.{GroupRoom, TableRoom, contentsWords}

@@ -8,12 +8,12 @@ use Rattle.rtp.specs.Sizes.{maxRows}
 use Rattle.rtp.specs.Numbers.{byteAt}
 use Rattle.rtp.specs.declared.refusal.Refusal.{Refusal}
 use Rattle.rtp.specs.declared.refusal.Refusal.the-variants.{ContentsTruncated, ReservedCode, NoFrameBlocks, TooManyRows}
-use Rattle.payload.specs.declared.frames.Coded.{Coded}
+use Rattle.formats.specs.declared.frames.Coded.{Coded}
 use Rattle.payload.specs.declared.contents.Entry.{Entry}
 use Rattle.payload.specs.declared.contents.EntryRead.{EntryRead}
 use Rattle.payload.specs.declared.contents.ContentsRead.{ContentsRead}
-use Rattle.payload.specs.Formats.{formatOf}
-use Rattle.payload.specs.Frames.{frameOf}
+use Rattle.formats.specs.Formats.{formatOf}
+use Rattle.formats.specs.Frames.{frameOf}
 
 -- One entry
 

@@ -1,6 +1,3 @@
-pub mod Formats
-pub mod Frames
-pub mod Codes
 pub mod Contents
 pub mod Rows
 pub mod Payloads

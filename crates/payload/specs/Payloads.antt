@@ -10,7 +10,7 @@ use Rattle.rtp.specs.declared.settings.Settings.{Settings}
 use Rattle.rtp.specs.declared.refusal.Refusal.{Refusal}
 use Rattle.rtp.specs.declared.refusal.Refusal.the-variants.{PacketLength, LengthMismatch, SettingsOutOfRange, AreaTooShort}
 use Rattle.payload.specs.declared.reading.PayloadRead.{PayloadRead}
-use Rattle.payload.specs.Frames.{stepOf}
+use Rattle.formats.specs.Frames.{stepOf}
 use Rattle.payload.specs.Contents.{Contents, refused, groups, contents, sizeIn, framesIn}
 use Rattle.payload.specs.Rows.{Row, words, tableRows}
 

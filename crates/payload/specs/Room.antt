@@ -1,19 +1,12 @@
--- What functions ask of their callers inside this crate: a code of a table; room in an area, and numbers that fit its words.
+-- What functions ask of their callers inside this crate: room in an area, and numbers that fit its words.
 use Prim.Native.Nat.{ℕ, _+_, _*_, _≤_, _<_, _^_}
 use mathlib.Core.List.{List, []}
 use lib.ListN.{length}
 use Rattle.rtp.specs.Sizes.{rowWidth}
 use Rattle.payload.specs.declared.contents.ContentsRead.{ContentsRead}
-use Rattle.payload.specs.declared.formats.FrameTable.{FrameTable}
-use Rattle.payload.specs.Frames.{stepOf, maxClass}
+use Rattle.formats.specs.Frames.{stepOf, maxClass}
 use Rattle.payload.specs.Contents.{entrySize, Contents, refused, groups}
 use Rattle.payload.specs.Rows.{words, tableRows}
-
--- a code that a frame table has
-abbrev pub InTable : FrameTable → ℕ → Type 0
-InTable FrameTable.G719 code = code < 32
-InTable FrameTable.GsmHr code = code < 8
-InTable FrameTable.Empty code = Unit {0}
 
 pub record RowRoom (channel class start size area : ℕ) : Type 0 where
   pub area-fits : rowWidth ≤ area

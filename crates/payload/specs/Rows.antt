@@ -2,6 +2,7 @@
 use Prim.Native.Nat.{ℕ, zero, suc, _+_, _-_, _*_, _^_, _/_, _%_}
 use mathlib.Core.List.{List, [], _∷_, _++_}
 use lib.ListN.{length}
+use Rattle.formats.specs.Tags.{tagOf, tagClass, tagChannel}
 use Rattle.payload.specs.Contents.{Group}
 
 -- timestamp, class (document 01's sort), channel, start in the packet and length
@@ -11,16 +12,6 @@ pub record Row : Type 0 where
   pub channel : ℕ
   pub start : ℕ
   pub length : ℕ
-
--- a row's second word: 256 × class + channel, packed and unpacked
-abbrev pub tagOf : ℕ → ℕ → ℕ
-tagOf class channel = 256 * class + channel
-
-abbrev pub tagClass : ℕ → ℕ
-tagClass tag = tag / 256
-
-abbrev pub tagChannel : ℕ → ℕ
-tagChannel tag = tag % 256
 
 -- its four words
 abbrev pub rowWords : Row → List ℕ

@@ -1,7 +1,7 @@
 // Tables of contents.
-use crate::formats;
-use crate::frames;
-use crate::frames::Coded;
+use formats::facts;
+use formats::frames;
+use formats::frames::Coded;
 use rtp::bytes;
 use rtp::refusal::Refusal;
 use rtp::sizes::MAX_ROWS;
@@ -9,7 +9,7 @@ ghost use mathlib.Core.Path.{_≡_};
 ghost use Prim.Native.Nat.{_+_, _<_, _≤_};
 ghost use lib.ListN.{length};
 ghost use Rattle.payload.specs.Contents.{minEntry, codeIn, blocksIn, entrySize, entryOf, contents, sizesAnswer, gapAt};
-ghost use Rattle.payload.specs.Formats.{formatOf};
+ghost use Rattle.formats.specs.Formats.{formatOf};
 
 // One table entry: whether another follows, the frames' class and length, the number of frame-blocks, and the entry's own bytes.
 pub struct Entry {
@@ -41,7 +41,7 @@ pub enum ContentsRead {
 pub fn min_entry(format: u8) -> usize
     ensures { λ r. ⌜ r ≡ minEntry format ⌝ }
 {
-    if formats::format_of(format).counted {
+    if facts::format_of(format).counted {
         return 2;
     }
     1
@@ -51,7 +51,7 @@ pub fn min_entry(format: u8) -> usize
 fn code_in(format: u8, first: usize) -> usize
     ensures { λ r. ⌜ (r ≡ codeIn format first) × (r < formatOf format .codes) ⌝ }
 {
-    let facts = formats::format_of(format);
+    let facts = facts::format_of(format);
     first / facts.unit % facts.codes
 }
 
@@ -60,7 +60,7 @@ fn blocks_in(format: u8, s: &[u8]) -> usize
     requires { ⌜ minEntry format ≤ length (now s) ⌝ }
     ensures { λ r. ⌜ (r ≡ blocksIn format (now (s .entry))) × (r < 256) ⌝ }
 {
-    if formats::format_of(format).counted {
+    if facts::format_of(format).counted {
         return bytes::wide(s[1]);
     }
     1
@@ -71,7 +71,7 @@ pub fn entry_size(format: u8, blocks: usize) -> usize
     ensures { λ r. ⌜ r ≡ entrySize format blocks ⌝ }
 {
     let size = min_entry(format);
-    if formats::format_of(format).displaced {
+    if facts::format_of(format).displaced {
         return size + (blocks / 2 + blocks % 2);
     }
     size
@@ -150,7 +150,7 @@ pub(crate) fn gap(format: u8, s: &[u8], k: usize) -> u32
     if k == 0 {
         return 0;
     }
-    if formats::format_of(format).displaced {
+    if facts::format_of(format).displaced {
         let pair = s[min_entry(format) + k / 2] as u32;
         if k % 2 == 0 { pair / 16 } else { pair % 16 }
     } else {

@@ -1,43 +1,26 @@
 // Frame rows, written into a row area.
 use crate::contents;
 use crate::contents::EntryRead;
-use crate::frames;
+use formats::frames;
+use formats::tagging;
 use rtp::sizes::ROW_WIDTH;
 ghost use mathlib.Core.Path.{_≡_};
-ghost use Prim.Native.Nat.{_<_};
+ghost use Prim.Native.Nat.{_*_, _<_};
 ghost use lib.ListN.{length};
 ghost use Rattle.rtp.specs.Areas.{over};
-ghost use Rattle.payload.specs.Frames.{stepOf};
+ghost use Rattle.formats.specs.Frames.{stepOf};
 ghost use Rattle.payload.specs.Contents.{gapsFrom, contents, sizesAnswer};
-ghost use Rattle.payload.specs.Rows.{tagOf, tagClass, tagChannel, rowWords, words, blockRows, groupRows, timeAfter};
+ghost use Rattle.payload.specs.Rows.{rowWords, words, blockRows, groupRows, timeAfter};
 ghost use Rattle.payload.specs.Room.{RowRoom, BlockRoom, GroupRoom, TableRoom, contentsWords};
-
-// A row's second word: 256 times its class, and its channel.
-pub fn pack_tag(class: u8, channel: u8) -> u32
-    ensures { λ r. ⌜ r ≡ tagOf class channel ⌝ }
-{
-    256 * (class as u32) + (channel as u32)
-}
-
-pub fn tag_class(tag: u32) -> u32
-    ensures { λ r. ⌜ r ≡ tagClass tag ⌝ }
-{
-    tag / 256
-}
-
-pub fn tag_channel(tag: u32) -> u32
-    ensures { λ r. ⌜ (r ≡ tagChannel tag) × (r < 256) ⌝ }
-{
-    tag % 256
-}
 
 // A row at the front of the area.
 fn put_row(rows: &mut [u32], time: u32, class: usize, channel: usize, start: usize, size: usize)
     requires { ⌜ RowRoom channel class start size (length (now rows)) ⌝ }
-    ensures { λ _. ⌜ now (rows .exit) ≡ over (rowWords (record { time = time; class = class; channel = channel; start = start; length = size })) (now (rows .entry)) ⌝ }
+    ensures { λ _. ⌜ now (rows .exit) ≡
+        over (rowWords (record { time = time; class = class; channel = channel; start = start; length = size })) (now (rows .entry)) ⌝ }
 {
     rows[0] = time;
-    rows[1] = pack_tag(class as u8, channel as u8);
+    rows[1] = tagging::pack_tag(class as u8, channel as u8);
     rows[2] = start as u32;
     rows[3] = size as u32;
 }
@@ -70,6 +53,14 @@ fn put_block(
     );
 }
 
+// The ticks of so many frame-blocks.
+fn ticks(format: u8, blocks: u32) -> u32
+    requires { ⌜ blocks < 16 ⌝ }
+    ensures { λ r. ⌜ r ≡ blocks * stepOf format ⌝ }
+{
+    blocks * frames::step_of(format)
+}
+
 // The rows of `count` frame-blocks from the k-th on of the entry at the front of s; answers the time of the place after them.
 fn put_group(
     rows: &mut [u32],
@@ -85,12 +76,13 @@ fn put_group(
 ) -> u32
     requires { ⌜ GroupRoom format (now s) k count channels class start size (length (now rows)) ⌝ }
     ensures { λ r. ⌜ (r ≡ timeAfter (stepOf format) time (gapsFrom format (now (s .entry)) k count))
-        × (now (rows .exit) ≡ over (words (groupRows (stepOf format) channels time class start size (gapsFrom format (now (s .entry)) k count))) (now (rows .entry))) ⌝ }
+        × (now (rows .exit) ≡
+        over (words (groupRows (stepOf format) channels time class start size (gapsFrom format (now (s .entry)) k count))) (now (rows .entry))) ⌝ }
 {
     if count == 0 {
         return time;
     }
-    let skipped = frames::ticks(format, contents::gap(format, s, k));
+    let skipped = ticks(format, contents::gap(format, s, k));
     let here = std::num::wrapping_add_u32(time, skipped);
     put_block(rows, channels, 0, here, class, start, size);
     let next = std::num::wrapping_add_u32(here, frames::step_of(format));

@@ -14,7 +14,7 @@ use Rattle.playout.specs.declared.verdict.Verdict.{Verdict}
 use Rattle.playout.specs.Sizes.{slots, slotSize, storeSize}
 use Rattle.playout.specs.Pairs.{half, ahead, order, isAfter}
 use Rattle.playout.specs.Copies.{Copy}
-use Rattle.playout.specs.Entries.{Entry, Held, frameOf, view, entryOf, sideOfEntry, findBy, freeSlot, always, placed}
+use Rattle.playout.specs.Entries.{Entry, Held, frameOf, view, entryOf, sideOfEntry, freeSlot, always, placed}
 use Rattle.playout.specs.Verdicts.{isLate, isFar, allWithin, fits, lays, judge, judgeAll}
 use Rattle.playout.proofs.InsertionLaws.{byKey, Asc, Chain, Agree, asc-chain, chain-asc, put-from, find-mem, put-cong, put-asc}
 use Rattle.playout.proofs.DistinctLaws.{differ-one}

@@ -10,7 +10,7 @@ use lib.ListN.{length, drop, getD, drop-of-length-le}
 use lib.Seq.{drop-cons}
 use lib.Dec.{eqb}
 use borrow.Author.Tests.{eqb-true, eqb-false, eq-eqb, ne-eqb}
-use Rattle.payload.specs.Frames.{maxClass}
+use Rattle.formats.specs.Frames.{maxClass}
 use Rattle.playout.specs.Copies.{Copy, greaterAt, greater, rank, betterFrame, better}
 use Rattle.playout.specs.Lists.{SamePair}
 use Rattle.playout.proofs.InsertionLaws.{Cmp, cmp}

@@ -4,7 +4,7 @@ use mathlib.Core.List.{List, [], _∷_}
 use mathlib.Core.Bool.{Bool, true, false, cond}
 use lib.ListN.{length}
 use lib.Dec.{eqb}
-use Rattle.payload.specs.Frames.{sound}
+use Rattle.formats.specs.Frames.{sound}
 use Rattle.playout.specs.Pairs.{order}
 
 -- a copy of a frame: its pair (time, channel), its class and its bytes

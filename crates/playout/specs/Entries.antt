@@ -1,5 +1,5 @@
 -- Document 01, "The take": entries, the store's slots, and the operations on a sorted list of entries.
-use Prim.Native.Nat.{ℕ, zero, suc, _+_, _*_, Ordering, Ordering·lt, Ordering·eq, Ordering·gt}
+use Prim.Native.Nat.{ℕ, zero, suc, _*_, Ordering, Ordering·lt, Ordering·eq, Ordering·gt}
 use mathlib.Core.List.{List, [], _∷_, map}
 use mathlib.Core.Bool.{Bool, true, false, cond, _||_}
 use mathlib.Core.Option.{Option, none, some}

@@ -1,5 +1,5 @@
 -- Document 01, demand 3's terms: the draw list of the copies accepted (document 01: heard), and the two premises.
-use Prim.Native.Nat.{ℕ, _<_, _≤_, _^_, Ordering, Ordering·gt}
+use Prim.Native.Nat.{ℕ, _<_, _≤_, _^_, Ordering·gt}
 use mathlib.Core.Path.{_≡_}
 use mathlib.Core.List.{List, [], _∷_, List·Memᴰ}
 use mathlib.Core.Bool.{false}

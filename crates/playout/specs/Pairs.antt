@@ -1,5 +1,5 @@
 -- Document 01, "The take": the wrap-aware order of times, and of pairs (time, channel).
-use Prim.Native.Nat.{ℕ, _+_, _-_, _%_, _^_, compare, Ordering, Ordering·lt, Ordering·eq, Ordering·gt}
+use Prim.Native.Nat.{ℕ, _^_, compare, Ordering, Ordering·lt, Ordering·eq, Ordering·gt}
 use mathlib.Core.Bool.{Bool, true, false, cond}
 use lib.Dec.{ltb, eqb}
 use Rattle.rtp.specs.Time.{difference}

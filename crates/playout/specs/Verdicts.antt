@@ -1,5 +1,5 @@
 -- Document 01, "The take": the verdict on a copy, the first that applies, and what it leaves.
-use Prim.Native.Nat.{ℕ, _+_, Ordering}
+use Prim.Native.Nat.{ℕ, _+_}
 use mathlib.Core.List.{List, [], _∷_}
 use mathlib.Core.Bool.{Bool, true, false, cond, not, _&&_, _||_}
 use mathlib.Core.Option.{Option, none, some}

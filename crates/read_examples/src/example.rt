@@ -1,8 +1,8 @@
 // A packet made of given bytes and zeros, read and printed. It is laid into 2,049 bytes, one more than the longest packet has.
+use formats::tagging;
 use packet::reading;
 use packet::reading::Packet;
 use packet::reading::Reading;
-use payload::rows;
 use rtp::refusal;
 use rtp::settings::Settings;
 use rtp::sizes::MAX_PACKET;
@@ -90,8 +90,8 @@ fn print_row(rows: &[u32; ROW_AREA], i: u32) {
         let at = ROW_WIDTH * (i as usize);
         let tag = rows[at + 1];
         print(b"", rows[at]);
-        print(b" ", rows::tag_class(tag));
-        print(b" ", rows::tag_channel(tag));
+        print(b" ", tagging::tag_class(tag));
+        print(b" ", tagging::tag_channel(tag));
         print(b" ", rows[at + 2]);
         print(b" ", rows[at + 3]);
         io::write_all(1, b"\n");

@@ -1,8 +1,8 @@
 // Frames and the summary, on standard output. Each answers whether every write succeeded.
 use crate::totals::REFUSALS;
 use crate::totals::Totals;
+use formats::frames::SID;
 use libc::STDOUT_FILENO;
-use payload::frames::SID;
 use reorder::buffer::SLOT_SIZE;
 use reorder::calls::DrawnFrame;
 

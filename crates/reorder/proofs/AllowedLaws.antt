@@ -6,9 +6,9 @@ use native.Mathlib.Omega.{arith}
 use lib.Dec.{eqb}
 use borrow.Author.Tests.{ltb-true, eqb-false}
 use Rattle.rtp.proofs.TestLaws.{either}
-use Rattle.payload.specs.Frames.{noData}
-use Rattle.payload.specs.Codes.{noCode, codeFor}
-use Rattle.payload.proofs.CodeLaws.{code-small}
+use Rattle.formats.specs.Frames.{noData}
+use Rattle.formats.specs.Codes.{noCode, codeFor}
+use Rattle.formats.proofs.CodeLaws.{code-small}
 use Rattle.playout.specs.Sizes.{slotSize}
 use Rattle.playout.proofs.RankLaws.{FrameClass}
 use Rattle.reorder.specs.Model.{allowed}

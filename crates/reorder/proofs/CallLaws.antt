@@ -1,6 +1,6 @@
 -- Laws of the calls, one for each way that a call goes.
-use mathlib.Core.Path.{_≡_, refl, sym}
-use mathlib.Core.List.{List, [], _∷_}
+use mathlib.Core.Path.{_≡_}
+use mathlib.Core.List.{List}
 use mathlib.Core.Bool.{true, false}
 use Prim.Native.Nat.{ℕ, _≤_, _<_}
 use lib.ListN.{length}
@@ -14,10 +14,10 @@ use Rattle.packet.specs.Readings.{Outcome, reading}
 use Rattle.playout.specs.Sizes.{slotSize, storeSize}
 use Rattle.playout.specs.Entries.{Entry}
 use Rattle.reorder.specs.declared.buffer.Buffer.{Buffer}
-use Rattle.reorder.specs.Layout.{decode, model, fresh}
+use Rattle.reorder.specs.Layout.{decode, fresh}
 use Rattle.reorder.specs.WellFormed.{wellFormed}
 use Rattle.reorder.specs.ModelCalls.{done, judgeRead, offerTo, earliest, drawFrom}
-use Rattle.reorder.specs.Calls.{NewOutcome, noSettings, newCall, OfferOutcome, offerRefused, offerDone, offerCall, DrawOutcome, drawRefused, drawDone, drawCall}
+use Rattle.reorder.specs.Calls.{noSettings, newCall, OfferOutcome, offerRefused, offerDone, offerCall, DrawOutcome, drawRefused, drawDone, drawCall}
 
 -- an offer whose packet was read, or not
 abbrev pub offerRead : Buffer → List ℕ → List ℕ → List ℕ → Outcome → OfferOutcome

@@ -9,7 +9,7 @@ use native.Mathlib.Omega.{arith}
 use borrow.Author.Tests.{ltb-true, eqb-true, not-true, not-false}
 use lib.Dec.{ltb, eqb}
 use lib.ListN.{getD}
-use Rattle.payload.specs.Rows.{tagClass, tagChannel}
+use Rattle.formats.specs.Tags.{tagClass, tagChannel}
 use Rattle.playout.specs.Sizes.{slots}
 use Rattle.playout.specs.Pairs.{half, ahead, order, isAfter, sideOf}
 use Rattle.playout.specs.declared.order.Side.{Side}

@@ -4,7 +4,8 @@ use mathlib.Core.List.{List, [], _∷_, _++_, List·Memᴰ, List·Memᴰ·head a
 use mathlib.Core.Bool.{Bool, true, false, cond}
 use Prim.Native.Nat.{ℕ, zero, suc, _+_, _-_, _≤_, _<_, _^_}
 use native.Mathlib.Omega.{arith}
-use lib.ListN.{length}
+use lib.ListN.{length, take, drop, length-drop}
+use lib.Seq.{length-take-le}
 use lib.Dec.{ltb, eqb}
 use borrow.Author.Tests.{lt-ltb, eqb-true, eqb-false, ne-eqb}
 use Rattle.rtp.specs.Ranges.{inRange}
@@ -12,9 +13,8 @@ use Rattle.rtp.specs.declared.settings.Settings.{Settings}
 use Rattle.rtp.specs.declared.header.Header.{Header}
 use Rattle.rtp.proofs.TestLaws.{by-test}
 use Rattle.rtp.proofs.RangeLaws.{few-channels}
-use Rattle.rtp.proofs.AreaLaws.{part-size}
-use Rattle.payload.specs.Frames.{noData}
-use Rattle.payload.specs.Codes.{noCode, codeFor}
+use Rattle.formats.specs.Frames.{noData}
+use Rattle.formats.specs.Codes.{noCode, codeFor}
 use Rattle.payload.specs.Rows.{Row}
 use Rattle.payload.proofs.RowFactLaws.{RowFine, AllRows}
 use Rattle.packet.specs.Readings.{Outcome, refused, readAs, reading}
@@ -26,6 +26,10 @@ use Rattle.reorder.specs.Rows.{copyOf, copiesOf, readCopies}
 use Rattle.reorder.specs.Judging.{RowAllowed, RowsAllowed}
 use Rattle.reorder.proofs.StateLaws.{Fit, Fits, fit-frame}
 
+-- a frame's bytes are as many as its row says
+pub frame-size : (packet : List ℕ) (start n : ℕ) → start + n ≤ length packet → length (take n (drop start packet)) ≡ n
+frame-size packet start n h = length-take-le n (drop start packet) (simp length-drop (omega arith))
+
 module _ (st : Settings) (few : st .channels ≤ 2) (packet : List ℕ) where
   row-allowed : (r : Row) → RowFine (st .format) (st .channels) (length packet) r → RowAllowed st (length packet) r
   row-allowed r f n = (rw (ne-eqb (r .class) noData n) (lt-ltb _ _ (f .coded)), f .channel, f .inside)
@@ -36,7 +40,7 @@ module _ (st : Settings) (few : st .channels ≤ 2) (packet : List ℕ) where
 
   copy-fit : (r : Row) → RowFine (st .format) (st .channels) (length packet) r → (r .class ≡ noData → ⊥) → Fit st (copyOf packet r)
   copy-fit r f n = record {
-    frame = subst (λ (k : ℕ). allowed (st .format) (r .class) k ≡ true) (sym (part-size packet (r .start) (r .length) (f .inside))) (row-allowed r f n .0);
+    frame = subst (λ (k : ℕ). allowed (st .format) (r .class) k ≡ true) (sym (frame-size packet (r .start) (r .length) (f .inside))) (row-allowed r f n .0);
     channel = f .channel;
     octet = omega (arith, f .channel);
     word = f .word;

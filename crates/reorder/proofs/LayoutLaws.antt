@@ -11,7 +11,7 @@ use lib.ListN.{length, getD, take, drop, set, length-map, List·getD-map}
 use lib.Seq.{map-set-same}
 use Rattle.rtp.specs.declared.settings.Settings.{Settings}
 use Rattle.rtp.proofs.TestLaws.{not-both}
-use Rattle.payload.specs.Rows.{tagOf, tagClass, tagChannel}
+use Rattle.formats.specs.Tags.{tagOf, tagClass, tagChannel}
 use Rattle.playout.specs.Sizes.{slots}
 use Rattle.playout.specs.Entries.{Entry, Held}
 use Rattle.reorder.specs.declared.buffer.Buffer.{Buffer}

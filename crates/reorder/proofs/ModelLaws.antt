@@ -1,18 +1,17 @@
 -- What a well-formed model is, as facts of its entries, one by one.
-use Prim.Native.Nat.{ℕ, _≤_, _<_, Ordering, Ordering·gt}
+use Prim.Native.Nat.{ℕ, _≤_, _<_, Ordering·gt}
 use mathlib.Core.Path.{_≡_, refl, sym, ap, _∙_}
 use mathlib.Core.Logic.{_↔_}
-use mathlib.Core.List.{List, [], _∷_, List·Memᴰ, List·Memᴰ·head as here, List·Memᴰ·tail as there, List·Memᴰ·not-nil as nowhere}
+use mathlib.Core.List.{List, [], _∷_, List·Memᴰ, List·Memᴰ·head as here, List·Memᴰ·tail as there}
 use mathlib.Core.Bool.{Bool, true, false, cond, not, _&&_, and-eq-true-iff}
 use native.Mathlib.Omega.{arith}
-use borrow.Author.Tests.{eqb-true, ltb-true, eq-eqb, lt-ltb, not-true}
+use borrow.Author.Tests.{eqb-true, ltb-true, eq-eqb, lt-ltb}
 use lib.Dec.{ltb, eqb}
 use lib.ListN.{length}
 use Rattle.rtp.specs.declared.settings.Settings.{Settings}
 use Rattle.playout.specs.Sizes.{slots}
 use Rattle.playout.specs.Pairs.{order, isAfter}
 use Rattle.playout.specs.Entries.{Entry, Held, sideOfEntry, slotUsed}
-use Rattle.playout.specs.Verdicts.{allWithin}
 use Rattle.playout.proofs.HeldLaws.{Rising, Stretch, all-within}
 use Rattle.playout.proofs.PlayoutLaws.{within-all}
 use Rattle.reorder.specs.Model.{Model, ascending, inStretch, slotsApart, allowed, afterLast, entryFine, entriesFine, lastFine, fine}

@@ -1,32 +1,31 @@
 -- The one pass over the entries asks what a well-formed buffer is.
-use Prim.Native.Nat.{ℕ, zero, suc, _+_, _<_, Ordering·gt}
+use Prim.Native.Nat.{ℕ, zero, suc, _+_, _<_}
 use mathlib.Core.Path.{_≡_, refl, sym, ap, ap₂, subst, _∙_}
 use mathlib.Core.Logic.{_⊎_, inl, inr}
 use mathlib.Core.List.{List, [], _∷_, List·Memᴰ, List·Memᴰ·head as here, List·Memᴰ·tail as there, List·Memᴰ·not-nil as nowhere, List·Memᴰ·cases-cons as cases}
 use mathlib.Core.Bool.{Bool, true, false, cond, _&&_}
 use mathlib.Core.Option.{Option, none, some}
 use native.Mathlib.Omega.{arith}
-use borrow.Author.Tests.{eqb-true, eqb-false, ltb-true, eq-eqb, lt-ltb}
+use borrow.Author.Tests.{ltb-true, eq-eqb, lt-ltb}
 use lib.Dec.{ltb, eqb}
 use lib.ListN.{getD}
 use Rattle.playout.specs.Sizes.{slots}
 use Rattle.playout.specs.Pairs.{half, ahead, order, isAfter}
-use Rattle.playout.specs.Entries.{Entry, sideOfEntry}
-use Rattle.playout.specs.Verdicts.{allWithin}
-use Rattle.playout.proofs.HeldLaws.{Stretch, all-within}
+use Rattle.playout.specs.Entries.{Entry}
+use Rattle.playout.proofs.HeldLaws.{all-within}
 use Rattle.playout.proofs.PlayoutLaws.{within-all}
 use Rattle.reorder.specs.declared.buffer.Buffer.{Buffer}
 use Rattle.reorder.specs.declared.buffer.Fixed.{Fixed}
 use Rattle.reorder.specs.Bits.{markOf, heldIn, wordAt, wordsOf, isFree, sameWords}
-use Rattle.reorder.specs.Layout.{isFlag, unusedZero, marksKept, laidOut, entriesFrom, decode, model, assembled}
-use Rattle.reorder.specs.Model.{allowed, ascending, inStretch, afterLast, fine}
+use Rattle.reorder.specs.Layout.{isFlag, unusedZero, entriesFrom, decode, model, assembled}
+use Rattle.reorder.specs.Model.{allowed, ascending, inStretch, afterLast}
 use Rattle.reorder.specs.WellFormed.{wellFormed}
 use Rattle.reorder.specs.Checks.{lastKept, sinceLast, ascends, passes, allPass, entriesPass}
 use Rattle.rtp.proofs.TestLaws.{both as in-turn, and-then}
 use Rattle.reorder.proofs.CheckLaws.{free-parts}
 use Rattle.reorder.proofs.WordLaws.{slotsOf, countIn, Distinct, count-none, count-here, distinct-none, distinct-cons, mark-count, words-cons}
 use Rattle.reorder.proofs.LayoutLaws.{by-flag}
-use Rattle.reorder.proofs.ModelLaws.{both, and, EntryTests, entry-tests, Clauses, clauses, from-clauses, apart-distinct, distinct-apart}
+use Rattle.reorder.proofs.ModelLaws.{both, and, entry-tests, clauses, from-clauses, apart-distinct, distinct-apart}
 
 -- The slots of entries on top of others
 

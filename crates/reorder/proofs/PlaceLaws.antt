@@ -9,7 +9,7 @@ use native.Mathlib.Omega.{arith}
 use borrow.Author.Tests.{ne-eqb, eqb-true}
 use lib.Dec.{ltb, eqb}
 use lib.ListN.{length, getD, set}
-use Rattle.payload.specs.Rows.{tagChannel}
+use Rattle.formats.specs.Tags.{tagChannel}
 use Rattle.playout.specs.Sizes.{slots}
 use Rattle.playout.specs.Pairs.{half, ahead, after, order, sideOf}
 use Rattle.playout.specs.declared.order.Side.{Side}

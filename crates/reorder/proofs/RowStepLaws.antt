@@ -8,9 +8,9 @@ use lib.ListN.{length, getD, take, drop}
 use borrow.Author.Tests.{eq-eqb, ne-eqb}
 use Rattle.rtp.specs.Sizes.{rowWidth}
 use Rattle.rtp.specs.Ranges.{inRange}
-use Rattle.rtp.proofs.AreaLaws.{part-to-end, part-size}
+use Rattle.rtp.proofs.AreaLaws.{part-to-end}
 use Rattle.rtp.proofs.RangeLaws.{few-channels}
-use Rattle.payload.specs.Frames.{noData}
+use Rattle.formats.specs.Frames.{noData}
 use Rattle.payload.specs.Rows.{Row, rowOf, rowsIn}
 use Rattle.payload.proofs.RowLaws.{rows-more}
 use Rattle.playout.specs.declared.verdict.Verdict.{Verdict}
@@ -32,6 +32,7 @@ use Rattle.reorder.specs.Judging.{Judgeable, JudgedAs, countsOf, RowsAll
 use Rattle.reorder.proofs.StateLaws.{Good, judge-good}
 use Rattle.reorder.proofs.BufferLaws.{buffer-good, good-machine, good-fine, good-back}
 use Rattle.reorder.proofs.WellFormedLaws.{encode-decode}
+use Rattle.reorder.proofs.CopyLaws.{frame-size}
 
 pub rows-split : (ws : List ℕ) → rowWidth ≤ length ws → rowsIn ws ≡ firstRow ws ∷ rowsIn (restWords ws)
 rows-split ws l = rows-more ws l ∙ ap (λ (x : List ℕ). firstRow ws ∷ rowsIn x) (sym (part-to-end rowWidth ws))
@@ -89,7 +90,7 @@ module _ (b : Buffer) (packet : List ℕ) (t : Tally) (store : List ℕ) where
     module _ (p : RowsJudgeable b packet (r ∷ rs) t store) (z : r .class ≡ noData → ⊥) (frame : List ℕ) (cut : frame ≡ take (r .length) (drop (r .start) packet)) where
       frame-allowed : allowed (b .settings .format) (r .class) (length frame) ≡ true
       frame-allowed =
-          ap (allowed (b .settings .format) (r .class)) (ap length cut ∙ part-size packet (r .start) (r .length) (p .rows .0 z .2)) ∙ p .rows .0 z .0
+          ap (allowed (b .settings .format) (r .class)) (ap length cut ∙ frame-size packet (r .start) (r .length) (p .rows .0 z .2)) ∙ p .rows .0 z .0
 
       pub copy-asks : Judgeable b head frame store
       copy-asks = record { machine = p .machine; settings = p .settings; fine = p .fine; class = frame-allowed; channel = p .rows .0 z .1; room = p .room }

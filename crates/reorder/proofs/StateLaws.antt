@@ -1,24 +1,21 @@
 -- Laws of the state between calls: the facts of what a well-formed buffer holds, and that judging and drawing keep them.
-use mathlib.Core.Path.{_≡_, refl, ap, sym, _∙_, subst}
+use mathlib.Core.Path.{_≡_, refl, sym, _∙_, subst}
 use mathlib.Core.Logic.{_⊎_, inl, inr, ⊎-elim}
-use mathlib.Core.List.{List, [], _∷_, List·Memᴰ, List·Memᴰ·head as here, List·Memᴰ·tail as there, List·Memᴰ·not-nil as nowhere}
-use mathlib.Core.Bool.{Bool, true, false}
-use mathlib.Core.Option.{Option, none, some}
-use Prim.Native.Nat.{ℕ, _+_, _≤_, _<_, _^_}
+use mathlib.Core.List.{List, [], _∷_, List·Memᴰ, List·Memᴰ·head as here, List·Memᴰ·tail as there}
+use mathlib.Core.Bool.{true}
+use Prim.Native.Nat.{ℕ, _≤_, _<_, _^_}
 use native.Mathlib.Omega.{arith}
 use lib.ListN.{length}
-use Rattle.rtp.specs.Ranges.{inRange, maxChannels}
 use Rattle.rtp.specs.declared.settings.Settings.{Settings}
 use Rattle.rtp.proofs.TestLaws.{not-both}
-use Rattle.playout.specs.Sizes.{slots, slotSize, storeSize}
+use Rattle.playout.specs.Sizes.{slots, storeSize}
 use Rattle.playout.specs.Copies.{Copy}
-use Rattle.playout.specs.Entries.{Entry, Held, view, entryOf, sideOfEntry, put, findBy, always, placed, freeSlot}
-use Rattle.playout.specs.Verdicts.{Judged, judge, judgeAll}
+use Rattle.playout.specs.Entries.{Entry, Held, entryOf, sideOfEntry, always, placed, freeSlot}
+use Rattle.playout.specs.Verdicts.{judge, judgeAll}
 use Rattle.playout.proofs.InsertionLaws.{put-from}
 use Rattle.playout.proofs.JudgeLaws.{judge-cases, judge-last, judge-room}
-use Rattle.playout.proofs.HeldLaws.{IsFrame, Frames, IsEntry, HeldFacts, fresh, judge-facts, judge-length, drawnFirst, draw-facts}
+use Rattle.playout.proofs.HeldLaws.{IsFrame, HeldFacts, judge-facts, drawnFirst, draw-facts}
 use Rattle.reorder.specs.Model.{allowed}
-use Rattle.reorder.proofs.WordLaws.{SlotFacts}
 use Rattle.reorder.proofs.ModelLaws.{EntryFacts, Facts}
 use Rattle.reorder.proofs.AllowedLaws.{allowed-frame}
 

@@ -5,7 +5,7 @@ use mathlib.Core.Bool.{Bool, true, false, cond, _&&_}
 use mathlib.Core.Option.{Option, none, some}
 use lib.ListN.{getD}
 use lib.Dec.{ltb, eqb}
-use Rattle.payload.specs.Rows.{tagClass, tagChannel}
+use Rattle.formats.specs.Tags.{tagClass, tagChannel}
 use Rattle.playout.specs.Pairs.{half, ahead, order, isAfter}
 use Rattle.playout.specs.Entries.{Entry}
 use Rattle.reorder.specs.declared.buffer.Buffer.{Buffer}

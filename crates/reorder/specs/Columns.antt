@@ -3,9 +3,9 @@ use Prim.Native.Nat.{ℕ, zero, suc, _+_, _-_, _<_, Ordering·lt, Ordering·gt}
 use mathlib.Core.Path.{_≡_}
 use mathlib.Core.List.{List, [], _∷_, _++_}
 use mathlib.Core.Bool.{Bool, true, false, cond}
-use lib.ListN.{getD, take, drop, set}
+use lib.ListN.{getD, take, drop}
 use lib.Dec.{ltb, eqb}
-use Rattle.payload.specs.Rows.{tagChannel}
+use Rattle.formats.specs.Tags.{tagChannel}
 use Rattle.playout.specs.Pairs.{half, ahead, order, sideOf}
 use Rattle.playout.specs.declared.order.Side.{Side}
 use Rattle.reorder.specs.declared.columns.Place.{Place}

@@ -6,7 +6,7 @@ use mathlib.Core.Bool.{Bool, true, false, cond, not}
 use lib.ListN.{length, getD, take, drop, set}
 use lib.Seq.{paste}
 use lib.Dec.{eqb}
-use Rattle.payload.specs.Rows.{tagClass, tagChannel}
+use Rattle.formats.specs.Tags.{tagClass, tagChannel}
 use Rattle.playout.specs.declared.verdict.Verdict.{Verdict}
 use Rattle.playout.specs.declared.verdict.Verdict.the-variants.{Repeated, Better}
 use Rattle.playout.specs.Sizes.{slots, slotSize, storeSize}

@@ -1,11 +1,11 @@
 -- The reorder buffer (document 01: the take) as the code lays it out, and the model that it stands for. `encode` and `decode` alone know the layout.
 use Prim.Native.Nat.{ℕ, zero, suc}
 use mathlib.Core.List.{List, [], _∷_, map}
-use mathlib.Core.Bool.{Bool, true, false, cond, _&&_, _||_}
+use mathlib.Core.Bool.{Bool, cond, _&&_, _||_}
 use lib.ListN.{getD, drop, replicate}
 use lib.Dec.{eqb}
 use Rattle.rtp.specs.declared.settings.Settings.{Settings}
-use Rattle.payload.specs.Rows.{tagOf, tagClass, tagChannel}
+use Rattle.formats.specs.Tags.{tagOf, tagClass, tagChannel}
 use Rattle.playout.specs.Sizes.{slots}
 use Rattle.playout.specs.Entries.{Entry, Held}
 use Rattle.reorder.specs.declared.buffer.Buffer.{Buffer}

@@ -4,8 +4,8 @@ use mathlib.Core.List.{List, [], _∷_}
 use mathlib.Core.Bool.{Bool, true, false, cond, not, _&&_}
 use lib.Dec.{ltb, eqb}
 use Rattle.rtp.specs.declared.settings.Settings.{Settings}
-use Rattle.payload.specs.Frames.{noData}
-use Rattle.payload.specs.Codes.{noCode, codeFor}
+use Rattle.formats.specs.Frames.{noData}
+use Rattle.formats.specs.Codes.{noCode, codeFor}
 use Rattle.playout.specs.Sizes.{slots}
 use Rattle.playout.specs.Pairs.{order, isAfter}
 use Rattle.playout.specs.Entries.{Entry, Held, sideOfEntry, slotUsed}

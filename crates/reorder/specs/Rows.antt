@@ -4,7 +4,7 @@ use mathlib.Core.List.{List, [], _∷_}
 use mathlib.Core.Bool.{Bool, true, false, cond}
 use lib.ListN.{length, getD, take, drop}
 use lib.Dec.{eqb}
-use Rattle.payload.specs.Frames.{noData}
+use Rattle.formats.specs.Frames.{noData}
 use Rattle.rtp.specs.Sizes.{rowWidth}
 use Rattle.payload.specs.Rows.{Row, rowOf}
 use Rattle.packet.specs.Readings.{Outcome, refused, readAs}

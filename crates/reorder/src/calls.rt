@@ -10,9 +10,9 @@ use crate::judging;
 use crate::laying;
 use crate::tally::Tally;
 use crate::well_formed;
+use formats::tagging;
 use packet::reading;
 use packet::reading::Reading;
-use payload::rows;
 use rtp::refusal::Refusal;
 use rtp::settings;
 use rtp::settings::Settings;
@@ -209,8 +209,8 @@ fn draw_first(mut buffer: Buffer, n: usize, store: &[u8], area: &mut [u8]) -> Dr
         ≡ drawDone buffer (now (area .entry)) (done (earliest (now (store .entry)) (decode buffer .entries))) ⌝ }
 {
     let time = buffer.times[0];
-    let channel = rows::tag_channel(buffer.tags[0]);
-    let class = rows::tag_class(buffer.tags[0]);
+    let channel = tagging::tag_channel(buffer.tags[0]);
+    let class = tagging::tag_class(buffer.tags[0]);
     let length = buffer.lengths[0];
     let slot = buffer.slots[0] as usize;
     let occupied = buffer.occupied;

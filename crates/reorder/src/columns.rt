@@ -1,6 +1,6 @@
 // Columns of a buffer.
 use crate::buffer::SLOTS;
-use payload::rows;
+use formats::tagging;
 use playout::order;
 use playout::order::Side;
 ghost use mathlib.Core.Path.{_≡_};
@@ -63,7 +63,7 @@ pub(crate) fn find_place(
             break Place::InsertAt(i);
         }
         let last = i - 1;
-        let c = rows::tag_channel(tags[last]);
+        let c = tagging::tag_channel(tags[last]);
         match order::side_of(time, channel, times[last], c) {
             Side::Before => {
                 i = last;

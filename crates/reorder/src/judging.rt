@@ -9,7 +9,7 @@ use crate::laying::FrameHead;
 use crate::tally;
 use crate::tally::Tally;
 use crate::well_formed;
-use payload::rows as row;
+use formats::tagging;
 use playout::verdict::Verdict;
 use rtp::sizes::ROW_WIDTH;
 ghost use mathlib.Core.Path.{_≡_};
@@ -51,7 +51,7 @@ fn is_late(fixed: Fixed, head: FrameHead) -> bool
     ensures { λ r. ⌜ r ≡ isLateOf fixed head ⌝ }
 {
     if fixed.drawn == 1 {
-        let channel = row::tag_channel(head.tag);
+        let channel = tagging::tag_channel(head.tag);
         return !well_formed::pair_after(head.time, channel, fixed.last_time, fixed.last_channel);
     }
     false
@@ -88,7 +88,7 @@ fn lay_copy(
         (assembled (now (times .exit)) (now (tags .exit)) (now (lengths .exit)) (now (slots .exit)) (r .occupied) fixed)
         (copyIn head (now (frame .entry))) (now (store .entry)) (now (store .exit)) (r .verdict) ⌝ }
 {
-    let channel = row::tag_channel(head.tag);
+    let channel = tagging::tag_channel(head.tag);
     match columns::find_place(times, tags, n, head.time, channel) {
         Place::FoundAt(at) => Step {
             verdict: laying::replace_copy(tags, lengths, slots, at, head, frame, store),
@@ -186,7 +186,7 @@ fn judge_row(
         (sum .tally) (r .tally) (now (store .entry)) (now (store .exit)) ⌝ }
 {
     let tag = rows[1];
-    if row::tag_class(tag) == 0 {
+    if tagging::tag_class(tag) == 0 {
         return sum;
     }
     let start = rows[2] as usize;

@@ -3,7 +3,7 @@ use crate::bits;
 use crate::buffer::SLOT_SIZE;
 use crate::buffer::SLOTS;
 use crate::columns;
-use payload::rows;
+use formats::tagging;
 use playout::compare;
 use playout::verdict::Verdict;
 ghost use mathlib.Core.Path.{_≡_};
@@ -47,8 +47,13 @@ pub(crate) fn replace_copy(
 {
     let start = SLOT_SIZE * (slots[at] as usize);
     let end = start + (lengths[at] as usize);
-    let class = rows::tag_class(tags[at]);
-    if compare::is_better(rows::tag_class(head.tag), frame, class, &store[start..end]) {
+    let class = tagging::tag_class(tags[at]);
+    if compare::is_better(
+        tagging::tag_class(head.tag),
+        frame,
+        class,
+        &store[start..end],
+    ) {
         tags[at] = head.tag;
         lengths[at] = frame.len() as u32;
         copy_into(store, start, frame);

@@ -3,9 +3,8 @@ use crate::bits;
 use crate::buffer::Fixed;
 use crate::buffer::SLOTS;
 use crate::columns;
-use payload::codes;
-use payload::codes::NO_CODE;
-use payload::rows;
+use formats::codes;
+use formats::tagging;
 use playout::order;
 use playout::order::Side;
 ghost use mathlib.Core.Path.{_≡_};
@@ -39,7 +38,7 @@ fn is_allowed(format: u8, class: u32, length: u32) -> bool
     if class == 0 {
         return false;
     }
-    codes::code_for(format, class, length) < NO_CODE
+    codes::has_code(format, class, length)
 }
 
 // Whether the flag is one, and the last pair is kept as zeros or is in range.
@@ -62,10 +61,10 @@ fn last_kept(fixed: Fixed) -> bool
 fn class_fine(fixed: Fixed, tag: u32, length: u32) -> bool
     ensures { λ r. ⌜ r ≡ classFine fixed tag length ⌝ }
 {
-    if !is_allowed(fixed.settings.format, rows::tag_class(tag), length) {
+    if !is_allowed(fixed.settings.format, tagging::tag_class(tag), length) {
         return false;
     }
-    rows::tag_channel(tag) < (fixed.settings.channels as u32)
+    tagging::tag_channel(tag) < (fixed.settings.channels as u32)
 }
 
 // The time from which positions are counted: of the last pair drawn, or of the first entry.
@@ -118,7 +117,7 @@ fn entries_pass(
         if !class_fine(fixed, tags[i], lengths[i]) {
             return false;
         }
-        let at = position(base, times[i], rows::tag_channel(tags[i]));
+        let at = position(base, times[i], tagging::tag_channel(tags[i]));
         if at < least {
             return false;
         }

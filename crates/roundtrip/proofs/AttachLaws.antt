@@ -8,10 +8,10 @@ use lib.ListN.{length, getD}
 use lib.Dec.{eqb}
 use borrow.Author.Tests.{le-leb, eq-eqb, eqb-true}
 use Rattle.rtp.proofs.TestLaws.{by-test, not-both}
-use Rattle.payload.specs.Formats.{formatOf, maxGap}
+use Rattle.formats.specs.Formats.{formatOf, maxGap}
 use Rattle.payload.specs.Contents.{Group, groups}
 use Rattle.payload.specs.Rows.{Row}
-use Rattle.payload.specs.Codes.{noCode, codeFor}
+use Rattle.formats.specs.Codes.{noCode, codeFor}
 use Rattle.encoder.specs.Plans.{headGap, single, joins, attach}
 use Rattle.encoder.proofs.PlanLaws.{Joins, joins-true}
 use Rattle.roundtrip.proofs.EntryBackLaws.{Run}

@@ -10,7 +10,7 @@ use Rattle.rtp.specs.Sizes.{maxRows}
 use Rattle.rtp.proofs.RedundancyLaws.{bytes-drop}
 use Rattle.payload.specs.Contents.{Group, rowCount}
 use Rattle.payload.specs.Rows.{Row}
-use Rattle.payload.specs.Formats.{formatOf}
+use Rattle.formats.specs.Formats.{formatOf}
 use Rattle.encoder.specs.Plans.{headGap}
 use Rattle.encoder.specs.Bytes.{halves, firstByte, startBytes, gapBytes, entryBytes, tableBytes, frameIn, frames}
 use Rattle.roundtrip.specs.Claims.{Bytes}

@@ -10,16 +10,16 @@ use lib.Dec.{leb}
 use borrow.Author.Tests.{le-ltb, le-leb, lt-leb, ne-eqb}
 use Rattle.rtp.specs.Numbers.{byteAt}
 use Rattle.rtp.proofs.TestLaws.{by-test}
-use Rattle.payload.specs.Formats.{formatOf, maxGap}
+use Rattle.formats.specs.Formats.{formatOf, maxGap}
 use Rattle.payload.specs.declared.contents.Entry.{Entry}
 use Rattle.payload.specs.declared.contents.EntryRead.{EntryRead}
 use Rattle.payload.specs.Contents.{minEntry, codeIn, blocksIn, entrySize, entryOf, Group, halfAt, gapAt, gapsFrom, meaning}
-use Rattle.payload.specs.Codes.{noCode, codeFor}
+use Rattle.formats.specs.Codes.{noCode, codeFor}
 use Rattle.encoder.specs.Plans.{headGap}
 use Rattle.encoder.specs.Bytes.{halves, flag, firstByte, gapBytes, entryBytes}
 use Rattle.encoder.proofs.EntryLaws.{length-entry}
-use Rattle.payload.proofs.CodeLaws.{code-back, code-below}
-use Rattle.payload.proofs.FormatLaws.{code-placed, gap-small}
+use Rattle.formats.proofs.CodeLaws.{code-back, code-below}
+use Rattle.formats.proofs.FormatLaws.{code-placed, gap-small}
 use Rattle.payload.proofs.EntryLaws.{size-min}
 
 -- a run of frame-blocks that an entry can say, but for the gap before it

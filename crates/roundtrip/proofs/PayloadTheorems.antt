@@ -12,7 +12,7 @@ use Rattle.rtp.specs.Ranges.{inRange}
 use Rattle.rtp.specs.declared.settings.Settings.{Settings}
 use Rattle.rtp.specs.declared.refusal.Refusal.the-variants.{Unwritable}
 use Rattle.rtp.proofs.TestLaws.{by-test}
-use Rattle.payload.specs.Formats.{stepOf}
+use Rattle.formats.specs.Formats.{stepOf}
 use Rattle.payload.specs.Contents.{Group, Contents, refused, groups, contents, rowCount, sizeIn, framesIn, sizesAnswer}
 use Rattle.payload.specs.Rows.{Row, tableRows}
 use Rattle.payload.specs.Payloads.{exact, payload, rowsOf, placedRows, payloadRows}

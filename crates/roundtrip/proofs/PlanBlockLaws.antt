@@ -9,11 +9,11 @@ use lib.ListN.{length, getD}
 use lib.Dec.{eqb}
 use borrow.Author.Tests.{lt-ltb, eq-eqb, ne-eqb}
 use Rattle.rtp.specs.declared.refusal.Refusal.the-variants.{Unwritable}
-use Rattle.payload.specs.Formats.{stepOf}
+use Rattle.formats.specs.Formats.{stepOf}
 use Rattle.payload.specs.Contents.{Group, Contents, refused, groups}
 use Rattle.payload.specs.Rows.{Row, placed, blockRows}
-use Rattle.payload.specs.Codes.{noCode, codeFor}
-use Rattle.payload.proofs.FormatLaws.{gap-small}
+use Rattle.formats.specs.Codes.{noCode, codeFor}
+use Rattle.formats.proofs.FormatLaws.{gap-small}
 use Rattle.encoder.specs.Plans.{gapBetween, nextChannel, starts, follows, attach, planFrom}
 use Rattle.roundtrip.proofs.TableBackLaws.{Runs}
 use Rattle.roundtrip.proofs.TableBlockLaws.{Block, blocksOf, blocksIn, blocksRows}

@@ -8,10 +8,10 @@ use lib.Dec.{ltb, eqb}
 use borrow.Author.Tests.{eq-eqb, ne-eqb, ltb-true, eqb-true}
 use Rattle.rtp.proofs.TestLaws.{both}
 use Rattle.rtp.specs.declared.refusal.Refusal.the-variants.{Unwritable}
-use Rattle.payload.specs.Formats.{stepOf}
+use Rattle.formats.specs.Formats.{stepOf}
 use Rattle.payload.specs.Contents.{Group, Contents, refused, groups}
 use Rattle.payload.specs.Rows.{Row, placed, nextPlace, blockRows}
-use Rattle.payload.specs.Codes.{noCode, codeFor}
+use Rattle.formats.specs.Codes.{noCode, codeFor}
 use Rattle.encoder.specs.Plans.{ticksAfter, gapBetween, continues, follows, attach, planFrom}
 use Rattle.roundtrip.proofs.TableBlockLaws.{Block, blocksIn, blocksRows}
 use Rattle.roundtrip.proofs.FrameLaws.{plain, plains, plains-append, Alike}

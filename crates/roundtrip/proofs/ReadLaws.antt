@@ -10,17 +10,17 @@ use Rattle.rtp.specs.Sizes.{maxRows}
 use Rattle.rtp.specs.Numbers.{byteAt}
 use Rattle.rtp.proofs.TestLaws.{by-test}
 use Rattle.rtp.proofs.RedundancyLaws.{Bytes, bytes-drop}
-use Rattle.payload.specs.Formats.{formatOf, maxGap}
-use Rattle.payload.specs.declared.frames.Coded.{Coded}
+use Rattle.formats.specs.Formats.{formatOf, maxGap}
+use Rattle.formats.specs.declared.frames.Coded.{Coded}
 use Rattle.payload.specs.declared.contents.Entry.{Entry}
 use Rattle.payload.specs.declared.contents.EntryRead.{EntryRead}
-use Rattle.payload.specs.Frames.{frameOf}
+use Rattle.formats.specs.Frames.{frameOf}
 use Rattle.payload.specs.Contents.{minEntry, codeIn, blocksIn, entrySize, codedEntry, entryOf, Group, Contents, refused, groups, halfAt, gapAt, gapsFrom, meaning, prepend, contentsStep, contents}
 use Rattle.payload.proofs.EntryLaws.{past, same-entry, code-in, fair}
 use Rattle.payload.proofs.ContentsLaws.{contents-step, shorter, blocks-of}
-use Rattle.payload.specs.Codes.{noCode, codeFor}
+use Rattle.formats.specs.Codes.{noCode, codeFor}
 use Rattle.encoder.specs.Plans.{headGap}
-use Rattle.payload.proofs.CodeLaws.{code-some}
+use Rattle.formats.proofs.CodeLaws.{code-some}
 use Rattle.roundtrip.proofs.EntryBackLaws.{Run}
 use Rattle.roundtrip.proofs.TableBackLaws.{Runs}
 use Rattle.roundtrip.proofs.AttachLaws.{same-groups}

@@ -7,7 +7,7 @@ use native.Mathlib.Omega.{arith}
 use lib.ListN.{length, getD, length-append}
 use borrow.Author.Tests.{eq-eqb}
 use Rattle.rtp.proofs.TestLaws.{by-test, not-both}
-use Rattle.payload.specs.Formats.{formatOf, maxGap}
+use Rattle.formats.specs.Formats.{formatOf, maxGap}
 use Rattle.payload.specs.Contents.{gapsSize, entrySize, Group, Contents, groups, sizeIn}
 use Rattle.payload.specs.Rows.{Row}
 use Rattle.encoder.specs.Plans.{headGap, joins, attach}

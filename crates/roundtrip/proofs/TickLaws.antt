@@ -4,9 +4,9 @@ use Prim.Native.Nat.{ℕ, _+_, _-_, _*_, _/_, _%_, _^_, _≤_, _<_}
 use native.Mathlib.Omega.{arith}
 use native.Mathlib.Nat.{mod-add-mod, add-mod-mod, add-mod-right, mul-mod-left, div-add-mod', mul-le-mul, mul-div-cancel, zero-div}
 use Rattle.rtp.specs.Time.{difference}
-use Rattle.payload.specs.Formats.{stepOf}
+use Rattle.formats.specs.Formats.{stepOf}
 use Rattle.payload.specs.Rows.{placed}
-use Rattle.payload.proofs.FormatLaws.{maxStep, step-fine}
+use Rattle.formats.proofs.FormatLaws.{maxStep, step-fine}
 use Rattle.encoder.specs.Plans.{ticksAfter, gapBetween}
 
 -- the place after a time

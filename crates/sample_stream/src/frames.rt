@@ -48,7 +48,7 @@ fn length_of(packet: u8) -> u32 {
 fn row_word(k: u8, row: u8, part: usize) -> u32 {
     match part {
         0 => time_of(number_of(k, row)),
-        1 => payload::rows::pack_tag(1, 0),
+        1 => formats::tagging::pack_tag(1, 0),
         2 => LONG * (row as u32),
         _ => length_of(packet_of(k, row)),
     }

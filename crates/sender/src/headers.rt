@@ -66,7 +66,8 @@ pub(crate) fn put_header(
     time: u32,
 )
     requires { ⌜ (minPacket ≤ length (now out)) × («packet_type» < 128) ⌝ }
-    ensures { λ _. ⌜ now (out .exit) ≡ over (headerBytes (record { marker = marker; sequence = sequence; source = source }) «packet_type» time) (now (out .entry)) ⌝ }
+    ensures { λ _. ⌜ now (out .exit) ≡
+        over (headerBytes (record { marker = marker; sequence = sequence; source = source }) «packet_type» time) (now (out .entry)) ⌝ }
 {
     out[0] = 128;
     out[1] = second_byte(marker, packet_type);

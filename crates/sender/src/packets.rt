@@ -34,7 +34,8 @@ fn within_packet(size: usize) -> Written
 // The bytes of a packet of the lists.
 fn packet_size(asked: Settings, time: u32, counts: &[u32], rows: &[u32]) -> Written
     requires { ⌜ (length (now counts) ≤ maxRedundant + 1) × Counted (now counts) (now rows) ⌝ }
-    ensures { λ r. ⌜ writtenNumbers r ≡ packetNumbers asked (length (now (counts .entry))) (listsNumbers asked time (now (counts .entry)) (now (rows .entry))) ⌝ }
+    ensures { λ r. ⌜ writtenNumbers r ≡
+        packetNumbers asked (length (now (counts .entry))) (listsNumbers asked time (now (counts .entry)) (now (rows .entry))) ⌝ }
 {
     match sizes::measure_lists(asked, time, counts, rows) {
         Written::Refused(_) => Written::Refused(Refusal::Unwritable),
@@ -53,7 +54,9 @@ fn packet_size(asked: Settings, time: u32, counts: &[u32], rows: &[u32]) -> Writ
 // The block header of a redundant list.
 fn put_list_header(asked: Settings, time: u32, rows: &[u32], out: &mut [u8])
     requires { ⌜ HeaderFits asked time (now rows) × (4 ≤ length (now out)) ⌝ }
-    ensures { λ _. ⌜ now (out .exit) ≡ over (blockHeaderBytes (asked .«payload_type») (offsetOf time (now (rows .entry))) (measured asked (now (rows .entry)) .count)) (now (out .entry)) ⌝ }
+    ensures { λ _. ⌜ now (out .exit) ≡
+        over (blockHeaderBytes (asked .«payload_type») (offsetOf time (now (rows .entry))) (measured asked (now (rows .entry)) .count))
+        (now (out .entry)) ⌝ }
 {
     let offset = sizes::offset_of(time, rows);
     let size = sizes::list_size(asked, rows);
@@ -110,7 +113,9 @@ fn put_blocks(
     out: &mut [u8],
 )
     requires { ⌜ BlocksRoom asked time (now bytes) (now counts) (now rows) (length (now out)) ⌝ }
-    ensures { λ _. ⌜ now (out .exit) ≡ over (listsHeaders asked time (now (counts .entry)) (now (rows .entry)) ++ listsPayloads asked (now (bytes .entry)) (now (counts .entry)) (now (rows .entry))) (now (out .entry)) ⌝ }
+    ensures { λ _. ⌜ now (out .exit) ≡
+        over (listsHeaders asked time (now (counts .entry)) (now (rows .entry)) ++ listsPayloads asked (now (bytes .entry)) (now (counts .entry))
+        (now (rows .entry))) (now (out .entry)) ⌝ }
 {
     put_headers(asked, time, counts, rows, out);
     let size = 1 + 4 * (counts.len() - 1);
@@ -129,8 +134,11 @@ fn put_packet(
     bytes: &[u8],
     out: &mut [u8],
 )
-    requires { ⌜ PacketRoom asked (record { marker = marker; sequence = sequence; source = source }) time (now bytes) (now counts) (now rows) (length (now out)) ⌝ }
-    ensures { λ _. ⌜ now (out .exit) ≡ over (encodedBytes (assembledFrom asked (record { marker = marker; sequence = sequence; source = source }) time (parts asked (now (bytes .entry)) time (now (counts .entry)) (rowsIn (now (rows .entry)))))) (now (out .entry)) ⌝ }
+    requires { ⌜ PacketRoom asked (record { marker = marker; sequence = sequence; source = source }) time (now bytes) (now counts) (now rows)
+        (length (now out)) ⌝ }
+    ensures { λ _. ⌜ now (out .exit) ≡
+        over (encodedBytes (assembledFrom asked (record { marker = marker; sequence = sequence; source = source }) time
+        (parts asked (now (bytes .entry)) time (now (counts .entry)) (rowsIn (now (rows .entry)))))) (now (out .entry)) ⌝ }
 {
     if counts.len() < 2 {
         headers::put_header(out, marker, sequence, source, asked.payload_type, time);
@@ -152,8 +160,12 @@ pub fn write_packet(
     bytes: &[u8],
     out: &mut [u8],
 ) -> Written
-    ensures { λ r. ⌜ (writtenNumbers r ≡ encodedNumbers (sending asked (record { marker = marker; sequence = sequence; source = source }) (now (counts .entry)) (now (rows .entry)) (now (bytes .entry)) (length (now (out .entry)))))
-        × (now (out .exit) ≡ over (encodedBytes (sending asked (record { marker = marker; sequence = sequence; source = source }) (now (counts .entry)) (now (rows .entry)) (now (bytes .entry)) (length (now (out .entry))))) (now (out .entry))) ⌝ }
+    ensures { λ r. ⌜ (writtenNumbers r ≡
+        encodedNumbers (sending asked (record { marker = marker; sequence = sequence; source = source }) (now (counts .entry)) (now (rows .entry))
+        (now (bytes .entry)) (length (now (out .entry)))))
+        × (now (out .exit) ≡ over
+        (encodedBytes (sending asked (record { marker = marker; sequence = sequence; source = source }) (now (counts .entry)) (now (rows .entry))
+        (now (bytes .entry)) (length (now (out .entry))))) (now (out .entry))) ⌝ }
 {
     if settings::in_range(asked) {
         if lists::any_outside(rows, bytes.len()) {

@@ -1,9 +1,9 @@
 // Lists of frames written and printed.
 use encoder::writing;
 use encoder::writing::Written;
+use formats::tagging;
 use packet::reading;
 use packet::reading::Reading;
-use payload::rows;
 use rtp::refusal;
 use rtp::settings::Settings;
 use rtp::sizes::MAX_PACKET;
@@ -109,8 +109,8 @@ fn print_row(rows: &[u32], i: usize, packet: &[u8]) {
         if 4 * i + 3 < rows.len() {
             let tag = rows[4 * i + 1];
             print(b"row ", rows[4 * i]);
-            print(b" ", rows::tag_class(tag));
-            print(b" ", rows::tag_channel(tag));
+            print(b" ", tagging::tag_class(tag));
+            print(b" ", tagging::tag_channel(tag));
             print(b" ", rows[4 * i + 2]);
             print(b" ", rows[4 * i + 3]);
             print_first(rows[4 * i + 2], packet);

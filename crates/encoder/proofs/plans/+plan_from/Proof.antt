@@ -1,4 +1,4 @@
-use Rattle.payload.specs.Formats.{stepOf}
+use Rattle.formats.specs.Formats.{stepOf}
 use Rattle.encoder.specs.Plans.{gapBetween}
 use Rattle.encoder.specs.Room.{attachPlan}
 use Rattle.encoder.specs.declared.lists.RowWords.{RowWords}

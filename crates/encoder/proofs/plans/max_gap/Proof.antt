@@ -1,4 +1,4 @@
-use Rattle.payload.specs.Formats.{maxGap}
+use Rattle.formats.specs.Formats.{maxGap}
 use borrow.Author.Needs.{needs}
 use Rattle.encoder.proofs.plans.max_gap.Statement.{statement}
 use Rattle.encoder.proofs.plans.max_gap.Tie as tie

@@ -1,4 +1,3 @@
-use borrow.Author.Tests.{lt-ltb, le-ltb}
 use borrow.Author.Needs.{needs}
 use Rattle.encoder.proofs.plans.starts_block.Statement.{statement}
 use Rattle.encoder.proofs.plans.starts_block.Tie as tie
@@ -6,8 +5,8 @@ use Rattle.encoder.proofs.plans.starts_block.Tie as tie
 tag-class-requires : tie.Need-tag-class-requires
 tag-class-requires c κs = search needs
 
-code-for-requires : tie.Need-code-for-requires
-code-for-requires c κs = search needs
+has-code-requires : tie.Need-has-code-requires
+has-code-requires c κs = search needs
 
 ticks-after-requires : tie.Need-ticks-after-requires
 ticks-after-requires c κs = search needs
@@ -16,17 +15,17 @@ whole-steps-requires : tie.Need-whole-steps-requires
 whole-steps-requires c κs = search needs
 
 returns : tie.Need-returns
-returns c = simp (← (c .before .before .before .before .tag-class .ensures), ← (c .before .before .before .code-for .ensures), lt-ltb _ _ (c .before .before .if1 .taken), ← (c .before .ticks-after .ensures), ← (c .whole-steps .ensures))
+returns c = simp (← (c .before .before .before .before .tag-class .ensures), ← (c .before .before .before .has-code .ensures), c .before .before .if1 .taken, ← (c .before .ticks-after .ensures), ← (c .whole-steps .ensures))
 
 returns-2 : tie.Need-returns-2
-returns-2 c = simp (← (c .before .before .tag-class .ensures), ← (c .before .code-for .ensures), le-ltb _ _ (c .if1 .left))
+returns-2 c = simp (← (c .before .before .tag-class .ensures), ← (c .before .has-code .ensures), c .if1 .left)
 
 pub starts-block-spec : {M : Type 1} → statement M
 starts-block-spec =
     tie.close
     (tie.spec
     tag-class-requires
-    code-for-requires
+    has-code-requires
     ticks-after-requires
     whole-steps-requires
     returns

@@ -1,5 +1,5 @@
 use native.Mathlib.Omega.{arith}
-use Rattle.payload.proofs.FormatLaws.{step-fine}
+use Rattle.formats.proofs.FormatLaws.{step-fine}
 use borrow.Author.Needs.{needs}
 use Rattle.encoder.proofs.plans.whole_steps.Statement.{statement}
 use Rattle.encoder.proofs.plans.whole_steps.Tie as tie

@@ -7,8 +7,8 @@ use lib.ListN.{length, getD, drop, length-drop}
 use denote.Ref.{now}
 use Rattle.rtp.specs.Sizes.{rowWidth}
 use Rattle.rtp.proofs.AreaLaws.{part-to-end}
-use Rattle.payload.specs.Formats.{stepOf}
-use Rattle.payload.specs.Rows.{tagClass}
+use Rattle.formats.specs.Formats.{stepOf}
+use Rattle.formats.specs.Tags.{tagClass}
 use Rattle.encoder.specs.declared.lists.RowWords.{RowWords}
 use Rattle.encoder.specs.Lists.{rowsIn}
 use Rattle.encoder.specs.Plans.{joinsRun, gapBetween, planFrom}
@@ -23,7 +23,7 @@ use Rattle.encoder.proofs.tables.joined_blocks.Kinds as joined-blocks-k
 use Rattle.encoder.proofs.tables.+joined_blocks.Lts-joined_blocks as joined-blocks-lts
 use Rattle.encoder.proofs.lists.row_at.Reads as row-at-reads
 use Rattle.encoder.proofs.plans.gap_between.Reads as gap-between-reads
-use Rattle.payload.proofs.rows.tag_class.Reads as tag-class-reads
+use Rattle.formats.proofs.tagging.tag_class.Reads as tag-class-reads
 use Rattle.encoder.proofs.plans.joins_run.Reads as joins-run-reads
 use Rattle.encoder.proofs.tables.+joined_blocks.{statement}
 use Rattle.encoder.proofs.tables.+joined_blocks.Tie.{close}

@@ -5,7 +5,7 @@ use lib.ListN.{length, getD, take, drop, set, length-set}
 use denote.Ref.{now}
 use Rattle.rtp.specs.Areas.{over}
 use Rattle.rtp.proofs.AreaLaws.{part-length, part-to-end}
-use Rattle.payload.specs.Formats.{stepOf}
+use Rattle.formats.specs.Formats.{stepOf}
 use Rattle.encoder.specs.Plans.{gapBetween}
 use Rattle.encoder.specs.Bytes.{halves}
 use Rattle.encoder.specs.Room.{blockGaps, GapRoom}

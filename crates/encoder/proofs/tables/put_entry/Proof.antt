@@ -5,8 +5,8 @@ use lib.ListN.{length}
 use denote.Ref.{now}
 use Rattle.rtp.specs.Areas.{over}
 use Rattle.rtp.proofs.AreaLaws.{part-length}
-use Rattle.payload.specs.declared.formats.Format.{Format}
-use Rattle.payload.specs.Rows.{tagClass}
+use Rattle.formats.specs.declared.facts.Format.{Format}
+use Rattle.formats.specs.Tags.{tagClass}
 use Rattle.encoder.specs.declared.lists.RowWords.{RowWords}
 use Rattle.encoder.specs.Bytes.{startBytes}
 use Rattle.encoder.specs.Room.{rowAs, wordsAt, GapRoom, StartRoom}

@@ -3,7 +3,7 @@ use Prim.Native.Nat.{_≤_}
 use native.Mathlib.Omega.{arith}
 use lib.ListN.{length, length-set}
 use denote.Ref.{now}
-use Rattle.payload.specs.declared.formats.Format.{Format}
+use Rattle.formats.specs.declared.facts.Format.{Format}
 use Rattle.payload.proofs.EntryLaws.{min-some, min-counted}
 use Rattle.encoder.proofs.EntryLaws.{put-single, put-counted}
 use borrow.Author.Needs.{needs}

@@ -6,7 +6,7 @@ use denote.Ref.{now}
 use Rattle.rtp.specs.Time.{difference}
 use Rattle.rtp.specs.Areas.{over}
 use Rattle.rtp.proofs.AreaLaws.{part-length}
-use Rattle.payload.specs.Formats.{stepOf}
+use Rattle.formats.specs.Formats.{stepOf}
 use Rattle.encoder.specs.Lists.{rowsIn}
 use Rattle.encoder.specs.Plans.{planFrom}
 use Rattle.encoder.specs.Room.{timed, TableRoom, planBytes}

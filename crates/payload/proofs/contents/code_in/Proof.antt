@@ -1,6 +1,6 @@
 use native.Mathlib.Nat.{mod-lt}
 use mathlib.Core.Path.{refl}
-use Rattle.payload.proofs.FormatLaws.{code-placed}
+use Rattle.formats.proofs.FormatLaws.{code-placed}
 use borrow.Author.Needs.{needs}
 use Rattle.payload.proofs.contents.code_in.Statement.{statement}
 use Rattle.payload.proofs.contents.code_in.Tie as tie

@@ -3,7 +3,7 @@ use Prim.Native.Nat.{_+_, _/_}
 use lib.Seq.{getD-drop}
 use native.Mathlib.Omega.{arith}
 use borrow.Author.Tests.{eq-eqb, ne-eqb}
-use Rattle.payload.specs.declared.formats.Format.{Format}
+use Rattle.formats.specs.declared.facts.Format.{Format}
 use Rattle.payload.specs.Contents.{gapAt}
 use Rattle.payload.proofs.EntryLaws.{min-few, gap-within}
 use borrow.Author.Needs.{needs}

@@ -4,7 +4,7 @@ use mathlib.Core.Path.{_≡_, sym, _∙_, ap}
 use native.Mathlib.Omega.{arith}
 use Rattle.rtp.specs.Sizes.{rowWidth}
 use Rattle.rtp.proofs.AreaLaws.{part-length}
-use Rattle.payload.specs.Frames.{stepOf}
+use Rattle.formats.specs.Frames.{stepOf}
 use Rattle.payload.specs.Contents.{gapAt}
 use Rattle.payload.specs.Rows.{placed}
 use Rattle.payload.proofs.GroupLaws.{group-area, group-frames, group-block, group-entry, group-next, time-none, group-none, time-more, group-put}
@@ -16,8 +16,8 @@ use Rattle.payload.proofs.rows.put_group.Reads as put-group
 use Rattle.payload.proofs.rows.put_group.Kinds as put-group-kinds
 use Rattle.payload.proofs.rows.+put_group.Lts-put_group as put-group-lts
 use Rattle.payload.proofs.contents.gap.Reads as gap-reads
-use Rattle.payload.proofs.frames.step_of.Reads as step-of-reads
-use Rattle.payload.proofs.frames.ticks.Reads as ticks-reads
+use Rattle.formats.proofs.frames.step_of.Reads as step-of-reads
+use Rattle.payload.proofs.rows.ticks.Reads as ticks-reads
 use Rattle.payload.proofs.rows.put_block.Reads as put-block-reads
 use Rattle.std.proofs.num.wrapping_add_u32.Reads as wrapping-add-u32-reads
 use Rattle.payload.proofs.rows.+put_group.{statement}

@@ -12,8 +12,8 @@ use Rattle.reorder.proofs.calls.draw_first.Statement.{statement}
 use Rattle.reorder.proofs.calls.draw_first.Tie as tie
 use Rattle.reorder.proofs.calls.draw_first.Reads as reads
 use Rattle.reorder.proofs.calls.draw_first.Lts as lts
-use Rattle.payload.proofs.rows.tag_channel.Reads as tag-channel-reads
-use Rattle.payload.proofs.rows.tag_class.Reads as tag-class-reads
+use Rattle.formats.proofs.tagging.tag_channel.Reads as tag-channel-reads
+use Rattle.formats.proofs.tagging.tag_class.Reads as tag-class-reads
 use Rattle.reorder.proofs.bits.unmark.Reads as unmark-reads
 use Rattle.reorder.proofs.columns.remove_first.Reads as remove-first-reads
 use Rattle.reorder.proofs.laying.copy_into.Reads as copy-into-reads

@@ -11,7 +11,7 @@ use Rattle.reorder.proofs.columns.find_place.Statement.{statement}
 use Rattle.reorder.proofs.columns.find_place.Tie as tie
 use Rattle.reorder.proofs.columns.find_place.Reads as reads
 use Rattle.reorder.proofs.columns.find_place.Lts as lts
-use Rattle.payload.proofs.rows.tag_channel.Reads as tag-channel-reads
+use Rattle.formats.proofs.tagging.tag_channel.Reads as tag-channel-reads
 use Rattle.playout.proofs.order.side_of.Reads as side-of-reads
 
 abbrev Inv-loop : tie.InvT-loop

@@ -6,7 +6,7 @@ use Rattle.reorder.proofs.judging.is_late.Statement.{statement}
 use Rattle.reorder.proofs.judging.is_late.Tie as tie
 use Rattle.reorder.proofs.judging.is_late.Reads as reads
 use Rattle.reorder.proofs.judging.is_late.Lts as lts
-use Rattle.payload.proofs.rows.tag_channel.Reads as tag-channel-reads
+use Rattle.formats.proofs.tagging.tag_channel.Reads as tag-channel-reads
 use Rattle.reorder.proofs.well_formed.pair_after.Reads as pair-after-reads
 
 tag-channel-requires : tie.Need-tag-channel-requires

@@ -1,12 +1,12 @@
-use mathlib.Core.Path.{_≡_, sym, subst, _∙_}
+use mathlib.Core.Path.{_≡_, sym, ap, subst, _∙_}
 use mathlib.Core.List.{List, _∷_}
 use Prim.Native.Nat.{ℕ, _+_, _-_, _≤_}
 use native.Mathlib.Omega.{arith}
 use lib.ListN.{length, getD, take, drop}
 use denote.Ref.{now}
-use Rattle.rtp.proofs.AreaLaws.{part-cut}
-use Rattle.payload.specs.Frames.{noData}
-use Rattle.payload.specs.Rows.{Row, rowsIn, tagClass}
+use Rattle.formats.specs.Frames.{noData}
+use Rattle.formats.specs.Tags.{tagClass}
+use Rattle.payload.specs.Rows.{Row, rowsIn}
 use Rattle.reorder.specs.declared.buffer.Buffer.{Buffer}
 use Rattle.reorder.specs.declared.laying.FrameHead.{FrameHead}
 use Rattle.reorder.specs.Layout.{assembled}
@@ -18,7 +18,7 @@ use Rattle.reorder.proofs.judging.judge_row.Statement.{statement}
 use Rattle.reorder.proofs.judging.judge_row.Tie as tie
 use Rattle.reorder.proofs.judging.judge_row.Reads as reads
 use Rattle.reorder.proofs.judging.judge_row.Lts as lts
-use Rattle.payload.proofs.rows.tag_class.Reads as tag-class-reads
+use Rattle.formats.proofs.tagging.tag_class.Reads as tag-class-reads
 use Rattle.reorder.proofs.judging.judge_copy.Reads as judge-copy-reads
 use Rattle.reorder.proofs.tally.count_verdict.Reads as count-verdict-reads
 
@@ -45,7 +45,10 @@ abbrev frame-at : tie.Start → List ℕ
 frame-at s = take (getD (rows-at s) 2 0 + getD (rows-at s) 3 0 - getD (rows-at s) 2 0) (drop (getD (rows-at s) 2 0) (now (s .args .packet)))
 
 cut-at : (s : tie.Start) → frame-at s ≡ take (getD (rows-at s) 3 0) (drop (getD (rows-at s) 2 0) (now (s .args .packet)))
-cut-at s = part-cut (getD (rows-at s) 2 0) (getD (rows-at s) 3 0) (now (s .args .packet))
+cut-at s =
+    let n = getD (rows-at s) 2 0 in
+    let e : n + getD (rows-at s) 3 0 - n ≡ getD (rows-at s) 3 0 = omega arith in
+    ap (λ (m : ℕ). take m (drop n (now (s .args .packet)))) e
 
 shared-slice-read-tag : tie.Need-shared-slice-read-tag
 shared-slice-read-tag c = omega (arith, c .before .before .before .before .pre .0)

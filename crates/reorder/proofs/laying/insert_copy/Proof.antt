@@ -1,12 +1,11 @@
-use mathlib.Core.Path.{_≡_, sym, _∙_, ap, subst}
-use mathlib.Core.List.{List}
-use Prim.Native.Nat.{ℕ, _*_, _+_, _<_, _≤_}
+use mathlib.Core.Path.{_∙_, ap}
+use Prim.Native.Nat.{ℕ, _*_, _<_}
 use native.Mathlib.Omega.{arith}
 use lib.ListN.{length}
 use lib.Seq.{paste}
 use denote.Ref.{now}
 use Rattle.playout.specs.Sizes.{slots, slotSize}
-use Rattle.reorder.specs.Bits.{markOf, lowestFree, marked}
+use Rattle.reorder.specs.Bits.{marked}
 use Rattle.reorder.specs.Columns.{insertAt}
 use Rattle.reorder.proofs.FreeLaws.{free-when-room, free-unmarked}
 use borrow.Author.Needs.{needs}

@@ -1,7 +1,7 @@
 use mathlib.Core.List.{List}
 use Prim.Native.Nat.{ℕ, _+_, _-_, _*_}
 use lib.ListN.{getD, take, drop}
-use Rattle.payload.specs.Rows.{tagClass}
+use Rattle.formats.specs.Tags.{tagClass}
 use Rattle.playout.specs.Copies.{betterFrame}
 use Rattle.reorder.specs.declared.laying.FrameHead.{FrameHead}
 use mathlib.Core.Path.{_≡_, sym, _∙_, ap}
@@ -15,7 +15,7 @@ use Rattle.reorder.proofs.laying.replace_copy.Statement.{statement}
 use Rattle.reorder.proofs.laying.replace_copy.Tie as tie
 use Rattle.reorder.proofs.laying.replace_copy.Reads as reads
 use Rattle.reorder.proofs.laying.replace_copy.Lts as lts
-use Rattle.payload.proofs.rows.tag_class.Reads as tag-class-reads
+use Rattle.formats.proofs.tagging.tag_class.Reads as tag-class-reads
 use Rattle.playout.proofs.compare.is_better.Reads as is-better-reads
 use Rattle.reorder.proofs.laying.copy_into.Reads as copy-into-reads
 

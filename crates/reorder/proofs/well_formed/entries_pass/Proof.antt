@@ -1,7 +1,7 @@
 use Prim.Native.Nat.{ℕ, _+_, _-_, _^_, _≤_, _<_}
 use lib.Dec.{eqb}
 use lib.ListN.{getD}
-use Rattle.payload.specs.Rows.{tagChannel}
+use Rattle.formats.specs.Tags.{tagChannel}
 use mathlib.Core.Path.{_≡_, _∙_, sym, ap, ap₂, subst}
 use native.Mathlib.Nat.{sub-zero}
 use native.Mathlib.Numerals.{add-one}
@@ -14,7 +14,7 @@ use Rattle.reorder.proofs.well_formed.entries_pass.Statement.{statement
 use Rattle.reorder.proofs.well_formed.entries_pass.Tie as tie
 use Rattle.reorder.proofs.well_formed.entries_pass.Reads as reads
 use Rattle.reorder.proofs.well_formed.entries_pass.Lts as lts
-use Rattle.payload.proofs.rows.tag_channel.Reads as tag-channel-reads
+use Rattle.formats.proofs.tagging.tag_channel.Reads as tag-channel-reads
 use Rattle.reorder.proofs.bits.claim.Reads as claim-reads
 use Rattle.reorder.proofs.bits.same_words.Reads as same-words-reads
 use Rattle.reorder.proofs.well_formed.base_of.Reads as base-of-reads

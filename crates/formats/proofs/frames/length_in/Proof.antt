@@ -1,0 +1,43 @@
+use Rattle.formats.specs.Frames.{lengthIn}
+use borrow.Author.Needs.{needs}
+use Rattle.formats.proofs.frames.length_in.Statement.{statement}
+use Rattle.formats.proofs.frames.length_in.Tie as tie
+
+enum-told : tie.Need-enum-told
+enum-told c = search needs
+
+g719-length-requires : tie.Need-g719-length-requires
+g719-length-requires c κs = rw (c .enum-told .given .1) at (c .before .before .pre)
+
+enum-told-2 : tie.Need-enum-told-2
+enum-told-2 c = search needs
+
+gsm-hr-length-requires : tie.Need-gsm-hr-length-requires
+gsm-hr-length-requires c κs = search needs
+
+enum-told-3 : tie.Need-enum-told-3
+enum-told-3 c = search needs
+
+returns : tie.Need-returns
+unfolding lengthIn
+returns c = rw (c .before .enum-told .given .1) (c .g719-length .ensures)
+
+returns-2 : tie.Need-returns-2
+returns-2 c = rw (c .before .enum-told2 .given .1) (c .gsm-hr-length .ensures)
+
+returns-3 : tie.Need-returns-3
+unfolding lengthIn
+returns-3 c = rw (c .enum-told3 .given .1)
+
+pub length-in-spec : {M : Type 1} → statement M
+length-in-spec =
+    tie.close
+    (tie.spec
+    enum-told
+    g719-length-requires
+    enum-told-2
+    gsm-hr-length-requires
+    enum-told-3
+    returns
+    returns-2
+    returns-3)
