@@ -2,7 +2,7 @@
 use crate::formats;
 use crate::formats::FrameTable;
 ghost use mathlib.Core.Path.{_≡_};
-ghost use Prim.Native.Nat.{_*_, _<_};
+ghost use Prim.Native.Nat.{_<_};
 ghost use Rattle.payload.specs.Frames.{stepOf, g719Length, lengthIn, frameOf};
 ghost use Rattle.payload.specs.Formats.{formatOf};
 ghost use Rattle.payload.specs.Room.{InTable};
@@ -132,12 +132,4 @@ pub fn step_of(format: u8) -> u32
     ensures { λ r. ⌜ r ≡ stepOf format ⌝ }
 {
     formats::format_of(format).step
-}
-
-// The ticks of so many frame-blocks.
-pub(crate) fn ticks(format: u8, blocks: u32) -> u32
-    requires { ⌜ blocks < 16 ⌝ }
-    ensures { λ r. ⌜ r ≡ blocks * stepOf format ⌝ }
-{
-    blocks * step_of(format)
 }

@@ -90,10 +90,11 @@ fn put_group(
     if count == 0 {
         return time;
     }
-    let skipped = frames::ticks(format, contents::gap(format, s, k));
+    let step = frames::step_of(format);
+    let skipped = contents::gap(format, s, k) * step;
     let here = std::num::wrapping_add_u32(time, skipped);
     put_block(rows, channels, 0, here, class, start, size);
-    let next = std::num::wrapping_add_u32(here, frames::step_of(format));
+    let next = std::num::wrapping_add_u32(here, step);
     let width = ROW_WIDTH * channels;
     put_group(
         &mut rows[width..],
