@@ -53,14 +53,6 @@ fn put_block(
     );
 }
 
-// The ticks of so many frame-blocks.
-fn ticks(format: u8, blocks: u32) -> u32
-    requires { ⌜ blocks < 16 ⌝ }
-    ensures { λ r. ⌜ r ≡ blocks * stepOf format ⌝ }
-{
-    blocks * frames::step_of(format)
-}
-
 // The rows of `count` frame-blocks from the k-th on of the entry at the front of s; answers the time of the place after them.
 fn put_group(
     rows: &mut [u32],
@@ -82,10 +74,11 @@ fn put_group(
     if count == 0 {
         return time;
     }
-    let skipped = ticks(format, contents::gap(format, s, k));
+    let step = frames::step_of(format);
+    let skipped = contents::gap(format, s, k) * step;
     let here = std::num::wrapping_add_u32(time, skipped);
     put_block(rows, channels, 0, here, class, start, size);
-    let next = std::num::wrapping_add_u32(here, frames::step_of(format));
+    let next = std::num::wrapping_add_u32(here, step);
     let width = ROW_WIDTH * channels;
     put_group(
         &mut rows[width..],
