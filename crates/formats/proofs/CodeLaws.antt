@@ -13,7 +13,7 @@ use Rattle.formats.specs.declared.frames.Coded.{Coded}
 use Rattle.formats.specs.declared.frames.Frame.{Frame}
 use Rattle.formats.specs.Formats.{noCode, g719Format, gsmFormat, formatOf}
 use Rattle.formats.specs.Frames.{noData, sound, sid, g719Length, gsmLength, lengthIn, frame, frameIn, frameOf}
-use Rattle.formats.specs.Codes.{isFrame, codeBelow, highestCode, codeFor}
+use Rattle.formats.specs.Codes.{isFrame, codeBelow, highestCode, codeFor, tableCode}
 use Rattle.formats.proofs.TableRule.{allBelow, at}
 use Rattle.formats.proofs.FormatLaws.{each, code-placed, Small, keeps, keeps-at, smallFrame, small-is, small-all}
 
@@ -202,11 +202,6 @@ gsm-has class n =
         rw (a, b) (gsm-codes .2 ∙ rw (l, z))))
 
 -- the code by a format's table
-abbrev tableCode : FrameTable → ℕ → ℕ → ℕ
-tableCode FrameTable.G719 class n = highestCode (g719Format false) class n
-tableCode FrameTable.GsmHr class n = highestCode gsmFormat class n
-tableCode FrameTable.Empty class n = noCode
-
 pub table-code : (format class n : ℕ) (t : FrameTable) → formatOf format .table ≡ t → tableCode t class n ≡ codeFor format class n
 unfolding codeFor codeBelow frameIn lengthIn
 table-code format class n t h = subst (λ (u : FrameTable). tableCode u class n ≡ codeFor format class n) h

@@ -8,7 +8,7 @@ ghost use mathlib.Core.Bool.{false};
 ghost use Rattle.formats.specs.Formats.{g719Format, gsmFormat};
 ghost use Rattle.formats.specs.Frames.{sound};
 ghost use lib.Dec.{ltb};
-ghost use Rattle.formats.specs.Codes.{noCode, highestCode, codeFor};
+ghost use Rattle.formats.specs.Codes.{noCode, highestCode, tableCode, codeFor};
 
 // No code: a class and a length that the format has not.
 pub const NO_CODE: u32 = 32;
@@ -113,14 +113,21 @@ fn has_gsm_hr(class: u32, n: u32) -> bool
     false
 }
 
-// Whether a class and a length have a code. It is asked of each held entry, so it finds none.
-pub fn has_code(format: u8, class: u32, n: u32) -> bool
-    ensures { λ r. ⌜ r ≡ ltb (codeFor format class n) noCode ⌝ }
+// Whether a class and a length have a code in a frame table. It is asked of each held entry, so it finds none.
+pub fn table_has(table: FrameTable, class: u32, n: u32) -> bool
+    ensures { λ r. ⌜ r ≡ ltb (tableCode table class n) noCode ⌝ }
 {
-    let table = facts::format_of(format).table;
     match table {
         FrameTable::G719 => has_g719(class, n),
         FrameTable::GsmHr => has_gsm_hr(class, n),
         FrameTable::Empty => false,
     }
+}
+
+// Whether a class and a length have a code.
+pub fn has_code(format: u8, class: u32, n: u32) -> bool
+    ensures { λ r. ⌜ r ≡ ltb (codeFor format class n) noCode ⌝ }
+{
+    let table = facts::format_of(format).table;
+    table_has(table, class, n)
 }

@@ -5,6 +5,9 @@ use mathlib.Core.Bool.{Bool, true, false, cond, _&&_}
 use mathlib.Core.Option.{Option, none, some}
 use lib.ListN.{getD}
 use lib.Dec.{ltb, eqb}
+use Rattle.formats.specs.declared.facts.FrameTable.{FrameTable}
+use Rattle.formats.specs.Frames.{noData}
+use Rattle.formats.specs.Codes.{noCode, tableCode}
 use Rattle.formats.specs.Tags.{tagClass, tagChannel}
 use Rattle.playout.specs.Pairs.{half, ahead, order, isAfter}
 use Rattle.playout.specs.Entries.{Entry}
@@ -17,6 +20,10 @@ use Rattle.reorder.specs.Model.{allowed, lastFine}
 -- the flag and the last pair
 abbrev pub lastKept : Fixed → Bool
 lastKept f = isFlag (f .drawn) && lastFine (f .settings) (eqb (f .drawn) 1) (f .«last_time») (f .«last_channel»)
+
+-- `allowed`, by the format's frame table
+abbrev pub allowedIn : FrameTable → ℕ → ℕ → Bool
+allowedIn t class n = cond (eqb class noData) false (ltb (tableCode t class n) noCode)
 
 -- an entry's class, length and channel, of its tag and length
 abbrev pub classFine : Fixed → ℕ → ℕ → Bool

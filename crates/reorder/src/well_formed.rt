@@ -4,18 +4,20 @@ use crate::buffer::Fixed;
 use crate::buffer::SLOTS;
 use crate::columns;
 use formats::codes;
+use formats::facts;
+use formats::facts::FrameTable;
 use formats::tagging;
 use playout::order;
 use playout::order::Side;
 ghost use mathlib.Core.Path.{_≡_};
 ghost use mathlib.Core.Bool.{true};
 ghost use Prim.Native.Nat.{_^_, _≤_, _<_};
+ghost use Rattle.formats.specs.Formats.{formatOf};
 ghost use Rattle.playout.specs.Sizes.{slots as slotCount};
 ghost use Rattle.playout.specs.Pairs.{isAfter, order};
 ghost use Rattle.reorder.specs.Layout.{unusedZero, assembled};
-ghost use Rattle.reorder.specs.Model.{allowed};
 ghost use Rattle.reorder.specs.WellFormed.{wellFormed};
-ghost use Rattle.reorder.specs.Checks.{lastKept, classFine, baseOf, startOf, positionOf, entriesPass};
+ghost use Rattle.reorder.specs.Checks.{lastKept, allowedIn, classFine, baseOf, startOf, positionOf, entriesPass};
 
 // The positions of a stretch under half the range of time.
 const STRETCH: u64 = 256 * (order::HALF as u64);
@@ -31,14 +33,14 @@ pub(crate) fn pair_after(t: u32, c: u32, h: u32, d: u32) -> bool
     }
 }
 
-// Whether reading under a format can give a frame of this class and length.
-fn is_allowed(format: u8, class: u32, length: u32) -> bool
-    ensures { λ r. ⌜ r ≡ allowed format class length ⌝ }
+// Whether reading under a format with this frame table can give a frame of this class and length.
+fn is_allowed(table: FrameTable, class: u32, length: u32) -> bool
+    ensures { λ r. ⌜ r ≡ allowedIn table class length ⌝ }
 {
     if class == 0 {
         return false;
     }
-    codes::has_code(format, class, length)
+    codes::table_has(table, class, length)
 }
 
 // Whether the flag is one, and the last pair is kept as zeros or is in range.
@@ -58,10 +60,11 @@ fn last_kept(fixed: Fixed) -> bool
 }
 
 // Whether an entry's class, length and channel are such as these settings allow.
-fn class_fine(fixed: Fixed, tag: u32, length: u32) -> bool
+fn class_fine(table: FrameTable, fixed: Fixed, tag: u32, length: u32) -> bool
+    requires { ⌜ table ≡ formatOf (fixed .settings .format) .table ⌝ }
     ensures { λ r. ⌜ r ≡ classFine fixed tag length ⌝ }
 {
-    if !is_allowed(fixed.settings.format, tagging::tag_class(tag), length) {
+    if !is_allowed(table, tagging::tag_class(tag), length) {
         return false;
     }
     tagging::tag_channel(tag) < (fixed.settings.channels as u32)
@@ -109,12 +112,13 @@ fn entries_pass(
     ensures { λ r. ⌜ r ≡ entriesPass (now (times .entry)) (now (tags .entry)) (now (lengths .entry)) (now (slots .entry)) occupied fixed n ⌝ }
 {
     let held: &[u32] = slots;
+    let table = facts::format_of(fixed.settings.format).table;
     let base = base_of(fixed, times[0]);
     let mut least = start_of(fixed);
     let mut seen = [0u64; 3];
     let mut i = 0;
     while i < n {
-        if !class_fine(fixed, tags[i], lengths[i]) {
+        if !class_fine(table, fixed, tags[i], lengths[i]) {
             return false;
         }
         let at = position(base, times[i], tagging::tag_channel(tags[i]));

@@ -1,3 +1,9 @@
+use mathlib.Core.Path.{_≡_, ap, _∙_}
+use Prim.Native.Nat.{ℕ}
+use Rattle.formats.specs.Tags.{tagClass}
+use Rattle.reorder.specs.Model.{allowed}
+use Rattle.reorder.specs.Checks.{allowedIn}
+use Rattle.reorder.proofs.CheckLaws.{allowed-in}
 use borrow.Author.Tests.{not-true, not-false}
 use borrow.Author.Needs.{needs}
 use Rattle.reorder.proofs.well_formed.class_fine.Statement.{statement}
@@ -14,9 +20,15 @@ tag-class-requires c κs = search needs
 is-allowed-requires : tie.Need-is-allowed-requires
 is-allowed-requires c κs = search needs
 
+allowed-at : (c : tie.After-is-allowed) → let a = c .before .before .args in c .is-allowed .result ≡ allowed (a .fixed .settings .format) (tagClass (a .tag)) (a .length)
+allowed-at c =
+    let s = c .before .before in
+    let a = s .args in
+    c .is-allowed .ensures ∙ ap (λ (k : ℕ). allowedIn (a .table) k (a .length)) (c .before .tag-class .ensures)
+    ∙ allowed-in (a .fixed .settings .format) (tagClass (a .tag)) (a .length) (a .table) (s .pre)
+
 returns : tie.Need-returns
-returns c =
-    rw (← (c .before .before .tag-class .ensures), ← (c .before .is-allowed .ensures), not-true (c .before .is-allowed .result) (c .if1 .taken))
+returns c = rw (← (allowed-at (c .before)), not-true (c .before .is-allowed .result) (c .if1 .taken))
 
 tag-channel-requires : tie.Need-tag-channel-requires
 tag-channel-requires c κs = search needs
@@ -27,7 +39,7 @@ cast-result c = search needs
 returns-2 : tie.Need-returns-2
 returns-2 c =
     let a = c .before .before .before in
-    rw (← (a .before .tag-class .ensures), ← (a .is-allowed .ensures), not-false (a .is-allowed .result) (c .before .before .if1 .left), ← (c .before .tag-channel .ensures .0))
+    rw (← (allowed-at a), not-false (a .is-allowed .result) (c .before .before .if1 .left), ← (c .before .tag-channel .ensures .0))
 
 pub class-fine-spec : {M : Type 1} → statement M
 class-fine-spec =

@@ -1,6 +1,7 @@
 use Prim.Native.Nat.{ℕ, _+_, _-_, _^_, _≤_, _<_}
 use lib.Dec.{eqb}
 use lib.ListN.{getD}
+use Rattle.formats.specs.declared.facts.Format.{Format}
 use Rattle.formats.specs.Tags.{tagChannel}
 use mathlib.Core.Path.{_≡_, _∙_, sym, ap, ap₂, subst}
 use native.Mathlib.Nat.{sub-zero}
@@ -23,12 +24,15 @@ use Rattle.reorder.proofs.well_formed.class_fine.Reads as class-fine-re
 use Rattle.reorder.proofs.well_formed.start_of.Reads as start-of-reads
 
 abbrev Inv-loop : tie.InvT-loop
-Inv-loop times tags lengths slots occupied fixed n held base least₀ seen₀ i₀ least seen i =
+Inv-loop times tags lengths slots occupied fixed n held table base least₀ seen₀ i₀ least seen i =
     (i ≤ n) × (restFine times tags lengths slots occupied fixed n i seen ≡ entriesPass times tags lengths slots occupied fixed n)
     × Told (eqb (fixed .drawn) 0) (fixed .«last_time») (fixed .«last_channel») times tags i least
 
 abbrev μ-loop : tie.MeasureT-loop
-μ-loop times tags lengths slots occupied fixed n held base least₀ seen₀ i₀ least seen i = n - i
+μ-loop times tags lengths slots occupied fixed n held table base least₀ seen₀ i₀ least seen i = n - i
+
+format-of-requires : tie.Need-format-of-requires Inv-loop μ-loop
+format-of-requires c κs = search needs
 
 element-copy-out-base-of : tie.Need-element-copy-out-base-of Inv-loop μ-loop
 element-copy-out-base-of c = search needs
@@ -55,7 +59,7 @@ element-copy-out-class-fine-2 : tie.Need-element-copy-out-class-fine-2 Inv-loop 
 element-copy-out-class-fine-2 c = search needs
 
 class-fine-requires : tie.Need-class-fine-requires Inv-loop μ-loop
-class-fine-requires c κs = search needs
+class-fine-requires c κs = ap (λ (f : Format). f .table) (c .before .before .before .before .before .before .before .format-of .ensures)
 
 returns : tie.Need-returns Inv-loop μ-loop
 returns c =
@@ -83,7 +87,7 @@ position-requires c κs = c .tag-channel .ensures .1
 returns-2 : tie.Need-returns-2 Inv-loop μ-loop
 returns-2 c =
     let l = c .before .before .before .before .before .before .before .before .before .before .loop in
-    let s = c .before .before .before .before .before .before .before .before .before .before .before .before .before .before .before in
+    let s = c .before .before .before .before .before .before .before .before .before .before .before .before .before .before .before .before in
     let a = s .args in
     let f = a .fixed in
     let bo = c .before .before .before .before .before .before .before .before .before .before .before .before .base-of .ensures in
@@ -95,7 +99,7 @@ returns-2 c =
 returns-3 : tie.Need-returns-3 Inv-loop μ-loop
 returns-3 c =
     let l = c .before .before .before .before .before .before .before .before .before .before .before .loop in
-    let s = c .before .before .before .before .before .before .before .before .before .before .before .before .before .before .before .before in
+    let s = c .before .before .before .before .before .before .before .before .before .before .before .before .before .before .before .before .before in
     let a = s .args in
     let f = a .fixed in
     let bo = c .before .before .before .before .before .before .before .before .before .before .before .before .before .base-of .ensures in
@@ -122,7 +126,7 @@ claim-requires c κs = search needs
 returns-4 : tie.Need-returns-4 Inv-loop μ-loop
 returns-4 c =
     let l = c .before .before .before .before .before .before .before .before .before .before .before .before .before .before .before .loop in
-    let s = c .before .before .before .before .before .before .before .before .before .before .before .before .before .before .before .before .before .before .before .before in
+    let s = c .before .before .before .before .before .before .before .before .before .before .before .before .before .before .before .before .before .before .before .before .before in
     let a = s .args in
     let f = a .fixed in
     let bo = c .before .before .before .before .before .before .before .before .before .before .before .before .before .before .before .before .before .base-of .ensures in
@@ -141,7 +145,7 @@ loop-less c = search needs
 loop-again : tie.Need-loop-again Inv-loop μ-loop
 loop-again c =
     let l = c .before .before .before .before .before .before .before .before .before .before .before .before .before .before .before .loop in
-    let s = c .before .before .before .before .before .before .before .before .before .before .before .before .before .before .before .before .before .before .before .before in
+    let s = c .before .before .before .before .before .before .before .before .before .before .before .before .before .before .before .before .before .before .before .before .before in
     let a = s .args in
     let f = a .fixed in
     let bo = c .before .before .before .before .before .before .before .before .before .before .before .before .before .before .before .before .before .base-of .ensures in
@@ -170,6 +174,7 @@ entries-pass-spec =
     (tie.spec
     Inv-loop
     μ-loop
+    format-of-requires
     element-copy-out-base-of
     base-of-requires
     start-of-requires
