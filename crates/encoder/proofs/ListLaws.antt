@@ -1,18 +1,14 @@
 -- Laws of the rows in a word area.
-use mathlib.Core.Path.{_≡_, refl, ap, sym, _∙_}
-use mathlib.Core.List.{List, [], _∷_}
-use mathlib.Core.Bool.{Bool, true, false, cond}
-use Prim.Native.Nat.{ℕ, zero, suc, _+_, _-_, _*_, _/_, _≤_, _<_}
-use native.Mathlib.Omega.{arith}
+use mathlib.Core.Path.{_≡_, _∙_}
+use mathlib.Core.List.{List, _∷_}
+use mathlib.Core.Bool.{true, false}
+use Prim.Native.Nat.{ℕ, _+_, _-_, _≤_, _<_}
 use lib.ListN.{length, getD, drop}
 use lib.Seq.{drop-drop, getD-drop}
-use lib.Dec.{ltb}
 use borrow.Author.Tests.{lt-ltb, le-ltb}
 use Rattle.rtp.specs.Sizes.{rowWidth}
-use Rattle.payload.specs.Rows.{Row}
 pub use Rattle.payload.proofs.RowLaws.{rows-none, rows-more, length-rows}
 use Rattle.encoder.specs.Lists.{rowOf, rowsIn, outside}
-use Rattle.encoder.specs.Room.{wordsAt, rowAs}
 
 -- some row is outside, from a word of the area on
 module _ (n : ℕ) (ws : List ℕ) (at : ℕ) where

@@ -1,6 +1,6 @@
 -- The table of contents that a frame list is written with: one entry for each longest run of frame-blocks of equal length (GSM-HR: one
 -- entry a frame), or none. A plan is a table as reading has it: a list of groups.
-use Prim.Native.Nat.{ℕ, _+_, _-_, _/_, _%_, _^_}
+use Prim.Native.Nat.{ℕ, _+_, _-_, _/_, _%_}
 use mathlib.Core.List.{List, [], _∷_}
 use mathlib.Core.Bool.{Bool, false, cond}
 use lib.ListN.{length, getD}

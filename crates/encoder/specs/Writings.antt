@@ -1,7 +1,7 @@
 -- A payload written alone: `writing` is the whole meaning of a call of `write_payload`, refusals included.
 use Prim.Native.Nat.{ℕ, _+_}
 use mathlib.Core.List.{List, [], _++_}
-use mathlib.Core.Bool.{Bool, true, false, cond}
+use mathlib.Core.Bool.{cond}
 use lib.ListN.{length}
 use lib.Dec.{ltb}
 use Rattle.rtp.specs.Ranges.{inRange}

@@ -1,13 +1,12 @@
 -- Laws of a payload, from what reading its table answered.
-use mathlib.Core.Path.{_≡_, refl, ap, sym, _∙_, subst}
+use mathlib.Core.Path.{_≡_, refl, ap, sym, subst}
 use mathlib.Core.List.{List, [], _∷_}
-use mathlib.Core.Bool.{true, false, cond}
-use Prim.Native.Nat.{ℕ, _+_, _-_, _*_, _≤_, _<_, _^_}
+use mathlib.Core.Bool.{true, false}
+use Prim.Native.Nat.{ℕ, _+_, _-_, _*_, _≤_, _<_}
 use native.Mathlib.Omega.{arith}
 use lib.ListN.{length, length-append}
-use lib.Dec.{ltb, eqb}
 use borrow.Author.Tests.{eq-eqb, ne-eqb, lt-ltb, le-ltb}
-use Rattle.rtp.specs.Sizes.{rowWidth, rowArea, maxRows, maxPacket}
+use Rattle.rtp.specs.Sizes.{rowWidth, rowArea, maxPacket}
 use Rattle.rtp.specs.Areas.{over}
 use Rattle.rtp.specs.Ranges.{inRange}
 use Rattle.rtp.specs.declared.settings.Settings.{Settings}
@@ -18,9 +17,9 @@ use Rattle.payload.specs.declared.contents.Sizes.{Sizes}
 use Rattle.payload.specs.declared.contents.ContentsRead.{ContentsRead}
 use Rattle.payload.specs.declared.reading.PayloadRead.{PayloadRead}
 use Rattle.formats.specs.Frames.{stepOf}
-use Rattle.payload.specs.Contents.{Group, Contents, refused, groups, contents, rowCount, sizeIn, framesIn, sizesAnswer}
+use Rattle.payload.specs.Contents.{Group, Contents, refused, groups, contents, rowCount, sizeIn, sizesAnswer}
 use Rattle.payload.specs.Rows.{tableRows, timeAfter}
-use Rattle.payload.specs.Payloads.{exact, payload, Rows, noRows, rowsOf, placedRows, payloadRows, rowsWords, rowsAnswer, askedRows}
+use Rattle.payload.specs.Payloads.{exact, payload, Rows, noRows, placedRows, payloadRows, rowsWords, rowsAnswer, askedRows}
 use Rattle.payload.specs.Room.{TableRoom, contentsWords}
 use Rattle.payload.proofs.ContentsLaws.{Small, Within, within}
 use Rattle.payload.proofs.GroupLaws.{length-group}

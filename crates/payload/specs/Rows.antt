@@ -1,5 +1,5 @@
 -- Document 01, "A row is": frame rows, and the words that they take in a row area.
-use Prim.Native.Nat.{ℕ, zero, suc, _+_, _-_, _*_, _^_, _/_, _%_}
+use Prim.Native.Nat.{ℕ, zero, suc, _+_, _*_, _^_, _%_}
 use mathlib.Core.List.{List, [], _∷_, _++_}
 use lib.ListN.{length}
 use Rattle.formats.specs.Tags.{tagOf, tagClass, tagChannel}

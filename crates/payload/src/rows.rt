@@ -5,7 +5,7 @@ use formats::frames;
 use formats::tagging;
 use rtp::sizes::ROW_WIDTH;
 ghost use mathlib.Core.Path.{_≡_};
-ghost use Prim.Native.Nat.{_*_, _<_};
+ghost use Prim.Native.Nat.{_*_};
 ghost use lib.ListN.{length};
 ghost use Rattle.rtp.specs.Areas.{over};
 ghost use Rattle.formats.specs.Frames.{stepOf};

@@ -1,8 +1,7 @@
 // Which of two copies of a frame is better.
 ghost use mathlib.Core.Path.{_≡_};
-ghost use mathlib.Core.Bool.{Bool, true, false};
-ghost use Prim.Native.Nat.{_≤_};
-ghost use lib.ListN.{length, drop};
+ghost use mathlib.Core.Bool.{true, false};
+ghost use lib.ListN.{length};
 ghost use Rattle.playout.specs.Copies.{greater, betterFrame};
 
 // Whether a has the greater byte where the two, of one length, first differ.

@@ -6,7 +6,7 @@ use reorder::calls;
 use reorder::calls::DrawAnswer;
 use reorder::calls::DrawnFrame;
 use reorder::calls::OfferAnswer;
-use reorder::calls::Tally;
+use reorder::tally::Tally;
 use rtp::refusal;
 use rtp::settings::G719_INTERLEAVED;
 use rtp::settings::NO_REDUNDANCY;

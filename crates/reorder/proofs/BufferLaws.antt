@@ -1,21 +1,18 @@
 -- Laws between a buffer and its model.
-use mathlib.Core.Path.{_≡_, refl, ap, sym, _∙_, subst}
+use mathlib.Core.Path.{_≡_, refl}
 use mathlib.Core.List.{List, [], _∷_, map, List·Memᴰ, List·Memᴰ·head as here, List·Memᴰ·tail as there}
-use mathlib.Core.Bool.{Bool, true, false, cond}
-use Prim.Native.Nat.{ℕ, zero, suc, _+_, _*_, _≤_, _<_, _^_}
+use mathlib.Core.Bool.{true}
+use Prim.Native.Nat.{ℕ, zero, suc, _≤_, _<_, _^_}
 use native.Mathlib.Omega.{arith}
 use lib.ListN.{length, getD}
-use lib.Dec.{ltb, eqb}
-use borrow.Author.Tests.{ltb-true, ltb-false, eqb-true, eqb-false}
+use lib.Dec.{eqb}
 use Rattle.rtp.specs.Ranges.{inRange}
 use Rattle.rtp.specs.declared.settings.Settings.{Settings}
-use Rattle.rtp.proofs.TestLaws.{by-test, not-both}
+use Rattle.rtp.proofs.TestLaws.{by-test}
 use Rattle.rtp.proofs.RangeLaws.{few-channels}
-use Rattle.playout.specs.Sizes.{slots, slotSize, storeSize}
+use Rattle.playout.specs.Sizes.{slots, storeSize}
 use Rattle.playout.specs.Entries.{Entry, Held}
-use Rattle.playout.proofs.HeldLaws.{HeldFacts}
 use Rattle.reorder.specs.declared.buffer.Buffer.{Buffer}
-use Rattle.reorder.specs.Bits.{heldIn, wordsOf}
 use Rattle.reorder.specs.Layout.{entryTag, padTo, column, encode, decode}
 use Rattle.reorder.specs.WellFormed.{wellFormed}
 use Rattle.reorder.specs.Arrays.{Column, Machine}

@@ -4,7 +4,7 @@ use mathlib.Core.List.{List, [], _∷_}
 use mathlib.Core.Bool.{Bool, true, cond}
 use Prim.Native.Nat.{ℕ, _+_, _-_, _≤_, _<_, _^_}
 use native.Mathlib.Omega.{arith}
-use lib.ListN.{length, getD, take, drop}
+use lib.ListN.{length, take, drop}
 use borrow.Author.Tests.{eq-eqb, ne-eqb}
 use Rattle.rtp.specs.Sizes.{rowWidth}
 use Rattle.rtp.specs.Ranges.{inRange}
@@ -18,7 +18,7 @@ use Rattle.playout.specs.declared.verdict.Verdict.the-variants.{Late, Far, Repe
 use Rattle.playout.specs.Sizes.{storeSize}
 use Rattle.playout.specs.Copies.{Copy}
 use Rattle.playout.specs.Entries.{Held}
-use Rattle.playout.specs.Verdicts.{Counts, counted, tally, Judgement, Gathered, judge, judgeAll}
+use Rattle.playout.specs.Verdicts.{Counts, counted, tally, Gathered, judge, judgeAll}
 use Rattle.reorder.specs.declared.buffer.Buffer.{Buffer}
 use Rattle.reorder.specs.declared.tally.Tally.{Tally}
 use Rattle.reorder.specs.declared.laying.FrameHead.{FrameHead}

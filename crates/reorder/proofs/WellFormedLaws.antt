@@ -1,8 +1,8 @@
 -- A well-formed buffer has the facts of its model and is the encoding of it; and the encoding of a model with these facts is well-formed.
-use Prim.Native.Nat.{ℕ, zero, suc, _+_, _*_, _/_, _%_, _^_, _≤_, _<_}
-use mathlib.Core.Path.{_≡_, refl, sym, ap, ap₂, _∙_}
+use Prim.Native.Nat.{ℕ, zero, suc, _+_, _^_, _≤_, _<_}
+use mathlib.Core.Path.{_≡_, refl, sym, ap, _∙_}
 use mathlib.Core.List.{List, [], _∷_, map, List·Memᴰ, List·Memᴰ·head as here, List·Memᴰ·tail as there, List·Memᴰ·not-nil as nowhere}
-use mathlib.Core.Bool.{Bool, true, false, cond, _&&_}
+use mathlib.Core.Bool.{Bool, true, false}
 use native.Mathlib.Omega.{arith}
 use borrow.Author.Tests.{eqb-true, eq-eqb}
 use lib.Count.{ones}
@@ -13,11 +13,10 @@ use Rattle.rtp.specs.declared.settings.Settings.{Settings}
 use Rattle.formats.specs.Tags.{tagChannel}
 use Rattle.playout.specs.Sizes.{slots}
 use Rattle.playout.specs.Entries.{Entry, Held}
-use Rattle.playout.specs.Verdicts.{allWithin}
 use Rattle.reorder.specs.declared.buffer.Buffer.{Buffer}
 use Rattle.reorder.specs.Bits.{heldIn, wordAt, wordsOf, sameWords}
 use Rattle.reorder.specs.Columns.{zeros}
-use Rattle.reorder.specs.Layout.{entryTag, padTo, column, flagOf, encode, entryAt, entriesFrom, decode, model, isFlag, unusedZero, marksKept, laidOut, fresh}
+use Rattle.reorder.specs.Layout.{entryTag, padTo, column, flagOf, encode, entryAt, entriesFrom, decode, model, isFlag, unusedZero, marksKept, fresh}
 use Rattle.reorder.specs.Model.{ascending, slotsApart, entriesFine, fine}
 use Rattle.reorder.specs.WellFormed.{wellFormed}
 use Rattle.reorder.specs.Arrays.{Machine}

@@ -1,8 +1,8 @@
 -- Frames laid into the columns and the store: what the functions of the layout ask of one another inside this crate, and give.
-use Prim.Native.Nat.{ℕ, _+_, _*_, _≤_, _<_}
+use Prim.Native.Nat.{ℕ, _*_, _≤_, _<_}
 use mathlib.Core.Path.{_≡_}
 use mathlib.Core.List.{List}
-use mathlib.Core.Bool.{Bool, true, false, cond, not}
+use mathlib.Core.Bool.{Bool, false, cond, not}
 use lib.ListN.{length, getD, take, drop, set}
 use lib.Seq.{paste}
 use lib.Dec.{eqb}

@@ -1,12 +1,12 @@
 -- Laws of the RTP header: where its payload lies.
-use mathlib.Core.Path.{_≡_, refl, subst, sym}
+use mathlib.Core.Path.{_≡_, refl, subst}
 use mathlib.Core.List.{List}
 use mathlib.Core.Bool.{Bool, true, false, cond}
-use Prim.Native.Nat.{ℕ, _+_, _-_, _*_, _/_, _%_, _≤_, _<_}
+use Prim.Native.Nat.{ℕ, _+_, _-_, _/_, _%_, _≤_}
 use native.Mathlib.Omega.{arith}
 use lib.ListN.{length}
 use lib.Dec.{ltb, eqb}
-use borrow.Author.Tests.{ltb-true, ltb-false, eqb-true, eqb-false}
+use borrow.Author.Tests.{ltb-false}
 use Rattle.rtp.specs.declared.refusal.Refusal.{Refusal}
 use Rattle.rtp.specs.declared.header.Bound.{Bound}
 use Rattle.rtp.specs.declared.header.Header.{Header}

@@ -1,19 +1,18 @@
 -- Laws of the redundancy block headers.
-use mathlib.Core.Path.{_≡_, refl, ap, subst, sym, _∙_}
-use mathlib.Core.List.{List, [], _∷_}
+use mathlib.Core.Path.{_≡_, refl, subst}
+use mathlib.Core.List.{List}
 use mathlib.Core.Bool.{Bool, true, false, cond}
-use Prim.Native.Nat.{ℕ, zero, suc, _+_, _-_, _*_, _/_, _%_, _≤_, _<_}
+use Prim.Native.Nat.{ℕ, zero, suc, _+_, _-_, _*_, _≤_, _<_}
 use native.Mathlib.Omega.{arith}
 use lib.ListN.{length, drop, length-drop}
 use lib.Seq.{getD-drop}
 use lib.Dec.{ltb, eqb}
-use borrow.Author.Tests.{ltb-true, ltb-false, eqb-true, eqb-false}
+use borrow.Author.Tests.{ltb-false, eqb-false}
 use Rattle.rtp.specs.declared.refusal.Refusal.{Refusal}
 use Rattle.rtp.specs.declared.redundancy.Redundant.{Redundant}
 use Rattle.rtp.specs.declared.redundancy.BlockHeader.{BlockHeader}
 use Rattle.rtp.specs.declared.redundancy.HeaderSizes.{HeaderSizes}
 use Rattle.rtp.specs.declared.redundancy.HeadersRead.{HeadersRead}
-use Rattle.rtp.specs.Sizes.{maxPacket}
 use Rattle.rtp.specs.Numbers.{byteAt}
 use Rattle.rtp.specs.Redundancy.{blockHeader, Headers, refused, headersOf, prepend, headersStep, headersBy, headers, headersSize, redundantSize, headersAnswer}
 use Rattle.rtp.proofs.TestLaws.{by-test}

@@ -1,7 +1,7 @@
 -- Document 01, "The RTP header".
 use Prim.Native.Nat.{ℕ, _+_, _-_, _*_, _/_, _%_}
 use mathlib.Core.List.{List}
-use mathlib.Core.Bool.{Bool, true, false, cond}
+use mathlib.Core.Bool.{cond}
 use lib.ListN.{length}
 use lib.Dec.{ltb, eqb}
 use Rattle.rtp.specs.declared.refusal.Refusal.the-variants.{PacketLength, Version, HeaderTruncated, PaddingCount}

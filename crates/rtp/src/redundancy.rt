@@ -3,7 +3,7 @@ use crate::bytes;
 use crate::refusal::Refusal;
 use crate::sizes::MAX_PACKET;
 ghost use mathlib.Core.Path.{_≡_};
-ghost use Prim.Native.Nat.{ℕ, _≤_};
+ghost use Prim.Native.Nat.{_≤_};
 ghost use lib.ListN.{length};
 ghost use Rattle.rtp.specs.Sizes.{maxPacket};
 ghost use Rattle.rtp.specs.Redundancy.{blockHeader, headers, headersAnswer, redundancyHeaders};

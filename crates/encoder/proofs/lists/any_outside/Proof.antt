@@ -1,5 +1,5 @@
 use borrow.Author.Needs.{needs}
-use mathlib.Core.Path.{_≡_, refl, sym, _∙_}
+use mathlib.Core.Path.{_≡_, sym, _∙_}
 use Prim.Native.Nat.{_≤_, _-_}
 use lib.ListN.{length, drop}
 use denote.Ref.{now}
@@ -8,9 +8,6 @@ use Rattle.encoder.specs.Lists.{rowsIn, outside}
 use Rattle.encoder.proofs.ListLaws.{outside-none, outside-here, outside-more}
 use Rattle.encoder.proofs.lists.any_outside.Statement.{statement}
 use Rattle.encoder.proofs.lists.any_outside.Tie as tie
-use Rattle.encoder.proofs.lists.any_outside.Reads as reads
-use Rattle.encoder.proofs.lists.any_outside.Lts as lts
-use Rattle.encoder.proofs.lists.wide.Reads as wide-reads
 
 abbrev Inv-loop : tie.InvT-loop
 Inv-loop rows n at₀ at = (at ≤ length rows) × (outside n (rowsIn rows) ≡ outside n (rowsIn (drop at rows)))

@@ -13,12 +13,6 @@ use Rattle.encoder.proofs.WritingLaws.{in-range-some, Answered, answere
 use borrow.Author.Needs.{needs}
 use Rattle.encoder.proofs.writing.write_payload.Statement.{statement}
 use Rattle.encoder.proofs.writing.write_payload.Tie as tie
-use Rattle.encoder.proofs.writing.write_payload.Reads as reads
-use Rattle.encoder.proofs.writing.write_payload.Lts as lts
-use Rattle.encoder.proofs.lists.any_outside.Reads as any-outside-reads
-use Rattle.encoder.proofs.plans.plan_list.Reads as plan-list-reads
-use Rattle.encoder.proofs.writing.put_payload.Reads as put-payload-reads
-use Rattle.rtp.proofs.settings.in_range.Reads as in-range-reads
 
 range-at : (c : tie.Then1) → inRange (c .before .before .before .before .before .args .asked) ≡ true
 range-at c = sym (c .before .in-range .ensures) ∙ c .if1 .taken

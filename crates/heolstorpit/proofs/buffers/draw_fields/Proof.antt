@@ -2,9 +2,6 @@ use Rattle.heolstorpit.proofs.AnswerLaws.{draw-frame, draw-empty, draw-
 use borrow.Author.Needs.{needs}
 use Rattle.heolstorpit.proofs.buffers.draw_fields.Statement.{statement}
 use Rattle.heolstorpit.proofs.buffers.draw_fields.Tie as tie
-use Rattle.heolstorpit.proofs.buffers.draw_fields.Reads as reads
-use Rattle.heolstorpit.proofs.buffers.draw_fields.Lts as lts
-use Rattle.rtp.proofs.refusal.refusal_number.Reads as refusal-number-reads
 
 enum-known-answer : tie.Need-enum-known-answer
 enum-known-answer c = search needs

@@ -2,10 +2,6 @@ use Rattle.heolstorpit.proofs.AnswerLaws.{draws-same}
 use borrow.Author.Needs.{needs}
 use Rattle.heolstorpit.proofs.buffers.hsp_draw.Statement.{statement}
 use Rattle.heolstorpit.proofs.buffers.hsp_draw.Tie as tie
-use Rattle.heolstorpit.proofs.buffers.hsp_draw.Reads as reads
-use Rattle.heolstorpit.proofs.buffers.hsp_draw.Lts as lts
-use Rattle.heolstorpit.proofs.buffers.draw_fields.Reads as draw-fields-reads
-use Rattle.reorder.proofs.calls.draw.Reads as draw-reads
 
 draw-requires : tie.Need-draw-requires
 draw-requires c κs = search needs

@@ -2,10 +2,6 @@ use Rattle.heolstorpit.proofs.AnswerLaws.{new-accepted, new-refused}
 use borrow.Author.Needs.{needs}
 use Rattle.heolstorpit.proofs.buffers.hsp_new.Statement.{statement}
 use Rattle.heolstorpit.proofs.buffers.hsp_new.Tie as tie
-use Rattle.heolstorpit.proofs.buffers.hsp_new.Reads as reads
-use Rattle.heolstorpit.proofs.buffers.hsp_new.Lts as lts
-use Rattle.reorder.proofs.calls.new.Reads as new-reads
-use Rattle.rtp.proofs.refusal.refusal_number.Reads as refusal-number-reads
 
 new-requires : tie.Need-new-requires
 new-requires c κs = search needs

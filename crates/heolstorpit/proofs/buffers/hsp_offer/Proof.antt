@@ -2,10 +2,6 @@ use Rattle.heolstorpit.proofs.AnswerLaws.{offers-same}
 use borrow.Author.Needs.{needs}
 use Rattle.heolstorpit.proofs.buffers.hsp_offer.Statement.{statement}
 use Rattle.heolstorpit.proofs.buffers.hsp_offer.Tie as tie
-use Rattle.heolstorpit.proofs.buffers.hsp_offer.Reads as reads
-use Rattle.heolstorpit.proofs.buffers.hsp_offer.Lts as lts
-use Rattle.heolstorpit.proofs.buffers.offer_fields.Reads as offer-fields-reads
-use Rattle.reorder.proofs.calls.offer.Reads as offer-reads
 
 offer-requires : tie.Need-offer-requires
 offer-requires c κs = search needs

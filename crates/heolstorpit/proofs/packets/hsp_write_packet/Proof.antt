@@ -5,10 +5,6 @@ use mathlib.Core.Path.{_∙_}
 use borrow.Author.Needs.{needs}
 use Rattle.heolstorpit.proofs.packets.hsp_write_packet.Statement.{statement}
 use Rattle.heolstorpit.proofs.packets.hsp_write_packet.Tie as tie
-use Rattle.heolstorpit.proofs.packets.hsp_write_packet.Reads as reads
-use Rattle.heolstorpit.proofs.packets.hsp_write_packet.Lts as lts
-use Rattle.rtp.proofs.refusal.refusal_number.Reads as refusal-number-reads
-use Rattle.sender.proofs.packets.write_packet.Reads as write-packet-reads
 
 write-packet-requires : tie.Need-write-packet-requires
 write-packet-requires c κs = search needs

@@ -3,10 +3,6 @@ use mathlib.Core.Path.{_∙_}
 use borrow.Author.Needs.{needs}
 use Rattle.heolstorpit.proofs.reading.hsp_read.Statement.{statement}
 use Rattle.heolstorpit.proofs.reading.hsp_read.Tie as tie
-use Rattle.heolstorpit.proofs.reading.hsp_read.Reads as reads
-use Rattle.heolstorpit.proofs.reading.hsp_read.Lts as lts
-use Rattle.packet.proofs.reading.read.Reads as read-reads
-use Rattle.rtp.proofs.refusal.refusal_number.Reads as refusal-number-reads
 
 read-requires : tie.Need-read-requires
 read-requires c κs = search needs

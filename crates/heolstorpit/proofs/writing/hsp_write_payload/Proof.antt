@@ -5,10 +5,6 @@ use mathlib.Core.Path.{_∙_}
 use borrow.Author.Needs.{needs}
 use Rattle.heolstorpit.proofs.writing.hsp_write_payload.Statement.{statement}
 use Rattle.heolstorpit.proofs.writing.hsp_write_payload.Tie as tie
-use Rattle.heolstorpit.proofs.writing.hsp_write_payload.Reads as reads
-use Rattle.heolstorpit.proofs.writing.hsp_write_payload.Lts as lts
-use Rattle.encoder.proofs.writing.write_payload.Reads as write-payload-reads
-use Rattle.rtp.proofs.refusal.refusal_number.Reads as refusal-number-reads
 
 write-payload-requires : tie.Need-write-payload-requires
 write-payload-requires c κs = search needs

@@ -7,9 +7,6 @@ use Rattle.packet.proofs.BlockLaws.{asked-other, asked-empty, asked-som
 use borrow.Author.Needs.{needs}
 use Rattle.packet.proofs.blocks.check_block.Statement.{statement}
 use Rattle.packet.proofs.blocks.check_block.Tie as tie
-use Rattle.packet.proofs.blocks.check_block.Reads as reads
-use Rattle.packet.proofs.blocks.check_block.Lts as lts
-use Rattle.payload.proofs.reading.check_payload.Reads as check-payload-reads
 
 returns : tie.Need-returns
 returns c = let a = c .before .before .before .before .args in gives-empty (now (a .s)) _ (asked-empty (a .settings) (a .done) rowArea 0 (a .block-type) 0 0 (now (a .s)) (c .before .if1 .taken) (c .if2 .taken)) .0

@@ -9,10 +9,6 @@ use Rattle.packet.proofs.BlockLaws.{asked-other, asked-empty, asked-som
 use borrow.Author.Needs.{needs}
 use Rattle.packet.proofs.blocks.put_block.Statement.{statement}
 use Rattle.packet.proofs.blocks.put_block.Tie as tie
-use Rattle.packet.proofs.blocks.put_block.Reads as reads
-use Rattle.packet.proofs.blocks.put_block.Lts as lts
-use Rattle.payload.proofs.reading.read_payload.Reads as read-payload-reads
-use Rattle.rtp.proofs.time.difference.Reads as difference-reads
 
 -- the rows of the call
 rows-at : (c : tie.After-read-payload) → let a = c .before .before .before .before .before .before .before .before .args in

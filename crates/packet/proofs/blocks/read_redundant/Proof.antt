@@ -15,11 +15,6 @@ use Rattle.packet.proofs.SplitLaws.{split-refused, split-short, split-s
 use borrow.Author.Needs.{needs}
 use Rattle.packet.proofs.blocks.read_redundant.Statement.{statement}
 use Rattle.packet.proofs.blocks.read_redundant.Tie as tie
-use Rattle.packet.proofs.blocks.read_redundant.Reads as reads
-use Rattle.packet.proofs.blocks.read_redundant.Lts as lts
-use Rattle.packet.proofs.blocks.check_blocks.Reads as check-blocks-reads
-use Rattle.packet.proofs.blocks.put_blocks.Reads as put-blocks-reads
-use Rattle.rtp.proofs.redundancy.read_headers.Reads as read-headers-reads
 
 -- the sizes of the block headers that were read
 sizes-at : (c : tie.After-sizes) → headersAnswer (redundancyHeaders (now (c .before .before .before .before .before .args .s))) ≡ HeadersRead.Headers (c .sizes .given .0 .0)

@@ -10,11 +10,6 @@ use Rattle.packet.proofs.ReadingLaws.{reading-out, reading-short, readi
 use borrow.Author.Needs.{needs}
 use Rattle.packet.proofs.reading.read.Statement.{statement}
 use Rattle.packet.proofs.reading.read.Tie as tie
-use Rattle.packet.proofs.reading.read.Reads as reads
-use Rattle.packet.proofs.reading.read.Lts as lts
-use Rattle.packet.proofs.reading.read_typed.Reads as read-typed-reads
-use Rattle.rtp.proofs.header.read_header.Reads as read-header-reads
-use Rattle.rtp.proofs.settings.in_range.Reads as in-range-reads
 
 range-at : (c : tie.Then1) → inRange (c .before .before .before .before .args .settings) ≡ true
 range-at c = sym (c .before .in-range .ensures) ∙ c .if1 .taken

@@ -7,10 +7,6 @@ use Rattle.packet.proofs.ReadingLaws.{payload-fits, typed-plain, typed-
 use borrow.Author.Needs.{needs}
 use Rattle.packet.proofs.reading.read_typed.Statement.{statement}
 use Rattle.packet.proofs.reading.read_typed.Tie as tie
-use Rattle.packet.proofs.reading.read_typed.Reads as reads
-use Rattle.packet.proofs.reading.read_typed.Lts as lts
-use Rattle.packet.proofs.blocks.read_redundant.Reads as read-redundant-reads
-use Rattle.payload.proofs.reading.read_payload.Reads as read-payload-reads
 
 cast-place : tie.Need-cast-place
 cast-place c = omega (arith, within _ _ (c .before .before .pre .2))

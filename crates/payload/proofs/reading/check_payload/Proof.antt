@@ -1,13 +1,10 @@
 use Rattle.rtp.proofs.AreaLaws.{part-to-end}
 use lib.ListN.{length}
 use denote.Ref.{now}
-use mathlib.Core.Bool.{true}
 use mathlib.Core.Path.{_≡_, sym, _∙_, ap}
 use native.Mathlib.Omega.{arith}
-use Prim.Native.Nat.{ℕ, _+_, _*_, _≤_, _<_}
-use Rattle.rtp.specs.Ranges.{inRange}
-use Rattle.rtp.specs.Sizes.{rowArea, rowWidth, maxPacket}
-use Rattle.payload.specs.Payloads.{Rows, payloadRows, rowsAnswer, askedRows}
+use Rattle.rtp.specs.Sizes.{rowArea}
+use Rattle.payload.specs.Payloads.{payloadRows, rowsAnswer, askedRows}
 use Rattle.payload.specs.Contents.{contents, sizesAnswer}
 use Rattle.payload.specs.declared.contents.ContentsRead.{ContentsRead}
 use Rattle.payload.proofs.ContentsLaws.{Small}
@@ -15,10 +12,6 @@ use Rattle.payload.proofs.PayloadLaws.{pay-refused, pay-part, pay-rows,
 use borrow.Author.Needs.{needs}
 use Rattle.payload.proofs.reading.check_payload.Statement.{statement}
 use Rattle.payload.proofs.reading.check_payload.Tie as tie
-use Rattle.payload.proofs.reading.check_payload.Reads as reads
-use Rattle.payload.proofs.reading.check_payload.Lts as lts
-use Rattle.payload.proofs.contents.read_contents.Reads as read-contents-reads
-use Rattle.rtp.proofs.settings.in_range.Reads as in-range-reads
 
 -- the settings are in range, and the payload is that of the table
 asked-at : (c : tie.Else2) → let a = c .before .before .before .before .args in askedRows (a .asked) (a .done) rowArea 0 0 (now (a .s)) ≡ payloadRows (a .asked .format) (a .asked .channels) (a .done) 0 0 (now (a .s))

@@ -1,12 +1,9 @@
 use Rattle.rtp.proofs.AreaLaws.{part-to-end}
 use lib.ListN.{length}
 use denote.Ref.{now}
-use mathlib.Core.Bool.{true}
 use mathlib.Core.Path.{_≡_, sym, _∙_, ap}
 use native.Mathlib.Omega.{arith}
-use Prim.Native.Nat.{ℕ, _+_, _*_, _≤_, _<_}
-use Rattle.rtp.specs.Ranges.{inRange}
-use Rattle.rtp.specs.Sizes.{rowArea, rowWidth, maxPacket}
+use Prim.Native.Nat.{ℕ}
 use Rattle.payload.specs.Payloads.{Rows, payloadRows, rowsAnswer, rowsWords, askedRows}
 use Rattle.payload.specs.Contents.{contents, sizesAnswer}
 use Rattle.payload.specs.declared.contents.ContentsRead.{ContentsRead}
@@ -20,11 +17,6 @@ use Rattle.payload.specs.declared.reading.PayloadRead.{PayloadRead}
 use borrow.Author.Needs.{needs}
 use Rattle.payload.proofs.reading.read_payload.Statement.{statement}
 use Rattle.payload.proofs.reading.read_payload.Tie as tie
-use Rattle.payload.proofs.reading.read_payload.Reads as reads
-use Rattle.payload.proofs.reading.read_payload.Lts as lts
-use Rattle.payload.proofs.contents.read_contents.Reads as read-contents-reads
-use Rattle.payload.proofs.rows.put_contents.Reads as put-contents-reads
-use Rattle.rtp.proofs.settings.in_range.Reads as in-range-reads
 
 both-none : (x : Rows) (r : Refusal) (l : List ℕ) → x ≡ noRows r → (PayloadRead.Refused r ≡ rowsAnswer x) × (l ≡ over (rowsWords x) l)
 both-none x r l h = (answer-none x r h, words-none x r l h)

@@ -3,7 +3,6 @@ use denote.Ref.{now}
 use native.Mathlib.Omega.{arith}
 use Rattle.rtp.proofs.AreaLaws.{part-length}
 use Rattle.rtp.specs.Sizes.{rowWidth}
-use Rattle.payload.specs.Room.{RowRoom, BlockRoom}
 use Rattle.payload.proofs.RowLaws.{block-row, block-rest, block-none, block-put}
 use borrow.Author.Needs.{needs}
 use Prim.Native.Nat.{ℕ, _<_, _-_}

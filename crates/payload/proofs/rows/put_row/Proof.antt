@@ -4,9 +4,6 @@ use Rattle.rtp.proofs.AreaLaws.{over-four}
 use borrow.Author.Needs.{needs}
 use Rattle.payload.proofs.rows.put_row.Statement.{statement}
 use Rattle.payload.proofs.rows.put_row.Tie as tie
-use Rattle.payload.proofs.rows.put_row.Reads as reads
-use Rattle.payload.proofs.rows.put_row.Lts as lts
-use Rattle.formats.proofs.tagging.pack_tag.Reads as pack-tag-reads
 
 slice-write-rows : tie.Need-slice-write-rows
 slice-write-rows c = search needs

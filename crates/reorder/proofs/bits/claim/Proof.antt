@@ -9,9 +9,6 @@ use Rattle.reorder.proofs.BitLaws.{bit-shift}
 use borrow.Author.Needs.{needs}
 use Rattle.reorder.proofs.bits.claim.Statement.{statement}
 use Rattle.reorder.proofs.bits.claim.Tie as tie
-use Rattle.reorder.proofs.bits.claim.Reads as reads
-use Rattle.reorder.proofs.bits.claim.Lts as lts
-use Rattle.reorder.proofs.bits.with_bit.Reads as with-bit-reads
 
 returns : tie.Need-returns
 returns c = (rw (le-ltb _ _ (c .if1 .taken)), rw (le-ltb _ _ (c .if1 .taken)))

@@ -2,9 +2,6 @@ use Rattle.reorder.proofs.BitLaws.{low-1, low-2, low-3}
 use borrow.Author.Needs.{needs}
 use Rattle.reorder.proofs.bits.lowest_free.Statement.{statement}
 use Rattle.reorder.proofs.bits.lowest_free.Tie as tie
-use Rattle.reorder.proofs.bits.lowest_free.Reads as reads
-use Rattle.reorder.proofs.bits.lowest_free.Lts as lts
-use Rattle.reorder.proofs.bits.lowest_zero.Reads as lowest-zero-reads
 
 array-read-lowest-zero : tie.Need-array-read-lowest-zero
 array-read-lowest-zero c = search needs

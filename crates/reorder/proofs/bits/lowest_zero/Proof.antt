@@ -1,8 +1,6 @@
 use Rattle.reorder.proofs.BitLaws.{lowest-zero}
 use Rattle.reorder.proofs.bits.lowest_zero.Statement.{statement}
 use Rattle.reorder.proofs.bits.lowest_zero.Tie as tie
-use Rattle.reorder.proofs.bits.lowest_zero.Reads as reads
-use Rattle.reorder.proofs.bits.lowest_zero.Lts as lts
 
 returns : tie.Need-returns
 returns c = lowest-zero 64 (c .args .word) (c .fits .word .fits)

@@ -1,9 +1,6 @@
 use borrow.Author.Needs.{needs}
 use Rattle.reorder.proofs.bits.mark.Statement.{statement}
 use Rattle.reorder.proofs.bits.mark.Tie as tie
-use Rattle.reorder.proofs.bits.mark.Reads as reads
-use Rattle.reorder.proofs.bits.mark.Lts as lts
-use Rattle.reorder.proofs.bits.with_bit.Reads as with-bit-reads
 
 mul-with-bit : tie.Need-mul-with-bit
 mul-with-bit c = search needs

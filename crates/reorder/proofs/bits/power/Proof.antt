@@ -6,8 +6,6 @@ use lib.Pow.{shl-exact}
 use borrow.Author.Needs.{needs}
 use Rattle.reorder.proofs.bits.power.Statement.{statement}
 use Rattle.reorder.proofs.bits.power.Tie as tie
-use Rattle.reorder.proofs.bits.power.Reads as reads
-use Rattle.reorder.proofs.bits.power.Lts as lts
 
 shl-result : tie.Need-shl-result
 shl-result c = search needs

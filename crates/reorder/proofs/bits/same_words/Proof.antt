@@ -2,8 +2,6 @@ use borrow.Author.Tests.{eq-eqb, ne-eqb}
 use borrow.Author.Needs.{needs}
 use Rattle.reorder.proofs.bits.same_words.Statement.{statement}
 use Rattle.reorder.proofs.bits.same_words.Tie as tie
-use Rattle.reorder.proofs.bits.same_words.Reads as reads
-use Rattle.reorder.proofs.bits.same_words.Lts as lts
 
 array-read-if1 : tie.Need-array-read-if1
 array-read-if1 c = search needs

@@ -1,9 +1,6 @@
 use borrow.Author.Needs.{needs}
 use Rattle.reorder.proofs.bits.unmark.Statement.{statement}
 use Rattle.reorder.proofs.bits.unmark.Tie as tie
-use Rattle.reorder.proofs.bits.unmark.Reads as reads
-use Rattle.reorder.proofs.bits.unmark.Lts as lts
-use Rattle.reorder.proofs.bits.power.Reads as power-reads
 
 power-requires : tie.Need-power-requires
 power-requires c κs = search needs

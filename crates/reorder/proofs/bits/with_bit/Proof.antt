@@ -2,9 +2,6 @@ use Rattle.reorder.proofs.BitLaws.{add-lt}
 use borrow.Author.Needs.{needs}
 use Rattle.reorder.proofs.bits.with_bit.Statement.{statement}
 use Rattle.reorder.proofs.bits.with_bit.Tie as tie
-use Rattle.reorder.proofs.bits.with_bit.Reads as reads
-use Rattle.reorder.proofs.bits.with_bit.Lts as lts
-use Rattle.reorder.proofs.bits.power.Reads as power-reads
 
 power-requires : tie.Need-power-requires
 power-requires c κs = search needs

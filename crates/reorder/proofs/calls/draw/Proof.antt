@@ -8,11 +8,6 @@ use Rattle.reorder.proofs.CallLaws.{draw-out}
 use borrow.Author.Needs.{needs}
 use Rattle.reorder.proofs.calls.draw.Statement.{statement}
 use Rattle.reorder.proofs.calls.draw.Tie as tie
-use Rattle.reorder.proofs.calls.draw.Reads as reads
-use Rattle.reorder.proofs.calls.draw.Lts as lts
-use Rattle.reorder.proofs.calls.draw_checked.Reads as draw-checked-reads
-use Rattle.reorder.proofs.calls.refuse_draw.Reads as refuse-draw-reads
-use Rattle.rtp.proofs.settings.in_range.Reads as in-range-reads
 
 outcome : List ℕ → Drawn → DrawOutcome
 outcome area r = record { answer = drawNumbers (r .answer); buffer = r .buffer; area = area }

@@ -1,6 +1,6 @@
 use mathlib.Core.Path.{_≡_, sym, _∙_, ap}
 use mathlib.Core.List.{List, []}
-use mathlib.Core.Bool.{true, not}
+use mathlib.Core.Bool.{true}
 use Prim.Native.Nat.{ℕ}
 use native.Mathlib.Omega.{arith}
 use denote.Ref.{now}
@@ -16,12 +16,6 @@ use Rattle.reorder.proofs.MachineLaws.{owned-machine}
 use borrow.Author.Needs.{needs}
 use Rattle.reorder.proofs.calls.draw_checked.Statement.{statement}
 use Rattle.reorder.proofs.calls.draw_checked.Tie as tie
-use Rattle.reorder.proofs.calls.draw_checked.Reads as reads
-use Rattle.reorder.proofs.calls.draw_checked.Lts as lts
-use Rattle.reorder.proofs.bits.held_in.Reads as held-in-reads
-use Rattle.reorder.proofs.calls.draw_first.Reads as draw-first-reads
-use Rattle.reorder.proofs.calls.refuse_draw.Reads as refuse-draw-reads
-use Rattle.reorder.proofs.well_formed.well_formed.Reads as well-formed-reads
 
 outcome : List ℕ → Drawn → DrawOutcome
 outcome area r = record { answer = drawNumbers (r .answer); buffer = r .buffer; area = area }

@@ -10,13 +10,6 @@ use Rattle.reorder.proofs.DrawLaws.{first-slot, first-short, few, first
 use borrow.Author.Needs.{needs}
 use Rattle.reorder.proofs.calls.draw_first.Statement.{statement}
 use Rattle.reorder.proofs.calls.draw_first.Tie as tie
-use Rattle.reorder.proofs.calls.draw_first.Reads as reads
-use Rattle.reorder.proofs.calls.draw_first.Lts as lts
-use Rattle.formats.proofs.tagging.tag_channel.Reads as tag-channel-reads
-use Rattle.formats.proofs.tagging.tag_class.Reads as tag-class-reads
-use Rattle.reorder.proofs.bits.unmark.Reads as unmark-reads
-use Rattle.reorder.proofs.columns.remove_first.Reads as remove-first-reads
-use Rattle.reorder.proofs.laying.copy_into.Reads as copy-into-reads
 
 slot-at : (s : tie.Start) → getD (s .args .t1 .slots) 0 0 < slots
 slot-at s = first-slot (s .args .t1) (s .args .n) (now (s .args .store)) (now (s .args .area)) (s .pre)

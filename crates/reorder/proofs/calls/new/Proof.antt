@@ -7,10 +7,6 @@ use Rattle.reorder.proofs.CallLaws.{new-in, new-out}
 use borrow.Author.Needs.{needs}
 use Rattle.reorder.proofs.calls.new.Statement.{statement}
 use Rattle.reorder.proofs.calls.new.Tie as tie
-use Rattle.reorder.proofs.calls.new.Reads as reads
-use Rattle.reorder.proofs.calls.new.Lts as lts
-use Rattle.reorder.proofs.buffer.fresh_buffer.Reads as fresh-buffer-reads
-use Rattle.rtp.proofs.settings.in_range.Reads as in-range-reads
 
 -- an outcome by its buffer
 outcome : Prim.Native.Nat.ℕ → Buffer → NewOutcome

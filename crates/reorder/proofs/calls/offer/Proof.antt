@@ -8,11 +8,6 @@ use Rattle.reorder.proofs.CallLaws.{offer-out}
 use borrow.Author.Needs.{needs}
 use Rattle.reorder.proofs.calls.offer.Statement.{statement}
 use Rattle.reorder.proofs.calls.offer.Tie as tie
-use Rattle.reorder.proofs.calls.offer.Reads as reads
-use Rattle.reorder.proofs.calls.offer.Lts as lts
-use Rattle.reorder.proofs.calls.offer_checked.Reads as offer-checked-reads
-use Rattle.reorder.proofs.calls.refuse_offer.Reads as refuse-offer-reads
-use Rattle.rtp.proofs.settings.in_range.Reads as in-range-reads
 
 outcome : List ℕ → List ℕ → Offered → OfferOutcome
 outcome rows store r = record { answer = offerNumbers (r .answer); buffer = r .buffer; rows = rows; store = store }

@@ -23,12 +23,6 @@ use Rattle.reorder.proofs.OfferLaws.{refused-words, refused-offer, word
 use borrow.Author.Needs.{needs}
 use Rattle.reorder.proofs.calls.offer_checked.Statement.{statement}
 use Rattle.reorder.proofs.calls.offer_checked.Tie as tie
-use Rattle.reorder.proofs.calls.offer_checked.Reads as reads
-use Rattle.reorder.proofs.calls.offer_checked.Lts as lts
-use Rattle.packet.proofs.reading.read.Reads as read-reads
-use Rattle.reorder.proofs.calls.offer_rows.Reads as offer-rows-reads
-use Rattle.reorder.proofs.calls.refuse_offer.Reads as refuse-offer-reads
-use Rattle.reorder.proofs.well_formed.well_formed.Reads as well-formed-reads
 
 outcome : List ℕ → List ℕ → Offered → OfferOutcome
 outcome rows store r = record { answer = offerNumbers (r .answer); buffer = r .buffer; rows = rows; store = store }

@@ -1,4 +1,4 @@
-use mathlib.Core.Path.{_≡_, sym, subst}
+use mathlib.Core.Path.{sym, subst}
 use mathlib.Core.List.{List}
 use Prim.Native.Nat.{ℕ}
 use denote.Ref.{now}
@@ -11,10 +11,6 @@ use Rattle.reorder.proofs.OfferLaws.{rows-offer}
 use borrow.Author.Needs.{needs}
 use Rattle.reorder.proofs.calls.offer_rows.Statement.{statement}
 use Rattle.reorder.proofs.calls.offer_rows.Tie as tie
-use Rattle.reorder.proofs.calls.offer_rows.Reads as reads
-use Rattle.reorder.proofs.calls.offer_rows.Lts as lts
-use Rattle.reorder.proofs.judging.judge_rows.Reads as judge-rows-reads
-use Rattle.reorder.proofs.judging.none_judged.Reads as none-judged-reads
 
 abbrev buffer-at : tie.Start → List ℕ → Buffer
 buffer-at s occupied = let a = s .args in assembled (a .buffer .times) (a .buffer .tags) (a .buffer .lengths) (a .buffer .slots) occupied (a .fixed)

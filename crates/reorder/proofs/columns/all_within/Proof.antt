@@ -10,9 +10,6 @@ use borrow.Author.Needs.{needs}
 use native.Mathlib.Omega.{arith}
 use Rattle.reorder.proofs.columns.all_within.Statement.{statement}
 use Rattle.reorder.proofs.columns.all_within.Tie as tie
-use Rattle.reorder.proofs.columns.all_within.Reads as reads
-use Rattle.reorder.proofs.columns.all_within.Lts as lts
-use Rattle.playout.proofs.order.ticks_ahead.Reads as ticks-ahead-reads
 
 abbrev Inv-loop : tie.InvT-loop
 Inv-loop times n time i₀ i = (i ≤ n) × (withinFrom times time (n - i) i ≡ withinFrom times time n 0)

@@ -9,10 +9,6 @@ use Rattle.reorder.proofs.ColumnLaws.{from, side-order, search-none, se
 use borrow.Author.Needs.{needs}
 use Rattle.reorder.proofs.columns.find_place.Statement.{statement}
 use Rattle.reorder.proofs.columns.find_place.Tie as tie
-use Rattle.reorder.proofs.columns.find_place.Reads as reads
-use Rattle.reorder.proofs.columns.find_place.Lts as lts
-use Rattle.formats.proofs.tagging.tag_channel.Reads as tag-channel-reads
-use Rattle.playout.proofs.order.side_of.Reads as side-of-reads
 
 abbrev Inv-loop : tie.InvT-loop
 Inv-loop times tags n time channel i₀ i = (i ≤ n) × (i < n → from times tags time channel i ≡ Ordering·lt)

@@ -3,10 +3,6 @@ use Rattle.reorder.specs.Columns.{fitsFrom}
 use borrow.Author.Needs.{needs}
 use Rattle.reorder.proofs.columns.in_stretch.Statement.{statement}
 use Rattle.reorder.proofs.columns.in_stretch.Tie as tie
-use Rattle.reorder.proofs.columns.in_stretch.Reads as reads
-use Rattle.reorder.proofs.columns.in_stretch.Lts as lts
-use Rattle.playout.proofs.order.ticks_ahead.Reads as ticks-ahead-reads
-use Rattle.reorder.proofs.columns.all_within.Reads as all-within-reads
 
 returns : tie.Need-returns
 unfolding fitsFrom

@@ -8,8 +8,6 @@ use borrow.Author.Needs.{needs}
 use native.Mathlib.Omega.{arith}
 use Rattle.reorder.proofs.columns.insert_at.Statement.{statement}
 use Rattle.reorder.proofs.columns.insert_at.Tie as tie
-use Rattle.reorder.proofs.columns.insert_at.Reads as reads
-use Rattle.reorder.proofs.columns.insert_at.Lts as lts
 
 abbrev Inv-loop : tie.InvT-loop
 Inv-loop n at value values₀ carry₀ i₀ values carry i = (i ≤ n + 1) × (inserting values (n + 1) (n + 1 - i) i carry ≡ insertAt values₀ n at value) × (length values ≡ slots)

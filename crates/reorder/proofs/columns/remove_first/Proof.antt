@@ -8,8 +8,6 @@ use borrow.Author.Needs.{needs}
 use native.Mathlib.Omega.{arith}
 use Rattle.reorder.proofs.columns.remove_first.Statement.{statement}
 use Rattle.reorder.proofs.columns.remove_first.Tie as tie
-use Rattle.reorder.proofs.columns.remove_first.Reads as reads
-use Rattle.reorder.proofs.columns.remove_first.Lts as lts
 
 abbrev Inv-loop : tie.InvT-loop
 Inv-loop n values₀ i₀ values i = (1 ≤ i) × (i ≤ n) × (removing values n (n - i) (i - 1) ≡ removeFirst values₀ n) × (length values ≡ slots)

@@ -10,8 +10,6 @@ use borrow.Author.Needs.{needs}
 use native.Mathlib.Omega.{arith}
 use Rattle.reorder.proofs.columns.zero_from.Statement.{statement}
 use Rattle.reorder.proofs.columns.zero_from.Tie as tie
-use Rattle.reorder.proofs.columns.zero_from.Reads as reads
-use Rattle.reorder.proofs.columns.zero_from.Lts as lts
 
 abbrev Inv-loop : tie.InvT-loop
 Inv-loop column n values any₀ i₀ any i = (i ≤ slots) × (cond (eqb any 0) (zeros (drop i values)) false ≡ zeros (drop n column)) × (length values ≡ slots)

@@ -4,9 +4,6 @@ use borrow.Author.Tests.{eq-eqb, ne-eqb}
 use borrow.Author.Needs.{needs}
 use Rattle.reorder.proofs.judging.is_far.Statement.{statement}
 use Rattle.reorder.proofs.judging.is_far.Tie as tie
-use Rattle.reorder.proofs.judging.is_far.Reads as reads
-use Rattle.reorder.proofs.judging.is_far.Lts as lts
-use Rattle.reorder.proofs.columns.in_stretch.Reads as in-stretch-reads
 
 in-stretch-requires : tie.Need-in-stretch-requires
 in-stretch-requires c κs = search needs

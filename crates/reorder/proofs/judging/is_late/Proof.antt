@@ -1,13 +1,9 @@
-use mathlib.Core.Path.{_∙_, sym, ap}
+use mathlib.Core.Path.{ap}
 use mathlib.Core.Bool.{not}
 use borrow.Author.Tests.{eq-eqb, ne-eqb}
 use borrow.Author.Needs.{needs}
 use Rattle.reorder.proofs.judging.is_late.Statement.{statement}
 use Rattle.reorder.proofs.judging.is_late.Tie as tie
-use Rattle.reorder.proofs.judging.is_late.Reads as reads
-use Rattle.reorder.proofs.judging.is_late.Lts as lts
-use Rattle.formats.proofs.tagging.tag_channel.Reads as tag-channel-reads
-use Rattle.reorder.proofs.well_formed.pair_after.Reads as pair-after-reads
 
 tag-channel-requires : tie.Need-tag-channel-requires
 tag-channel-requires c κs = search needs

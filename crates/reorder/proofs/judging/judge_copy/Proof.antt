@@ -5,17 +5,11 @@ use Rattle.playout.specs.Copies.{Copy}
 use Rattle.playout.specs.Verdicts.{isLate, isFar}
 use Rattle.reorder.specs.declared.buffer.Buffer.{Buffer}
 use Rattle.reorder.specs.Layout.{decode, assembled}
-use Rattle.reorder.specs.Laying.{isFarOf, copyIn}
+use Rattle.reorder.specs.Laying.{copyIn}
 use Rattle.reorder.proofs.VerdictLaws.{step-late, far-is, step-far}
 use borrow.Author.Needs.{needs}
 use Rattle.reorder.proofs.judging.judge_copy.Statement.{statement}
 use Rattle.reorder.proofs.judging.judge_copy.Tie as tie
-use Rattle.reorder.proofs.judging.judge_copy.Reads as reads
-use Rattle.reorder.proofs.judging.judge_copy.Lts as lts
-use Rattle.reorder.proofs.bits.held_in.Reads as held-in-reads
-use Rattle.reorder.proofs.judging.is_far.Reads as is-far-reads
-use Rattle.reorder.proofs.judging.is_late.Reads as is-late-reads
-use Rattle.reorder.proofs.judging.lay_copy.Reads as lay-copy-reads
 
 abbrev buffer-at : tie.Start → Buffer
 buffer-at s = let a = s .args in assembled (now (a .times)) (now (a .tags)) (now (a .lengths)) (now (a .slots)) (a .occupied) (a .fixed)

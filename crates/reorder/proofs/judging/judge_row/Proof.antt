@@ -1,8 +1,8 @@
 use mathlib.Core.Path.{_≡_, sym, ap, subst, _∙_}
 use mathlib.Core.List.{List, _∷_}
-use Prim.Native.Nat.{ℕ, _+_, _-_, _≤_}
+use Prim.Native.Nat.{ℕ, _+_, _-_}
 use native.Mathlib.Omega.{arith}
-use lib.ListN.{length, getD, take, drop}
+use lib.ListN.{getD, take, drop}
 use denote.Ref.{now}
 use Rattle.formats.specs.Frames.{noData}
 use Rattle.formats.specs.Tags.{tagClass}
@@ -16,11 +16,6 @@ use Rattle.reorder.proofs.RowStepLaws.{rows-split, skip-asks, skip-give
 use borrow.Author.Needs.{needs}
 use Rattle.reorder.proofs.judging.judge_row.Statement.{statement}
 use Rattle.reorder.proofs.judging.judge_row.Tie as tie
-use Rattle.reorder.proofs.judging.judge_row.Reads as reads
-use Rattle.reorder.proofs.judging.judge_row.Lts as lts
-use Rattle.formats.proofs.tagging.tag_class.Reads as tag-class-reads
-use Rattle.reorder.proofs.judging.judge_copy.Reads as judge-copy-reads
-use Rattle.reorder.proofs.tally.count_verdict.Reads as count-verdict-reads
 
 abbrev buffer-at : tie.Start → Buffer
 buffer-at s = let a = s .args in assembled (now (a .times)) (now (a .tags)) (now (a .lengths)) (now (a .slots)) (a .sum .occupied) (a .fixed)

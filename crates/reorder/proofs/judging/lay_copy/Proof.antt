@@ -16,12 +16,6 @@ use Rattle.reorder.proofs.PlaceSearchLaws.{parts}
 use borrow.Author.Needs.{needs}
 use Rattle.reorder.proofs.judging.lay_copy.Statement.{statement}
 use Rattle.reorder.proofs.judging.lay_copy.Tie as tie
-use Rattle.reorder.proofs.judging.lay_copy.Reads as reads
-use Rattle.reorder.proofs.judging.lay_copy.Lts as lts
-use Rattle.formats.proofs.tagging.tag_channel.Reads as tag-channel-reads
-use Rattle.reorder.proofs.columns.find_place.Reads as find-place-reads
-use Rattle.reorder.proofs.laying.insert_copy.Reads as insert-copy-reads
-use Rattle.reorder.proofs.laying.replace_copy.Reads as replace-copy-reads
 
 abbrev buffer-at : tie.Start → Buffer
 buffer-at s = let a = s .args in assembled (now (a .times)) (now (a .tags)) (now (a .lengths)) (now (a .slots)) (a .occupied) (a .fixed)

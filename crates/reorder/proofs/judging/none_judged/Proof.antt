@@ -6,9 +6,6 @@ use Rattle.reorder.specs.declared.tally.Tally.{Tally}
 use Rattle.reorder.specs.declared.judging.Judged.{Judged}
 use Rattle.reorder.proofs.judging.none_judged.Statement.{statement}
 use Rattle.reorder.proofs.judging.none_judged.Tie as tie
-use Rattle.reorder.proofs.judging.none_judged.Reads as reads
-use Rattle.reorder.proofs.judging.none_judged.Lts as lts
-use Rattle.reorder.proofs.tally.no_tally.Reads as no-tally-reads
 
 judged : List ℕ → Tally → Judged
 judged occupied t = record { tally = t; occupied = occupied }

@@ -9,8 +9,6 @@ use lib.Seq.{paste, paste-zero, paste-suc}
 use denote.Ref.{now}
 use Rattle.reorder.proofs.laying.copy_into.Statement.{statement}
 use Rattle.reorder.proofs.laying.copy_into.Tie as tie
-use Rattle.reorder.proofs.laying.copy_into.Reads as reads
-use Rattle.reorder.proofs.laying.copy_into.Lts as lts
 
 abbrev Inv-loop : tie.InvT-loop
 Inv-loop area₀ at src i₀ area i = (i ≤ length src) × (area ≡ paste area₀ at src i) × (length area ≡ length area₀)

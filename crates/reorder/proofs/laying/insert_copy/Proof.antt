@@ -11,12 +11,6 @@ use Rattle.reorder.proofs.FreeLaws.{free-when-room, free-unmarked}
 use borrow.Author.Needs.{needs}
 use Rattle.reorder.proofs.laying.insert_copy.Statement.{statement}
 use Rattle.reorder.proofs.laying.insert_copy.Tie as tie
-use Rattle.reorder.proofs.laying.insert_copy.Reads as reads
-use Rattle.reorder.proofs.laying.insert_copy.Lts as lts
-use Rattle.reorder.proofs.bits.lowest_free.Reads as lowest-free-reads
-use Rattle.reorder.proofs.bits.mark.Reads as mark-reads
-use Rattle.reorder.proofs.columns.insert_at.Reads as insert-at-reads
-use Rattle.reorder.proofs.laying.copy_into.Reads as copy-into-reads
 
 slot-at : (c : tie.After-lowest-free) → c .lowest-free .result < slots
 slot-at c = rw (c .lowest-free .ensures) (free-when-room (c .before .before .before .args .occupied) (omega (arith, c .before .before .before .pre .held, c .before .before .before .pre .space)))

@@ -4,7 +4,7 @@ use lib.ListN.{getD, take, drop}
 use Rattle.formats.specs.Tags.{tagClass}
 use Rattle.playout.specs.Copies.{betterFrame}
 use Rattle.reorder.specs.declared.laying.FrameHead.{FrameHead}
-use mathlib.Core.Path.{_≡_, sym, _∙_, ap}
+use mathlib.Core.Path.{_≡_, sym, _∙_}
 use mathlib.Core.Bool.{true, false}
 use native.Mathlib.Omega.{arith}
 use denote.Ref.{now}
@@ -13,11 +13,6 @@ use Rattle.reorder.specs.Laying.{classIn, beats}
 use borrow.Author.Needs.{needs}
 use Rattle.reorder.proofs.laying.replace_copy.Statement.{statement}
 use Rattle.reorder.proofs.laying.replace_copy.Tie as tie
-use Rattle.reorder.proofs.laying.replace_copy.Reads as reads
-use Rattle.reorder.proofs.laying.replace_copy.Lts as lts
-use Rattle.formats.proofs.tagging.tag_class.Reads as tag-class-reads
-use Rattle.playout.proofs.compare.is_better.Reads as is-better-reads
-use Rattle.reorder.proofs.laying.copy_into.Reads as copy-into-reads
 
 -- the part of the store from the slot's start to the frame's end
 part-is : (h : FrameHead) (frame tags lengths slots' : List ℕ) (at : ℕ) (store : List ℕ) (k m : ℕ) → k ≡ classIn h → m ≡ tagClass (getD tags at 0)

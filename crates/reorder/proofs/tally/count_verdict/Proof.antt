@@ -1,8 +1,6 @@
 use borrow.Author.Needs.{needs}
 use Rattle.reorder.proofs.tally.count_verdict.Statement.{statement}
 use Rattle.reorder.proofs.tally.count_verdict.Tie as tie
-use Rattle.reorder.proofs.tally.count_verdict.Reads as reads
-use Rattle.reorder.proofs.tally.count_verdict.Lts as lts
 
 enum-told : tie.Need-enum-told
 enum-told c = search needs

@@ -1,8 +1,6 @@
 use borrow.Author.Tests.{eq-eqb, ne-eqb}
 use Rattle.reorder.proofs.well_formed.base_of.Statement.{statement}
 use Rattle.reorder.proofs.well_formed.base_of.Tie as tie
-use Rattle.reorder.proofs.well_formed.base_of.Reads as reads
-use Rattle.reorder.proofs.well_formed.base_of.Lts as lts
 
 returns : tie.Need-returns
 returns c = rw (eq-eqb _ _ (c .if1 .taken))

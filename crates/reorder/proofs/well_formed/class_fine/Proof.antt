@@ -8,11 +8,6 @@ use borrow.Author.Tests.{not-true, not-false}
 use borrow.Author.Needs.{needs}
 use Rattle.reorder.proofs.well_formed.class_fine.Statement.{statement}
 use Rattle.reorder.proofs.well_formed.class_fine.Tie as tie
-use Rattle.reorder.proofs.well_formed.class_fine.Reads as reads
-use Rattle.reorder.proofs.well_formed.class_fine.Lts as lts
-use Rattle.formats.proofs.tagging.tag_channel.Reads as tag-channel-reads
-use Rattle.formats.proofs.tagging.tag_class.Reads as tag-class-reads
-use Rattle.reorder.proofs.well_formed.is_allowed.Reads as is-allowed-reads
 
 tag-class-requires : tie.Need-tag-class-requires
 tag-class-requires c κs = search needs

@@ -13,15 +13,6 @@ use Rattle.reorder.proofs.PositionLaws.{Told, turn-early, turn-far, tur
 use Rattle.reorder.proofs.CheckLaws.{passed, failed, claimed-free, restFine, fine-end, fine-class, fine-turn, fine-taken, fine-more}
 use Rattle.reorder.proofs.well_formed.entries_pass.Statement.{statement}
 use Rattle.reorder.proofs.well_formed.entries_pass.Tie as tie
-use Rattle.reorder.proofs.well_formed.entries_pass.Reads as reads
-use Rattle.reorder.proofs.well_formed.entries_pass.Lts as lts
-use Rattle.formats.proofs.tagging.tag_channel.Reads as tag-channel-reads
-use Rattle.reorder.proofs.bits.claim.Reads as claim-reads
-use Rattle.reorder.proofs.bits.same_words.Reads as same-words-reads
-use Rattle.reorder.proofs.well_formed.base_of.Reads as base-of-reads
-use Rattle.reorder.proofs.well_formed.position.Reads as position-reads
-use Rattle.reorder.proofs.well_formed.class_fine.Reads as class-fine-reads
-use Rattle.reorder.proofs.well_formed.start_of.Reads as start-of-reads
 
 abbrev Inv-loop : tie.InvT-loop
 Inv-loop times tags lengths slots occupied fixed n held table base least₀ seen₀ i₀ least seen i =

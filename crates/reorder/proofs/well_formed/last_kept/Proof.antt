@@ -8,8 +8,6 @@ use borrow.Author.Tests.{eq-eqb, ne-eqb, eqb-true, ltb-true}
 use borrow.Author.Needs.{needs}
 use Rattle.reorder.proofs.well_formed.last_kept.Statement.{statement}
 use Rattle.reorder.proofs.well_formed.last_kept.Tie as tie
-use Rattle.reorder.proofs.well_formed.last_kept.Reads as reads
-use Rattle.reorder.proofs.well_formed.last_kept.Lts as lts
 
 returns : tie.Need-returns
 returns c =

@@ -4,9 +4,6 @@ use Rattle.reorder.proofs.CheckLaws.{isAfterSide, after-is}
 use borrow.Author.Needs.{needs}
 use Rattle.reorder.proofs.well_formed.pair_after.Statement.{statement}
 use Rattle.reorder.proofs.well_formed.pair_after.Tie as tie
-use Rattle.reorder.proofs.well_formed.pair_after.Reads as reads
-use Rattle.reorder.proofs.well_formed.pair_after.Lts as lts
-use Rattle.playout.proofs.order.side_of.Reads as side-of-reads
 
 side-of-requires : tie.Need-side-of-requires
 side-of-requires c κs = search needs

@@ -2,8 +2,6 @@ use borrow.Author.Tests.{eq-eqb, ne-eqb}
 use borrow.Author.Needs.{needs}
 use Rattle.reorder.proofs.well_formed.start_of.Statement.{statement}
 use Rattle.reorder.proofs.well_formed.start_of.Tie as tie
-use Rattle.reorder.proofs.well_formed.start_of.Reads as reads
-use Rattle.reorder.proofs.well_formed.start_of.Lts as lts
 
 returns : tie.Need-returns
 returns c = rw (eq-eqb _ _ (c .if1 .taken))

@@ -2,9 +2,6 @@ use borrow.Author.Tests.{not-true, not-false}
 use borrow.Author.Needs.{needs}
 use Rattle.reorder.proofs.well_formed.unused_zero.Statement.{statement}
 use Rattle.reorder.proofs.well_formed.unused_zero.Tie as tie
-use Rattle.reorder.proofs.well_formed.unused_zero.Reads as reads
-use Rattle.reorder.proofs.well_formed.unused_zero.Lts as lts
-use Rattle.reorder.proofs.columns.zero_from.Reads as zero-from-reads
 
 zero-from-requires : tie.Need-zero-from-requires
 zero-from-requires c κs = search needs

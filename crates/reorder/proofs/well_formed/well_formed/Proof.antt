@@ -5,12 +5,6 @@ use Rattle.reorder.proofs.PassLaws.{last-not, rest-not, formed-entries}
 use borrow.Author.Needs.{needs}
 use Rattle.reorder.proofs.well_formed.well_formed.Statement.{statement}
 use Rattle.reorder.proofs.well_formed.well_formed.Tie as tie
-use Rattle.reorder.proofs.well_formed.well_formed.Reads as reads
-use Rattle.reorder.proofs.well_formed.well_formed.Lts as lts
-use Rattle.reorder.proofs.bits.held_in.Reads as held-in-reads
-use Rattle.reorder.proofs.well_formed.entries_pass.Reads as entries-pass-reads
-use Rattle.reorder.proofs.well_formed.last_kept.Reads as last-kept-reads
-use Rattle.reorder.proofs.well_formed.unused_zero.Reads as unused-zero-reads
 
 last-kept-requires : tie.Need-last-kept-requires
 last-kept-requires c κs = search needs

@@ -3,8 +3,6 @@ use native.Mathlib.Omega.{arith}
 use borrow.Author.Needs.{needs}
 use Rattle.rtp.proofs.bytes.read_u16.Statement.{statement}
 use Rattle.rtp.proofs.bytes.read_u16.Tie as tie
-use Rattle.rtp.proofs.bytes.read_u16.Reads as reads
-use Rattle.rtp.proofs.bytes.read_u16.Lts as lts
 
 shared-slice-read-high : tie.Need-shared-slice-read-high
 shared-slice-read-high c = search needs

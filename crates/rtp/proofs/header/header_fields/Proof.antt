@@ -1,12 +1,7 @@
 use Rattle.rtp.specs.Header.{fields}
-use borrow.Author.Tests.{le-ltb, lt-ltb, le-leb, lt-leb, eq-eqb, ne-eqb}
 use borrow.Author.Needs.{needs}
 use Rattle.rtp.proofs.header.header_fields.Statement.{statement}
 use Rattle.rtp.proofs.header.header_fields.Tie as tie
-use Rattle.rtp.proofs.header.header_fields.Reads as reads
-use Rattle.rtp.proofs.header.header_fields.Lts as lts
-use Rattle.rtp.proofs.bytes.read_u16.Reads as read-u16-reads
-use Rattle.rtp.proofs.bytes.read_u32.Reads as read-u32-reads
 
 shared-slice-read-second : tie.Need-shared-slice-read-second
 shared-slice-read-second c = search needs

@@ -1,11 +1,8 @@
 use Rattle.rtp.specs.Header.{payloadEnd}
-use borrow.Author.Tests.{le-ltb, lt-ltb, le-leb, lt-leb, eq-eqb, ne-eqb}
+use borrow.Author.Tests.{le-ltb, lt-ltb, eq-eqb, ne-eqb}
 use borrow.Author.Needs.{needs}
 use Rattle.rtp.proofs.header.payload_end.Statement.{statement}
 use Rattle.rtp.proofs.header.payload_end.Tie as tie
-use Rattle.rtp.proofs.header.payload_end.Reads as reads
-use Rattle.rtp.proofs.header.payload_end.Lts as lts
-use Rattle.rtp.proofs.bytes.wide.Reads as wide-reads
 
 shared-slice-read-wide : tie.Need-shared-slice-read-wide
 shared-slice-read-wide c = search needs

@@ -1,12 +1,8 @@
 use Rattle.rtp.specs.Header.{payloadStart}
-use borrow.Author.Tests.{le-ltb, lt-ltb, le-leb, lt-leb, eq-eqb, ne-eqb}
+use borrow.Author.Tests.{le-ltb, lt-ltb, eq-eqb, ne-eqb}
 use borrow.Author.Needs.{needs}
 use Rattle.rtp.proofs.header.payload_start.Statement.{statement}
 use Rattle.rtp.proofs.header.payload_start.Tie as tie
-use Rattle.rtp.proofs.header.payload_start.Reads as reads
-use Rattle.rtp.proofs.header.payload_start.Lts as lts
-use Rattle.rtp.proofs.bytes.read_u16.Reads as read-u16-reads
-use Rattle.rtp.proofs.bytes.wide.Reads as wide-reads
 
 shared-slice-read-wide : tie.Need-shared-slice-read-wide
 shared-slice-read-wide c = search needs

@@ -1,15 +1,10 @@
 use mathlib.Core.Path.{sym, _∙_}
 use Rattle.rtp.proofs.HeaderLaws.{start-within}
 use Rattle.rtp.specs.Header.{header}
-use borrow.Author.Tests.{le-ltb, lt-ltb, le-leb, lt-leb, eq-eqb, ne-eqb}
+use borrow.Author.Tests.{le-ltb, lt-ltb, eq-eqb, ne-eqb}
 use borrow.Author.Needs.{needs}
 use Rattle.rtp.proofs.header.read_header.Statement.{statement}
 use Rattle.rtp.proofs.header.read_header.Tie as tie
-use Rattle.rtp.proofs.header.read_header.Reads as reads
-use Rattle.rtp.proofs.header.read_header.Lts as lts
-use Rattle.rtp.proofs.header.header_fields.Reads as header-fields-reads
-use Rattle.rtp.proofs.header.payload_end.Reads as payload-end-reads
-use Rattle.rtp.proofs.header.payload_start.Reads as payload-start-reads
 
 returns : tie.Need-returns
 unfolding header

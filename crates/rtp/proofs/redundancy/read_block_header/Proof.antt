@@ -1,11 +1,8 @@
 use Rattle.rtp.specs.Redundancy.{blockHeader}
-use borrow.Author.Tests.{le-ltb, lt-ltb, le-leb, lt-leb, eq-eqb, ne-eqb}
+use borrow.Author.Tests.{le-ltb, lt-ltb, eq-eqb, ne-eqb}
 use borrow.Author.Needs.{needs}
 use Rattle.rtp.proofs.redundancy.read_block_header.Statement.{statement}
 use Rattle.rtp.proofs.redundancy.read_block_header.Tie as tie
-use Rattle.rtp.proofs.redundancy.read_block_header.Reads as reads
-use Rattle.rtp.proofs.redundancy.read_block_header.Lts as lts
-use Rattle.rtp.proofs.bytes.wide.Reads as wide-reads
 
 returns : tie.Need-returns
 unfolding blockHeader

@@ -1,11 +1,8 @@
 use Rattle.rtp.specs.Redundancy.{redundancyHeaders, headersAnswer}
-use borrow.Author.Tests.{le-ltb, lt-ltb, le-leb, lt-leb, eq-eqb, ne-eqb}
+use borrow.Author.Tests.{le-ltb, lt-ltb}
 use borrow.Author.Needs.{needs}
 use Rattle.rtp.proofs.redundancy.read_headers.Statement.{statement}
 use Rattle.rtp.proofs.redundancy.read_headers.Tie as tie
-use Rattle.rtp.proofs.redundancy.read_headers.Reads as reads
-use Rattle.rtp.proofs.redundancy.read_headers.Lts as lts
-use Rattle.rtp.proofs.redundancy.headers_from.Reads as headers-from-reads
 
 returns : tie.Need-returns
 unfolding redundancyHeaders headersAnswer

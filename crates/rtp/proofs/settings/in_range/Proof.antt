@@ -1,11 +1,8 @@
 use Rattle.rtp.specs.Ranges.{inRange}
-use borrow.Author.Tests.{le-ltb, lt-ltb, le-leb, lt-leb, eq-eqb, ne-eqb}
+use borrow.Author.Tests.{le-ltb, lt-ltb, eq-eqb, ne-eqb}
 use borrow.Author.Needs.{needs}
 use Rattle.rtp.proofs.settings.in_range.Statement.{statement}
 use Rattle.rtp.proofs.settings.in_range.Tie as tie
-use Rattle.rtp.proofs.settings.in_range.Reads as reads
-use Rattle.rtp.proofs.settings.in_range.Lts as lts
-use Rattle.rtp.proofs.settings.max_channels.Reads as max-channels-reads
 
 returns : tie.Need-returns
 unfolding inRange

@@ -1,10 +1,7 @@
-use borrow.Author.Needs.{needs}
 use Rattle.rtp.specs.Ranges.{maxChannels}
-use borrow.Author.Tests.{le-ltb, lt-ltb, le-leb, lt-leb, eq-eqb, ne-eqb}
+use borrow.Author.Tests.{eq-eqb, ne-eqb}
 use Rattle.rtp.proofs.settings.max_channels.Statement.{statement}
 use Rattle.rtp.proofs.settings.max_channels.Tie as tie
-use Rattle.rtp.proofs.settings.max_channels.Reads as reads
-use Rattle.rtp.proofs.settings.max_channels.Lts as lts
 
 returns : tie.Need-returns
 unfolding maxChannels

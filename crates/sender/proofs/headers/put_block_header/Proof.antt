@@ -5,8 +5,6 @@ use Rattle.rtp.proofs.AreaLaws.{over-four}
 use borrow.Author.Needs.{needs}
 use Rattle.sender.proofs.headers.put_block_header.Statement.{statement}
 use Rattle.sender.proofs.headers.put_block_header.Tie as tie
-use Rattle.sender.proofs.headers.put_block_header.Reads as reads
-use Rattle.sender.proofs.headers.put_block_header.Lts as lts
 
 add-out : tie.Need-add-out
 add-out c = search needs

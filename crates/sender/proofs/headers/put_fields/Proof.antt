@@ -6,10 +6,6 @@ use Rattle.sender.specs.Packets.{two, four}
 use borrow.Author.Needs.{needs}
 use Rattle.sender.proofs.headers.put_fields.Statement.{statement}
 use Rattle.sender.proofs.headers.put_fields.Tie as tie
-use Rattle.sender.proofs.headers.put_fields.Reads as reads
-use Rattle.sender.proofs.headers.put_fields.Lts as lts
-use Rattle.sender.proofs.headers.put_stamps.Reads as put-stamps-reads
-use Rattle.sender.proofs.headers.put_u16.Reads as put-u16-reads
 
 put-u16-requires : tie.Need-put-u16-requires
 put-u16-requires c κs = search needs

@@ -11,10 +11,6 @@ use Rattle.sender.specs.Packets.{two, four}
 use borrow.Author.Needs.{needs}
 use Rattle.sender.proofs.headers.put_header.Statement.{statement}
 use Rattle.sender.proofs.headers.put_header.Tie as tie
-use Rattle.sender.proofs.headers.put_header.Reads as reads
-use Rattle.sender.proofs.headers.put_header.Lts as lts
-use Rattle.sender.proofs.headers.put_fields.Reads as put-fields-reads
-use Rattle.sender.proofs.headers.second_byte.Reads as second-byte-reads
 
 -- the area with the first two bytes
 abbrev begun : tie.After-second-byte → List ℕ

@@ -5,9 +5,6 @@ use Rattle.sender.specs.Packets.{four}
 use borrow.Author.Needs.{needs}
 use Rattle.sender.proofs.headers.put_stamps.Statement.{statement}
 use Rattle.sender.proofs.headers.put_stamps.Tie as tie
-use Rattle.sender.proofs.headers.put_stamps.Reads as reads
-use Rattle.sender.proofs.headers.put_stamps.Lts as lts
-use Rattle.sender.proofs.headers.put_u32.Reads as put-u32-reads
 
 put-u32-requires : tie.Need-put-u32-requires
 put-u32-requires c κs = search needs

@@ -3,8 +3,6 @@ use Rattle.encoder.proofs.StoreLaws.{over-two}
 use borrow.Author.Needs.{needs}
 use Rattle.sender.proofs.headers.put_u16.Statement.{statement}
 use Rattle.sender.proofs.headers.put_u16.Tie as tie
-use Rattle.sender.proofs.headers.put_u16.Reads as reads
-use Rattle.sender.proofs.headers.put_u16.Lts as lts
 
 cast-out : tie.Need-cast-out
 cast-out c = search needs

@@ -5,8 +5,6 @@ use Rattle.rtp.proofs.AreaLaws.{over-four}
 use borrow.Author.Needs.{needs}
 use Rattle.sender.proofs.headers.put_u32.Statement.{statement}
 use Rattle.sender.proofs.headers.put_u32.Tie as tie
-use Rattle.sender.proofs.headers.put_u32.Reads as reads
-use Rattle.sender.proofs.headers.put_u32.Lts as lts
 
 cast-out : tie.Need-cast-out
 cast-out c = search needs

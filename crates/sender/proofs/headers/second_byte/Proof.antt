@@ -3,8 +3,6 @@ use borrow.Author.Tests.{eq-eqb, ne-eqb}
 use borrow.Author.Needs.{needs}
 use Rattle.sender.proofs.headers.second_byte.Statement.{statement}
 use Rattle.sender.proofs.headers.second_byte.Tie as tie
-use Rattle.sender.proofs.headers.second_byte.Reads as reads
-use Rattle.sender.proofs.headers.second_byte.Lts as lts
 
 returns : tie.Need-returns
 returns c = simp (eq-eqb _ _ (c .if1 .taken)) (omega arith)

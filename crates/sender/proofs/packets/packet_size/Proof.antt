@@ -8,10 +8,6 @@ use Rattle.sender.proofs.ListsLaws.{told-none, told-bytes, lists-small}
 use borrow.Author.Needs.{needs}
 use Rattle.sender.proofs.packets.packet_size.Statement.{statement}
 use Rattle.sender.proofs.packets.packet_size.Tie as tie
-use Rattle.sender.proofs.packets.packet_size.Reads as reads
-use Rattle.sender.proofs.packets.packet_size.Lts as lts
-use Rattle.sender.proofs.packets.within_packet.Reads as within-packet-reads
-use Rattle.sender.proofs.sizes.measure_lists.Reads as measure-lists-reads
 
 size-at : (c : tie.After-size) → let a = c .before .before .before .before .before .args in listsNumbers (a .asked) (a .time) (now (a .counts)) (now (a .rows)) ≡ record { refusal = 0; count = c .size .given .0 .0 }
 size-at c = told-bytes _ _ _ (c .size .given .1) (c .before .before .measure-lists .ensures)

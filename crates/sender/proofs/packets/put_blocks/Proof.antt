@@ -6,10 +6,6 @@ use Rattle.sender.proofs.ListsLaws.{length-headers}
 use borrow.Author.Needs.{needs}
 use Rattle.sender.proofs.packets.put_blocks.Statement.{statement}
 use Rattle.sender.proofs.packets.put_blocks.Tie as tie
-use Rattle.sender.proofs.packets.put_blocks.Reads as reads
-use Rattle.sender.proofs.packets.put_blocks.Lts as lts
-use Rattle.sender.proofs.packets.put_headers.Reads as put-headers-reads
-use Rattle.sender.proofs.packets.put_payloads.Reads as put-payloads-reads
 
 put-headers-requires : tie.Need-put-headers-requires
 put-headers-requires c κs = search needs

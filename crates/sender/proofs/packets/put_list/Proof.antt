@@ -7,9 +7,6 @@ use Rattle.sender.proofs.PutLaws.{list-writing, list-count}
 use borrow.Author.Needs.{needs}
 use Rattle.sender.proofs.packets.put_list.Statement.{statement}
 use Rattle.sender.proofs.packets.put_list.Tie as tie
-use Rattle.sender.proofs.packets.put_list.Reads as reads
-use Rattle.sender.proofs.packets.put_list.Lts as lts
-use Rattle.encoder.proofs.writing.write_payload.Reads as write-payload-reads
 
 write-payload-requires : tie.Need-write-payload-requires
 write-payload-requires c κs = search needs

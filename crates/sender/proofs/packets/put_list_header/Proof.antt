@@ -2,11 +2,6 @@ use mathlib.Core.Path.{_∙_}
 use borrow.Author.Needs.{needs}
 use Rattle.sender.proofs.packets.put_list_header.Statement.{statement}
 use Rattle.sender.proofs.packets.put_list_header.Tie as tie
-use Rattle.sender.proofs.packets.put_list_header.Reads as reads
-use Rattle.sender.proofs.packets.put_list_header.Lts as lts
-use Rattle.sender.proofs.headers.put_block_header.Reads as put-block-header-reads
-use Rattle.sender.proofs.sizes.list_size.Reads as list-size-reads
-use Rattle.sender.proofs.sizes.offset_of.Reads as offset-of-reads
 
 offset-of-requires : tie.Need-offset-of-requires
 offset-of-requires c κs = search needs

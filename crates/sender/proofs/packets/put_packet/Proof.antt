@@ -16,11 +16,6 @@ use Rattle.sender.proofs.SendingLaws.{Plain, plain-packet, Redundant, r
 use borrow.Author.Needs.{needs}
 use Rattle.sender.proofs.packets.put_packet.Statement.{statement}
 use Rattle.sender.proofs.packets.put_packet.Tie as tie
-use Rattle.sender.proofs.packets.put_packet.Reads as reads
-use Rattle.sender.proofs.packets.put_packet.Lts as lts
-use Rattle.sender.proofs.headers.put_header.Reads as put-header-reads
-use Rattle.sender.proofs.packets.put_blocks.Reads as put-blocks-reads
-use Rattle.sender.proofs.packets.put_payloads.Reads as put-payloads-reads
 
 abbrev heading : tie.Start → Heading
 heading c = record { marker = c .args .marker; sequence = c .args .sequence; source = c .args .source }

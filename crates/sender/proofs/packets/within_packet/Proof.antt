@@ -1,8 +1,6 @@
 use borrow.Author.Tests.{lt-ltb, le-ltb}
 use Rattle.sender.proofs.packets.within_packet.Statement.{statement}
 use Rattle.sender.proofs.packets.within_packet.Tie as tie
-use Rattle.sender.proofs.packets.within_packet.Reads as reads
-use Rattle.sender.proofs.packets.within_packet.Lts as lts
 
 returns : tie.Need-returns
 returns c = rw (lt-ltb _ _ (c .if1 .taken))

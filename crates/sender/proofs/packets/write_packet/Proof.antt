@@ -16,14 +16,6 @@ use Rattle.sender.proofs.SendingLaws.{assembled-numbers, Fitting, fitti
 use borrow.Author.Needs.{needs}
 use Rattle.sender.proofs.packets.write_packet.Statement.{statement}
 use Rattle.sender.proofs.packets.write_packet.Tie as tie
-use Rattle.sender.proofs.packets.write_packet.Reads as reads
-use Rattle.sender.proofs.packets.write_packet.Lts as lts
-use Rattle.encoder.proofs.lists.any_outside.Reads as any-outside-reads
-use Rattle.rtp.proofs.settings.in_range.Reads as in-range-reads
-use Rattle.sender.proofs.packets.packet_size.Reads as packet-size-reads
-use Rattle.sender.proofs.packets.put_packet.Reads as put-packet-reads
-use Rattle.sender.proofs.sizes.counts_fit.Reads as counts-fit-reads
-use Rattle.sender.proofs.sizes.primary_time.Reads as primary-time-reads
 
 abbrev heading : tie.Start → Heading
 heading c = record { marker = c .args .marker; sequence = c .args .sequence; source = c .args .source }

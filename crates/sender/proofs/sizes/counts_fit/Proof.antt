@@ -2,9 +2,6 @@ use borrow.Author.Tests.{lt-ltb, le-ltb, eq-eqb, ne-eqb}
 use borrow.Author.Needs.{needs}
 use Rattle.sender.proofs.sizes.counts_fit.Statement.{statement}
 use Rattle.sender.proofs.sizes.counts_fit.Tie as tie
-use Rattle.sender.proofs.sizes.counts_fit.Reads as reads
-use Rattle.sender.proofs.sizes.counts_fit.Lts as lts
-use Rattle.sender.proofs.sizes.total_of.Reads as total-of-reads
 
 returns : tie.Need-returns
 returns c = rw (eq-eqb _ _ (c .if1 .taken))

@@ -7,8 +7,6 @@ use Rattle.encoder.specs.Lists.{firstTime}
 use borrow.Author.Needs.{needs}
 use Rattle.sender.proofs.sizes.first_time.Statement.{statement}
 use Rattle.sender.proofs.sizes.first_time.Tie as tie
-use Rattle.sender.proofs.sizes.first_time.Reads as reads
-use Rattle.sender.proofs.sizes.first_time.Lts as lts
 
 returns : tie.Need-returns
 returns c = sym (ap (λ (l : List Row). firstTime l) (rows-none (now (c .before .args .rows)) (c .if1 .taken)))

@@ -5,8 +5,6 @@ use Rattle.sender.proofs.WordLaws.{first-fits}
 use borrow.Author.Needs.{needs}
 use Rattle.sender.proofs.sizes.first_words.Statement.{statement}
 use Rattle.sender.proofs.sizes.first_words.Tie as tie
-use Rattle.sender.proofs.sizes.first_words.Reads as reads
-use Rattle.sender.proofs.sizes.first_words.Lts as lts
 
 shared-slice-read-result : tie.Need-shared-slice-read-result
 shared-slice-read-result c = search needs

@@ -5,9 +5,6 @@ use Rattle.sender.proofs.ListsLaws.{told-bytes}
 use borrow.Author.Needs.{needs}
 use Rattle.sender.proofs.sizes.list_size.Statement.{statement}
 use Rattle.sender.proofs.sizes.list_size.Tie as tie
-use Rattle.sender.proofs.sizes.list_size.Reads as reads
-use Rattle.sender.proofs.sizes.list_size.Lts as lts
-use Rattle.encoder.proofs.writing.measure_payload.Reads as measure-payload-reads
 
 measure-payload-requires : tie.Need-measure-payload-requires
 measure-payload-requires c κs = search needs

@@ -7,10 +7,6 @@ use Rattle.sender.proofs.ListsLaws.{told-none, told-bytes, redundant-no
 use borrow.Author.Needs.{needs}
 use Rattle.sender.proofs.sizes.measure_redundant.Statement.{statement}
 use Rattle.sender.proofs.sizes.measure_redundant.Tie as tie
-use Rattle.sender.proofs.sizes.measure_redundant.Reads as reads
-use Rattle.sender.proofs.sizes.measure_redundant.Lts as lts
-use Rattle.encoder.proofs.writing.measure_payload.Reads as measure-payload-reads
-use Rattle.sender.proofs.sizes.offset_of.Reads as offset-of-reads
 
 size-at : (c : tie.After-size) → measured (c .before .before .before .before .args .asked) (now (c .before .before .before .before .args .rows)) ≡ record { refusal = 0; count = c .size .given .0 .0 }
 size-at c = told-bytes _ _ _ (c .size .given .1) (c .before .before .measure-payload .ensures)
