@@ -1,14 +1,14 @@
 -- Laws of lines and of what is put into them.
 use mathlib.Core.Path.{_≡_, refl, sym, ap, _∙_, subst}
-use mathlib.Core.Bool.{true, false, cond}
-use mathlib.Core.List.{List, [], _∷_, _++_, append-assoc, append-nil}
-use Prim.Native.Nat.{ℕ, zero, suc, _+_, _-_, _*_, _/_, _%_, _^_, _≤_, _<_, min}
+use mathlib.Core.Bool.{cond}
+use mathlib.Core.List.{List, [], _∷_, _++_, append-assoc}
+use Prim.Native.Nat.{ℕ, zero, suc, _+_, _-_, _/_, _%_, _^_, _≤_, _<_, min}
 use native.Mathlib.Omega.{arith, min-cases}
 use native.Mathlib.Nat.{pow-zero, pow-succ'}
 use native.Mathlib.Decide.{decLt}
 use borrow.Author.Tests.{lt-ltb, le-ltb}
-use lib.ListN.{length, take, drop, getD, length-append, length-take}
-use lib.Seq.{paste, take-paste, take-all, take-take, take-append-le, take-append-add, length-take-le, take-suc, take-length, take-at}
+use lib.ListN.{length, take, getD, length-take}
+use lib.Seq.{paste, take-paste, take-all, take-take, take-append-add, take-suc, take-length, take-at}
 use lib.Dec.{ltb}
 use Rattle.io.specs.Digits.{digits, glyph, Fewest}
 use Rattle.console.specs.Lines.{lineSize, gathered, placesUpTo, decimal, hexadecimal, Continued}

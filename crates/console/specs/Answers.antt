@@ -1,5 +1,5 @@
 -- What can be said of answers that come from the operating system.
-use Prim.Native.Nat.{ℕ, _<_}
+use Prim.Native.Nat.{_<_}
 use mathlib.Core.Path.{_≡_}
 use mathlib.Core.Bool.{true}
 use Rattle.rtp.specs.Ranges.{inRange}

@@ -21,7 +21,7 @@ fn length_of(high: u8, low: u8) -> usize
     256 * (high as usize) + low as usize
 }
 
-// Says that the input ends in this packet, counted from 1, and how many bytes of it are missing; with them, if any, what they are of.
+// Says that the input ends in this packet, counted from 1, and how many bytes are missing; `of` says of what, if not of the packet itself.
 fn say_cut(program: &[u8], number: u64, missing: usize, of: &[u8]) {
     let mut line = lines::blank();
     let mut at = lines::put(&mut line, 0, program);

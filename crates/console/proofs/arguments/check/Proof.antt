@@ -2,10 +2,6 @@ use mathlib.Core.Path.{sym, _∙_}
 use borrow.Author.Needs.{needs}
 use Rattle.console.proofs.arguments.check.Statement.{statement}
 use Rattle.console.proofs.arguments.check.Tie as tie
-use Rattle.console.proofs.arguments.check.Reads as reads
-use Rattle.console.proofs.arguments.check.Lts as lts
-use Rattle.console.proofs.arguments.complain.Reads as complain-reads
-use Rattle.rtp.proofs.settings.in_range.Reads as in-range-reads
 
 in-range-requires : tie.Need-in-range-requires
 in-range-requires c κs = search needs

@@ -3,8 +3,6 @@ use Prim.Native.Nat.{_-_}
 use lib.ListN.{length}
 use Rattle.console.proofs.arguments.same.Statement.{statement}
 use Rattle.console.proofs.arguments.same.Tie as tie
-use Rattle.console.proofs.arguments.same.Reads as reads
-use Rattle.console.proofs.arguments.same.Lts as lts
 
 abbrev Inv-loop : tie.InvT-loop
 Inv-loop a b i₀ i = Unit

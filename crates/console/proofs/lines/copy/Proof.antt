@@ -9,8 +9,6 @@ use lib.Seq.{paste, paste-zero, paste-suc}
 use denote.Ref.{now}
 use Rattle.console.proofs.lines.copy.Statement.{statement}
 use Rattle.console.proofs.lines.copy.Tie as tie
-use Rattle.console.proofs.lines.copy.Reads as reads
-use Rattle.console.proofs.lines.copy.Lts as lts
 
 abbrev Inv-loop : tie.InvT-loop
 Inv-loop area₀ at text n i₀ area i = (i ≤ n) × (area ≡ paste area₀ at text i) × (length area ≡ length area₀)

@@ -2,8 +2,6 @@ use borrow.Author.Needs.{needs}
 use borrow.Author.Tests.{lt-ltb, le-ltb}
 use Rattle.console.proofs.lines.glyph.Statement.{statement}
 use Rattle.console.proofs.lines.glyph.Tie as tie
-use Rattle.console.proofs.lines.glyph.Reads as reads
-use Rattle.console.proofs.lines.glyph.Lts as lts
 
 add-result : tie.Need-add-result
 add-result c = search needs

@@ -1,19 +1,14 @@
-use mathlib.Core.Path.{_≡_, refl, sym, _∙_, ap}
-use mathlib.Core.List.{List, [], _∷_, _++_}
-use Prim.Native.Nat.{ℕ, suc, _+_, _-_, _≤_, _<_, _^_, min}
+use mathlib.Core.Path.{_≡_, sym, _∙_, ap}
+use Prim.Native.Nat.{_+_, _-_, _≤_, min}
 use native.Mathlib.Omega.{arith}
 use lib.ListN.{length, take}
 use denote.Ref.{now}
-use Rattle.console.specs.Lines.{lineSize, gathered, decimal, counted}
+use Rattle.console.specs.Lines.{lineSize, gathered}
 use lib.Seq.{length-take-le}
 use Rattle.console.proofs.LineLaws.{gathered-put, gathered-continued}
 use borrow.Author.Needs.{needs}
 use Rattle.console.proofs.lines.lay.Statement.{statement}
 use Rattle.console.proofs.lines.lay.Tie as tie
-use Rattle.console.proofs.lines.lay.Reads as reads
-use Rattle.console.proofs.lines.lay.Lts as lts
-use Rattle.console.proofs.lines.copy.Reads as copy-reads
-use Rattle.console.proofs.lines.least.Reads as least-reads
 
 least-requires : tie.Need-least-requires
 least-requires c κs = search needs

@@ -1,18 +1,12 @@
 use Rattle.io.specs.Digits.{glyph}
-use mathlib.Core.Path.{_≡_, refl, sym, _∙_, ap}
-use mathlib.Core.List.{List, [], _∷_, _++_}
-use Prim.Native.Nat.{ℕ, suc, _+_, _-_, _≤_, _<_, _^_, _/_}
-use native.Mathlib.Omega.{arith}
-use lib.ListN.{length, take}
+use mathlib.Core.Path.{_∙_, ap}
+use mathlib.Core.List.{[], _∷_}
+use Prim.Native.Nat.{ℕ, _-_, _/_}
 use denote.Ref.{now}
-use Rattle.console.specs.Lines.{gathered, decimal, counted}
+use Rattle.console.specs.Lines.{gathered}
 use borrow.Author.Needs.{needs}
 use Rattle.console.proofs.lines.put_byte.Statement.{statement}
 use Rattle.console.proofs.lines.put_byte.Tie as tie
-use Rattle.console.proofs.lines.put_byte.Reads as reads
-use Rattle.console.proofs.lines.put_byte.Lts as lts
-use Rattle.console.proofs.lines.glyph.Reads as glyph-reads
-use Rattle.console.proofs.lines.put.Reads as put-reads
 
 glyph-requires : tie.Need-glyph-requires
 glyph-requires c κs = search needs

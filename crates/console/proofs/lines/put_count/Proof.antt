@@ -1,20 +1,14 @@
 use borrow.Author.Tests.{eq-eqb, ne-eqb}
 use mathlib.Core.Bool.{Bool, cond}
-use mathlib.Core.Path.{_≡_, refl, sym, _∙_, ap}
-use mathlib.Core.List.{List, [], _∷_, _++_}
-use Prim.Native.Nat.{ℕ, suc, _+_, _-_, _≤_, _<_, _^_, min}
-use native.Mathlib.Omega.{arith}
-use lib.ListN.{length, take}
+use mathlib.Core.Path.{sym, _∙_, ap}
+use mathlib.Core.List.{List, _++_}
+use Prim.Native.Nat.{ℕ, _+_, _-_}
 use denote.Ref.{now}
 use Rattle.console.specs.Lines.{gathered, decimal, counted}
 use Rattle.console.proofs.LineLaws.{gathered-more}
 use borrow.Author.Needs.{needs}
 use Rattle.console.proofs.lines.put_count.Statement.{statement}
 use Rattle.console.proofs.lines.put_count.Tie as tie
-use Rattle.console.proofs.lines.put_count.Reads as reads
-use Rattle.console.proofs.lines.put_count.Lts as lts
-use Rattle.console.proofs.lines.put.Reads as put-reads
-use Rattle.console.proofs.lines.put_number.Reads as put-number-reads
 
 slice-aggregate-put-number : tie.Need-slice-aggregate-put-number
 slice-aggregate-put-number c = search needs

@@ -1,9 +1,9 @@
 use lib.Seq.{take-all}
 use Rattle.io.specs.Digits.{glyph}
 use borrow.Author.Needs.{needs}
-use mathlib.Core.Path.{_≡_, refl, sym, _∙_, ap}
-use mathlib.Core.List.{List, [], _∷_, _++_}
-use Prim.Native.Nat.{ℕ, suc, _-_, _/_, _%_, _≤_}
+use mathlib.Core.Path.{_≡_, sym, _∙_, ap}
+use mathlib.Core.List.{List, [], _∷_}
+use Prim.Native.Nat.{ℕ, _-_, _/_, _%_, _≤_}
 use native.Mathlib.Omega.{arith}
 use native.Mathlib.Numerals.{add-one}
 use lib.ListN.{length, take, getD}
@@ -13,10 +13,6 @@ use Rattle.console.specs.Lines.{gathered, hexadecimal}
 use Rattle.console.proofs.LineLaws.{gathered-more, hex-next, hex-none}
 use Rattle.console.proofs.lines.put_hex.Statement.{statement}
 use Rattle.console.proofs.lines.put_hex.Tie as tie
-use Rattle.console.proofs.lines.put_hex.Reads as reads
-use Rattle.console.proofs.lines.put_hex.Lts as lts
-use Rattle.console.proofs.lines.put.Reads as put-reads
-use Rattle.console.proofs.lines.put_byte.Reads as put-byte-reads
 
 abbrev Inv-loop : tie.InvT-loop
 Inv-loop line₀ at bytes end₀ i₀ line end i = (i ≤ length bytes) × Counts end line × (take end line ≡ gathered line₀ end₀ (hexadecimal (take i bytes)))

@@ -1,18 +1,12 @@
-use mathlib.Core.Path.{_≡_, refl, sym, _∙_, ap}
-use mathlib.Core.List.{List, [], _∷_, _++_}
-use Prim.Native.Nat.{ℕ, suc, _+_, _-_, _≤_, _<_, _^_, min}
+use mathlib.Core.Path.{_∙_, ap}
+use Prim.Native.Nat.{_-_, _<_, _^_}
 use native.Mathlib.Omega.{arith}
-use lib.ListN.{length, take}
 use denote.Ref.{now}
-use Rattle.console.specs.Lines.{gathered, decimal, counted}
+use Rattle.console.specs.Lines.{gathered, decimal}
 use Rattle.console.proofs.LineLaws.{gathered-more, decimal-fewest}
 use borrow.Author.Needs.{needs}
 use Rattle.console.proofs.lines.put_number.Statement.{statement}
 use Rattle.console.proofs.lines.put_number.Tie as tie
-use Rattle.console.proofs.lines.put_number.Reads as reads
-use Rattle.console.proofs.lines.put_number.Lts as lts
-use Rattle.console.proofs.lines.put.Reads as put-reads
-use Rattle.io.proofs.decimal.Reads as decimal-reads
 
 decimal-requires : tie.Need-decimal-requires
 decimal-requires c κs = search needs

@@ -6,10 +6,6 @@ use Rattle.console.specs.Lines.{gathered, hexadecimal}
 use borrow.Author.Needs.{needs}
 use Rattle.console.proofs.lines.put_word.Statement.{statement}
 use Rattle.console.proofs.lines.put_word.Tie as tie
-use Rattle.console.proofs.lines.put_word.Reads as reads
-use Rattle.console.proofs.lines.put_word.Lts as lts
-use Rattle.console.proofs.lines.low_byte.Reads as low-byte-reads
-use Rattle.console.proofs.lines.put_hex.Reads as put-hex-reads
 
 low-byte-requires : tie.Need-low-byte-requires
 low-byte-requires c κs = search needs

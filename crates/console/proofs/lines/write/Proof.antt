@@ -2,9 +2,6 @@ use native.Mathlib.Omega.{arith}
 use borrow.Author.Needs.{needs}
 use Rattle.console.proofs.lines.write.Statement.{statement}
 use Rattle.console.proofs.lines.write.Tie as tie
-use Rattle.console.proofs.lines.write.Reads as reads
-use Rattle.console.proofs.lines.write.Lts as lts
-use Rattle.console.proofs.lines.write_front.Reads as write-front-reads
 
 write-front-requires : tie.Need-write-front-requires
 write-front-requires c κs = search needs

@@ -3,9 +3,6 @@ use lib.ListN.{length-take}
 use borrow.Author.Needs.{needs}
 use Rattle.console.proofs.lines.write_front.Statement.{statement}
 use Rattle.console.proofs.lines.write_front.Tie as tie
-use Rattle.console.proofs.lines.write_front.Reads as reads
-use Rattle.console.proofs.lines.write_front.Lts as lts
-use Rattle.io.proofs.write_all.Reads as write-all-reads
 
 slice-aggregate-write-all : tie.Need-slice-aggregate-write-all
 slice-aggregate-write-all c = simp length-take (omega arith)

@@ -1,10 +1,9 @@
 use borrow.Author.Needs.{needs}
-use mathlib.Core.Path.{_≡_, refl, sym, _∙_, ap}
-use mathlib.Core.List.{List}
-use Prim.Native.Nat.{ℕ, suc, _-_, _≤_}
+use mathlib.Core.Path.{_≡_, sym, _∙_, ap}
+use Prim.Native.Nat.{ℕ, suc, _-_}
 use native.Mathlib.Omega.{arith}
 use native.Mathlib.Numerals.{add-one}
-use lib.ListN.{length, drop, getD}
+use lib.ListN.{length, drop}
 use borrow.Author.Tests.{eq-eqb, ne-eqb}
 use denote.Ref.{now}
 use Rattle.console.specs.declared.numbers.Number.{Number}
@@ -12,9 +11,6 @@ use Rattle.console.specs.Numbers.{withDigits, numberOf}
 use Rattle.console.proofs.NumberLaws.{with-next, with-none}
 use Rattle.console.proofs.numbers.parse.Statement.{statement}
 use Rattle.console.proofs.numbers.parse.Tie as tie
-use Rattle.console.proofs.numbers.parse.Reads as reads
-use Rattle.console.proofs.numbers.parse.Lts as lts
-use Rattle.console.proofs.numbers.with_digit.Reads as with-digit-reads
 
 abbrev Inv-loop : tie.InvT-loop
 Inv-loop text value₀ i₀ value i = numberOf text ≡ withDigits value (drop i text)

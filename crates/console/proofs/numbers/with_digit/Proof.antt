@@ -3,8 +3,6 @@ use Rattle.console.specs.Numbers.{withDigit}
 use borrow.Author.Needs.{needs}
 use Rattle.console.proofs.numbers.with_digit.Statement.{statement}
 use Rattle.console.proofs.numbers.with_digit.Tie as tie
-use Rattle.console.proofs.numbers.with_digit.Reads as reads
-use Rattle.console.proofs.numbers.with_digit.Lts as lts
 
 enum-told : tie.Need-enum-told
 enum-told c = search needs

@@ -3,10 +3,6 @@ use lib.ListN.{length-take}
 use borrow.Author.Needs.{needs}
 use Rattle.console.proofs.stream.read_body.Statement.{statement}
 use Rattle.console.proofs.stream.read_body.Tie as tie
-use Rattle.console.proofs.stream.read_body.Reads as reads
-use Rattle.console.proofs.stream.read_body.Lts as lts
-use Rattle.console.proofs.stream.say_cut.Reads as say-cut-reads
-use Rattle.io.proofs.read_full.Reads as read-full-reads
 
 slice-relend-prefix-read-full : tie.Need-slice-relend-prefix-read-full
 slice-relend-prefix-read-full c = search needs
