@@ -1,10 +1,13 @@
-// A packet in words.
+// A packet in words. Each function answers whether the output takes it.
 use crate::frames;
 use crate::header;
 use crate::words;
-use libc::STDOUT_FILENO;
+use console::lines;
+use console::refusals;
 use packet::reading;
 use packet::reading::Reading;
+use rtp::refusal;
+use rtp::refusal::Refusal;
 use rtp::settings::Settings;
 use rtp::sizes::ROW_AREA;
 
@@ -12,26 +15,35 @@ fn zero_rows() -> [u32; ROW_AREA] {
     [0; ROW_AREA]
 }
 
-// The packet's header, and its frames or its refusal.
-fn print_contents(settings: Settings, bytes: &[u8]) {
-    header::print(settings, bytes);
+// The packet's number and size.
+fn print_size(number: u64, size: usize) -> bool {
+    let mut line = lines::blank();
+    let mut at = lines::put_number(&mut line, 0, b"packet ", number);
+    at = words::put_bytes(&mut line, at, b": ", size);
+    words::print(&mut line, at)
+}
+
+fn print_refusal(why: Refusal) -> bool {
+    let number = refusal::refusal_number(why);
+    let mut line = lines::blank();
+    let mut at = lines::put_number(&mut line, 0, b"  refusal ", number as u64);
+    at = lines::put(&mut line, at, b": ");
+    at = refusals::put_reason(&mut line, at, number);
+    words::print(&mut line, at)
+}
+
+// The packet's frames, or its refusal.
+fn print_reading(settings: Settings, bytes: &[u8]) -> bool {
     let mut rows = zero_rows();
     match reading::read(settings, bytes, &mut rows) {
-        Reading::Refused(why) => words::print_refusal(why),
+        Reading::Refused(why) => print_refusal(why),
         Reading::Read(answer) => frames::print(&rows, answer.rows),
     }
 }
 
-// The packet's number and size, and all that is in it; answers whether the output takes it.
+// The packet's number and size, and all that is in it.
 pub(crate) fn print(settings: Settings, number: u64, bytes: &[u8]) -> bool {
-    let taken = io::write_all(STDOUT_FILENO, b"packet ");
-    if !taken {
-        os::fail(b"describe: standard output");
-        return false;
-    }
-    io::print_decimal(STDOUT_FILENO, number);
-    words::print_bytes(b": ", bytes.len());
-    words::print(b"\n");
-    print_contents(settings, bytes);
-    true
+    print_size(number, bytes.len())
+        && header::print(settings, bytes)
+        && print_reading(settings, bytes)
 }

@@ -1,47 +1,54 @@
-// Frames in words, from their rows.
+// Frames in words, from their rows. Each function that prints answers whether the output takes it.
 use crate::words;
+use console::lines;
 use formats::tagging;
-use libc::STDOUT_FILENO;
 use rtp::sizes::MAX_ROWS;
 use rtp::sizes::ROW_AREA;
 use rtp::sizes::ROW_WIDTH;
 
 // A frame, by the four words of its row.
-fn print_words(time: u32, tag: u32, start: u32, length: u32) {
+fn print_words(time: u32, tag: u32, start: u32, length: u32) -> bool {
     let class = tagging::tag_class(tag);
-    words::print_number(b"    time ", time as u64);
-    words::print_number(b", channel ", tagging::tag_channel(tag) as u64);
-    words::print(b", ");
-    words::print_class(class);
+    let mut line = lines::blank();
+    let mut at = lines::put_number(&mut line, 0, b"    time ", time as u64);
+    at = lines::put_number(&mut line, at, b", channel ", tagging::tag_channel(tag) as u64);
+    at = lines::put(&mut line, at, b", ");
+    at = words::put_class(&mut line, at, class);
     if class != 0 {
-        words::print_bytes(b", ", length as usize);
-        words::print_number(b" from byte ", start as u64);
+        at = words::put_bytes(&mut line, at, b", ", length as usize);
+        at = lines::put_number(&mut line, at, b" from byte ", start as u64);
     }
-    words::print(b"\n");
+    words::print(&mut line, at)
 }
 
-fn print_frame(rows: &[u32; ROW_AREA], i: u32) {
+fn print_frame(rows: &[u32; ROW_AREA], i: u32) -> bool {
     if (i as usize) < MAX_ROWS {
         let at = ROW_WIDTH * (i as usize);
-        print_words(rows[at], rows[at + 1], rows[at + 2], rows[at + 3]);
+        return print_words(rows[at], rows[at + 1], rows[at + 2], rows[at + 3]);
     }
+    true
 }
 
-fn print_frames(rows: &[u32; ROW_AREA], count: u32) {
+fn print_frames(rows: &[u32; ROW_AREA], count: u32) -> bool {
     let mut i = 0;
     while i < count {
-        print_frame(rows, i);
-        i += 1;
+        if print_frame(rows, i) {
+            i += 1;
+        } else {
+            return false;
+        }
     }
+    true
 }
 
 // How many frames there are, and each of them.
-pub(crate) fn print(rows: &[u32; ROW_AREA], count: u32) {
+pub(crate) fn print(rows: &[u32; ROW_AREA], count: u32) -> bool {
+    let mut line = lines::blank();
     if count == 0 {
-        words::print(b"  no frames\n");
-    } else {
-        words::print(b"  ");
-        words::count(STDOUT_FILENO, count as u64, b" frame:\n", b" frames:\n");
-        print_frames(rows, count);
+        let none = lines::put(&mut line, 0, b"  no frames");
+        return words::print(&mut line, none);
     }
+    let mut at = lines::put(&mut line, 0, b"  ");
+    at = lines::put_count(&mut line, at, count as u64, b" frame:", b" frames:");
+    words::print(&mut line, at) && print_frames(rows, count)
 }

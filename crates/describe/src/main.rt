@@ -1,43 +1,42 @@
 // Prints RTP packets in words: header, redundancy blocks and frames, or why a packet is refused. What is printed is the library's
-// answer.
-mod arguments;
+// answer. The packets come on standard input in the framing of RFC 4571.
 mod blocks;
 mod description;
 mod frames;
 mod header;
-mod input;
 mod words;
 
-use arguments::Asked;
-use input::Input;
+use console::arguments;
+use console::arguments::Asked;
+use console::stream;
+use console::stream::AREA;
+use console::stream::Input;
 use rtp::settings::Settings;
 
+// Prints the packet in the first n bytes of the area, and answers whether to go on.
+fn print_packet(settings: Settings, number: u64, n: usize, area: &[u8]) -> bool {
+    if n <= area.len() {
+        if description::print(settings, number, &area[..n]) {
+            return true;
+        }
+        os::fail(b"describe: standard output");
+    }
+    false
+}
+
 // Reads and prints a packet, and answers whether to go on.
-fn next_packet(settings: Settings, number: u64, space: &mut [u8]) -> bool {
-    match input::next(space) {
+fn next_packet(settings: Settings, number: u64, area: &mut [u8; AREA]) -> bool {
+    match stream::next(b"describe", number, area) {
         Input::End => false,
-        Input::HalfLength => {
-            input::half_length(number);
-            false
-        }
-        Input::Missing(bytes) => {
-            input::missing(number, bytes);
-            false
-        }
-        Input::Packet(size) => {
-            if size <= space.len() {
-                return description::print(settings, number, &space[..size]);
-            }
-            false
-        }
+        Input::Packet(n) => print_packet(settings, number, n, area),
     }
 }
 
 // A proved loop has to end, so this one ends at a number that no run reaches.
-fn all_packets(settings: Settings, space: &mut [u8]) {
+fn all_packets(settings: Settings, area: &mut [u8; AREA]) {
     let mut number = 1;
     while number < u64::MAX {
-        if next_packet(settings, number, space) {
+        if next_packet(settings, number, area) {
             number += 1;
         } else {
             return;
@@ -46,11 +45,14 @@ fn all_packets(settings: Settings, space: &mut [u8]) {
 }
 
 fn main() {
-    match arguments::read() {
-        Asked::Bad => {}
+    match arguments::read(
+        b"describe",
+        b"Prints each packet in words: header, redundancy blocks and frames, or why it is refused.\n",
+    ) {
+        Asked::Nothing => {}
         Asked::Agreed(settings) => {
-            let mut space = io::large_buffer();
-            all_packets(settings, &mut space);
+            let mut area = io::large_buffer();
+            all_packets(settings, &mut area);
         }
     }
 }

@@ -1,18 +1,23 @@
 // The stream through a reorder buffer: each packet is offered, and frames are drawn so that the next packet's have room.
-use crate::arguments;
-use crate::input;
-use crate::input::Input;
+use console::stream;
+use console::stream::AREA;
+use console::stream::Input;
+use crate::gaps;
+use crate::gaps::Gaps;
 use crate::printing;
+use crate::sources;
+use crate::sources::Sources;
 use crate::totals;
 use crate::totals::Totals;
+use formats::frames;
 use reorder::buffer::Buffer;
-use reorder::buffer::SLOT_SIZE;
 use reorder::buffer::SLOTS;
+use reorder::buffer::SLOT_SIZE;
 use reorder::buffer::STORE_SIZE;
 use reorder::calls;
 use reorder::calls::DrawAnswer;
+use reorder::calls::DrawnFrame;
 use reorder::calls::NewAnswer;
-use rtp::refusal;
 use rtp::settings::Settings;
 use rtp::sizes::MAX_ROWS;
 use rtp::sizes::ROW_AREA;
@@ -20,10 +25,13 @@ use rtp::sizes::ROW_AREA;
 // The frames kept between packets: with the most that a packet can bring they fill the buffer, so that none is turned away for want of room.
 const KEPT: usize = SLOTS - MAX_ROWS;
 
-// The buffer, what was counted, whether the input may have more, and whether all that was to be written is.
+// The buffer, the ticks of a frame-block, what was counted, whether the input may have more, and whether all that was to be written is.
 struct State {
     buffer: Buffer,
+    step: u32,
     totals: Totals,
+    gaps: Gaps,
+    sources: Sources,
     more: bool,
     written: bool,
 }
@@ -40,10 +48,13 @@ fn zero_frame() -> [u8; SLOT_SIZE] {
     [0; SLOT_SIZE]
 }
 
-fn begin(buffer: Buffer) -> State {
+fn begin(buffer: Buffer, step: u32) -> State {
     State {
         buffer,
+        step,
         totals: totals::none(),
+        gaps: gaps::none(),
+        sources: sources::none(),
         more: true,
         written: true,
     }
@@ -64,25 +75,35 @@ fn stop_writing(state: State) -> State {
     next
 }
 
+// A frame drawn from this buffer, printed after the gap before it, if there is one.
+fn print_drawn(state: State, buffer: Buffer, frame: DrawnFrame, bytes: &[u8; SLOT_SIZE]) -> State {
+    let before = state.gaps;
+    let sources = state.sources;
+    let missing = gaps::missing_before(before, frame.time, state.step);
+    let next = State {
+        buffer,
+        step: state.step,
+        totals: totals::add_frame(state.totals),
+        gaps: gaps::add(before, frame.time, missing),
+        sources,
+        more: state.more,
+        written: state.written,
+    };
+    if printing::print_gap(before.last, frame.time, missing)
+        && printing::print_frame(frame, bytes)
+    {
+        return next;
+    }
+    stop_writing(next)
+}
+
 // The earliest frame, drawn and printed. Drawing is never refused here, nor the buffer empty: it holds a frame, and the areas have their sizes.
 fn draw_one(state: State, store: &[u8]) -> State {
     let mut area = zero_frame();
     let drawn = calls::draw(state.buffer, store, &mut area);
     let answer = drawn.answer;
     match answer {
-        DrawAnswer::Frame(frame) => {
-            let buffer = drawn.buffer;
-            let next = State {
-                buffer,
-                totals: totals::add_frame(state.totals),
-                more: state.more,
-                written: state.written,
-            };
-            if printing::print_frame(frame, &area) {
-                return next;
-            }
-            stop_writing(next)
-        }
+        DrawAnswer::Frame(frame) => print_drawn(state, drawn.buffer, frame, &area),
         DrawAnswer::Empty => state,
         DrawAnswer::Refused(_) => state,
     }
@@ -111,15 +132,29 @@ fn draw_down(state: State, store: &[u8], kept: usize) -> State {
     left
 }
 
+// The sources with this packet's, if it was read.
+fn hear(state: State, was_read: bool, packet: &[u8]) -> Sources {
+    let heard = state.sources;
+    if was_read {
+        let number = std::num::wrapping_add_u64(state.totals.packets, 1);
+        return sources::add(heard, number, packet);
+    }
+    heard
+}
+
 // A packet offered, and counted.
 fn offer(state: State, packet: &[u8], store: &mut [u8]) -> State {
     let mut rows = zero_rows();
     let offered = calls::offer(state.buffer, packet, &mut rows, store);
     let answer = offered.answer;
     let buffer = offered.buffer;
+    let gaps = state.gaps;
     State {
         buffer,
+        step: state.step,
         totals: totals::add_packet(state.totals, answer),
+        gaps,
+        sources: hear(state, totals::was_read(answer), packet),
         more: state.more,
         written: state.written,
     }
@@ -135,16 +170,20 @@ fn pass_on(state: State, n: usize, area: &[u8], store: &mut [u8]) -> State {
 }
 
 // The next packet read and passed on, or the end of the input.
-fn receive_packet(state: State, area: &mut [u8], store: &mut [u8]) -> State {
+fn receive_packet(state: State, area: &mut [u8; AREA], store: &mut [u8]) -> State {
     let number = std::num::wrapping_add_u64(state.totals.packets, 1);
-    match input::next(number, area) {
-        Input::Packet(n) => pass_on(state, n, area, store),
+    match stream::next(b"receive", number, area) {
+        Input::Packet(n) => {
+            let next = pass_on(state, n, area, store);
+            printing::say_progress(next.totals);
+            next
+        }
         Input::End => end(state),
     }
 }
 
 // All packets. A proved loop has to end, so this one counts its turns down from a number that no stream reaches.
-fn receive_packets(state: State, area: &mut [u8], store: &mut [u8]) -> State {
+fn receive_packets(state: State, area: &mut [u8; AREA], store: &mut [u8]) -> State {
     let mut reached = state;
     let mut turns = u64::MAX;
     while turns > 0 {
@@ -163,26 +202,26 @@ fn receive_packets(state: State, area: &mut [u8], store: &mut [u8]) -> State {
 fn finish(state: State, store: &[u8]) {
     let last = draw_down(state, store, 0);
     if last.written {
-        if printing::print_totals(last.totals) {
+        if printing::print_summary(last.totals, last.gaps, last.sources) {
             return;
         }
     }
-    os::fail(b"standard output");
+    os::fail(b"receive: standard output");
 }
 
-fn receive_stream(buffer: Buffer) {
+fn receive_stream(buffer: Buffer, step: u32) {
     let mut store = zero_store();
     let mut area = io::large_buffer();
-    let state = receive_packets(begin(buffer), &mut area, &mut store);
+    let state = receive_packets(begin(buffer, step), &mut area, &mut store);
     finish(state, &store);
 }
 
-// A buffer for the settings, and the stream through it.
+// A buffer for the settings, and the stream through it. The settings are in range, so that a buffer is never refused.
 pub(crate) fn open(asked: Settings) {
     let fresh = calls::new(asked);
     let answer = fresh.answer;
     match answer {
-        NewAnswer::Accepted => receive_stream(fresh.buffer),
-        NewAnswer::Refused(why) => arguments::refuse(refusal::refusal_number(why)),
+        NewAnswer::Accepted => receive_stream(fresh.buffer, frames::step_of(asked.format)),
+        NewAnswer::Refused(_) => {}
     }
 }

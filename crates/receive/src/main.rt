@@ -1,16 +1,20 @@
-// Receives a stream: reads packets from standard input, each behind its length in two bytes, the high one first, and prints every frame once,
-// in time order, as soon as the reorder buffer has to make room; then a summary. The arguments are the settings.
-mod arguments;
+// Receives a stream: reads packets from standard input, in the framing of RFC 4571, and prints every frame once, in time order, as soon
+// as the reorder buffer has to make room, and every gap between frames; then a summary. The arguments are the settings.
+mod gaps;
 mod gathering;
-mod input;
 mod printing;
+mod sources;
 mod totals;
 
-use arguments::Arguments;
+use console::arguments;
+use console::arguments::Asked;
 
 fn main() {
-    match arguments::read() {
-        Arguments::Agreed(settings) => gathering::open(settings),
-        Arguments::Wrong => arguments::print_usage(),
+    match arguments::read(
+        b"receive",
+        b"Prints each frame once, in time order: time, channel, class, length and bytes; each gap; then a summary.\n",
+    ) {
+        Asked::Agreed(settings) => gathering::open(settings),
+        Asked::Nothing => {}
     }
 }

@@ -1,113 +1,176 @@
-// Frames and the summary, on standard output. Each answers whether every write succeeded.
+// Frames, gaps and the summary on standard output, each line written once; each function answers whether that succeeded. Warnings and
+// progress go to standard error.
+use crate::gaps::Gaps;
+use crate::sources::Sources;
 use crate::totals::REFUSALS;
 use crate::totals::Totals;
+use console::lines;
+use console::lines::LINE;
+use console::refusals;
 use formats::frames::SID;
+use libc::STDERR_FILENO;
 use libc::STDOUT_FILENO;
 use reorder::buffer::SLOT_SIZE;
 use reorder::calls::DrawnFrame;
 
-// The digits of the longest frame.
-const TEXT: usize = 2 * SLOT_SIZE;
+// Progress is said after each so many packets.
+const PROGRESS: u64 = 100000;
 
-fn zero_text() -> [u8; TEXT] {
-    [0; TEXT]
+// The line's first `at` bytes and its end.
+fn print(line: &mut [u8; LINE], at: usize) -> bool {
+    let end = lines::put(line, at, b"\n");
+    lines::write(STDOUT_FILENO, line, end)
 }
 
-fn digit(value: u8) -> u8 {
-    if value < 10 {
-        b'0' + value
-    } else {
-        b'a' - 10 + value % 16
-    }
+fn say(line: &mut [u8; LINE], at: usize) {
+    let end = lines::put(line, at, b"\n");
+    lines::write(STDERR_FILENO, line, end);
 }
 
-fn hex_of(bytes: &[u8; SLOT_SIZE]) -> [u8; TEXT] {
-    let mut text = zero_text();
-    let mut i: usize = 0;
-    while i < SLOT_SIZE {
-        text[2 * i] = digit(bytes[i] / 16);
-        text[2 * i + 1] = digit(bytes[i] % 16);
-        i += 1;
-    }
-    text
-}
-
-fn write(text: &[u8]) -> bool {
-    io::write_all(STDOUT_FILENO, text)
-}
-
-// A text and a number.
-fn write_number(text: &[u8], value: u64) -> bool {
-    if write(text) {
-        return io::print_decimal(STDOUT_FILENO, value);
-    }
-    false
-}
-
-fn write_class(class: u32) -> bool {
+fn put_class(line: &mut [u8; LINE], at: usize, class: u32) -> usize {
     if class == SID as u32 {
-        return write(b" sid");
+        return lines::put(line, at, b" sid");
     }
-    write(b" sound")
+    lines::put(line, at, b" sound")
 }
 
-fn write_hex(bytes: &[u8; SLOT_SIZE], length: u32) -> bool {
-    let text = hex_of(bytes);
-    let n = 2 * (length as usize);
-    if n <= TEXT {
-        return write(&text[..n]);
+// The first n bytes in hexadecimal. A frame has no more than the area.
+fn put_bytes(line: &mut [u8; LINE], at: usize, bytes: &[u8], n: usize) -> usize {
+    if n <= bytes.len() {
+        return lines::put_hex(line, at, &bytes[..n]);
     }
-    false
+    at
 }
 
 // A line: time, channel, class, length, and the bytes in hexadecimal.
 pub(crate) fn print_frame(frame: DrawnFrame, bytes: &[u8; SLOT_SIZE]) -> bool {
-    io::print_decimal(STDOUT_FILENO, frame.time as u64)
-        && write_number(b" ", frame.channel as u64)
-        && write_class(frame.class)
-        && write_number(b" ", frame.length as u64)
-        && write(b" ")
-        && write_hex(bytes, frame.length)
-        && write(b"\n")
+    let mut line = lines::blank();
+    let mut at = lines::put_number(&mut line, 0, b"", frame.time as u64);
+    at = lines::put_number(&mut line, at, b" ", frame.channel as u64);
+    at = put_class(&mut line, at, frame.class);
+    at = lines::put_number(&mut line, at, b" ", frame.length as u64);
+    at = lines::put(&mut line, at, b" ");
+    at = put_bytes(&mut line, at, bytes, frame.length as usize);
+    print(&mut line, at)
 }
 
-// A refusal's number and count, if it occurred, after `seen` others.
-fn print_refusal(seen: u64, number: u64, count: u64) -> bool {
+// A line: the times before and after the gap, and the frame-blocks missing. None where none is missing.
+pub(crate) fn print_gap(from: u32, to: u32, missing: u32) -> bool {
+    if missing == 0 {
+        return true;
+    }
+    let mut line = lines::blank();
+    let mut at = lines::put_number(&mut line, 0, b"gap from ", from as u64);
+    at = lines::put_number(&mut line, at, b" to ", to as u64);
+    at = lines::put(&mut line, at, b": ");
+    at = lines::put_count(
+        &mut line,
+        at,
+        missing as u64,
+        b" frame-block missing",
+        b" frame-blocks missing",
+    );
+    print(&mut line, at)
+}
+
+fn print_counts(totals: Totals) -> bool {
+    let mut line = lines::blank();
+    let mut at = lines::put_number(&mut line, 0, b"packets ", totals.packets);
+    at = lines::put_number(&mut line, at, b", refused ", totals.refused);
+    at = lines::put_number(&mut line, at, b", frames ", totals.frames);
+    at = lines::put_number(&mut line, at, b", inserted ", totals.inserted);
+    at = lines::put_number(&mut line, at, b", repeated ", totals.repeated);
+    at = lines::put_number(&mut line, at, b", better ", totals.better);
+    at = lines::put_number(&mut line, at, b", late ", totals.late);
+    at = lines::put_number(&mut line, at, b", far ", totals.far);
+    at = lines::put_number(&mut line, at, b", no room ", totals.no_room);
+    print(&mut line, at)
+}
+
+// A refusal by its number, how often it occurred, and its reason; nothing if it did not occur.
+fn print_refusal(number: u32, count: u64) -> bool {
     if count == 0 {
         return true;
     }
-    if seen == 0 {
-        return write_number(b" (", number) && write_number(b": ", count);
-    }
-    write_number(b", ", number) && write_number(b": ", count)
+    let mut line = lines::blank();
+    let mut at = lines::put_number(&mut line, 0, b"refusal ", number as u64);
+    at = lines::put(&mut line, at, b", ");
+    at = lines::put_count(&mut line, at, count, b" packet: ", b" packets: ");
+    at = refusals::put_reason(&mut line, at, number);
+    print(&mut line, at)
 }
 
 // The refusals that occurred.
 fn print_refusals(totals: Totals) -> bool {
-    let mut seen: u64 = 0;
     let mut i: usize = 0;
     while i < REFUSALS {
         let count = totals.refusals[i];
-        if print_refusal(seen, i as u64, count) {
-            seen = std::num::wrapping_add_u64(seen, count);
-        } else {
+        if !print_refusal(i as u32, count) {
             return false;
         }
         i += 1;
     }
-    if seen == 0 { true } else { write(b")") }
+    true
 }
 
-pub(crate) fn print_totals(totals: Totals) -> bool {
-    write_number(b"packets ", totals.packets)
-        && write_number(b", refused ", totals.refused)
-        && print_refusals(totals)
-        && write_number(b", frames ", totals.frames)
-        && write_number(b", inserted ", totals.inserted)
-        && write_number(b", repeated ", totals.repeated)
-        && write_number(b", better ", totals.better)
-        && write_number(b", late ", totals.late)
-        && write_number(b", far ", totals.far)
-        && write_number(b", no room ", totals.no_room)
-        && write(b"\n")
+fn print_gaps(gaps: Gaps) -> bool {
+    let mut line = lines::blank();
+    let mut at = lines::put_number(&mut line, 0, b"gaps ", gaps.count);
+    at = lines::put_number(&mut line, at, b", frame-blocks missing ", gaps.missing);
+    print(&mut line, at)
+}
+
+// Packets of another source than the first's; nothing if there are none.
+fn print_sources(sources: Sources) -> bool {
+    if sources.others == 0 {
+        return true;
+    }
+    let mut line = lines::blank();
+    let mut at = lines::put(&mut line, 0, b"more than one source: ");
+    at = lines::put_count(
+        &mut line,
+        at,
+        sources.others,
+        b" packet is",
+        b" packets are",
+    );
+    at = lines::put(&mut line, at, b" not of source 0x");
+    at = lines::put_word(&mut line, at, sources.first);
+    print(&mut line, at)
+}
+
+// The summary.
+pub(crate) fn print_summary(totals: Totals, gaps: Gaps, sources: Sources) -> bool {
+    print_counts(totals) && print_refusals(totals) && print_gaps(gaps) && print_sources(sources)
+}
+
+// Says that the packet of this number is the first of another source than the packets before it.
+pub(crate) fn warn_source(number: u64, source: u32, first: u32) {
+    let mut line = lines::blank();
+    let mut at = lines::put_number(&mut line, 0, b"receive: warning: packet ", number);
+    at = lines::put(&mut line, at, b" is of source 0x");
+    at = lines::put_word(&mut line, at, source);
+    at = lines::put(&mut line, at, b", those before it of 0x");
+    at = lines::put_word(&mut line, at, first);
+    at = lines::put(
+        &mut line,
+        at,
+        b"; frames of more than one source are merged",
+    );
+    say(&mut line, at);
+}
+
+// Says how far the stream is read, after each 100,000 packets.
+pub(crate) fn say_progress(totals: Totals) {
+    if totals.packets % PROGRESS == 0 {
+        let mut line = lines::blank();
+        let mut at = lines::put_number(&mut line, 0, b"receive: ", totals.packets);
+        at = lines::put_number(
+            &mut line,
+            at,
+            b" packets read, frames drawn: ",
+            totals.frames,
+        );
+        say(&mut line, at);
+    }
 }

@@ -71,6 +71,14 @@ pub(crate) fn add_packet(totals: Totals, answer: OfferAnswer) -> Totals {
     }
 }
 
+// Whether the packet was read, so that its frames were judged.
+pub(crate) fn was_read(answer: OfferAnswer) -> bool {
+    match answer {
+        OfferAnswer::Judged(_) => true,
+        OfferAnswer::Refused(_) => false,
+    }
+}
+
 // With one more frame drawn.
 pub(crate) fn add_frame(totals: Totals) -> Totals {
     let mut next = totals;

@@ -1,15 +1,16 @@
 use borrow.Author.Needs.{needs}
-use Prim.Native.Nat.{ℕ, _-_}
-use mathlib.Core.Path.{_≡_}
-use lib.ListN.{length}
+use Prim.Native.Nat.{_-_}
 use Rattle.describe.proofs.all_packets.Statement.{statement}
 use Rattle.describe.proofs.all_packets.Tie as tie
+use Rattle.describe.proofs.all_packets.Reads as reads
+use Rattle.describe.proofs.all_packets.Lts as lts
+use Rattle.describe.proofs.next_packet.Reads as next-packet-reads
 
 abbrev Inv-loop : tie.InvT-loop
-Inv-loop settings space₀ number₀ space number = length space₀ ≡ length space
+Inv-loop settings area₀ number₀ area number = Unit
 
 abbrev μ-loop : tie.MeasureT-loop
-μ-loop settings space₀ number₀ space number = 18446744073709551615 - number
+μ-loop settings area₀ number₀ area number = 18446744073709551615 - number
 
 loop-holds : tie.Need-loop-holds Inv-loop μ-loop
 loop-holds c = search needs
@@ -26,14 +27,8 @@ loop-less c = search needs
 loop-again : tie.Need-loop-again Inv-loop μ-loop
 loop-again c = search needs
 
-same-length : tie.Need-same-length Inv-loop μ-loop
-same-length c = search needs
-
 returns : tie.Need-returns Inv-loop μ-loop
 returns c = search needs
-
-same-length-2 : tie.Need-same-length-2 Inv-loop μ-loop
-same-length-2 c = search needs
 
 returns-2 : tie.Need-returns-2 Inv-loop μ-loop
 returns-2 c = search needs
@@ -49,7 +44,5 @@ all-packets-spec =
     add-number
     loop-less
     loop-again
-    same-length
     returns
-    same-length-2
     returns-2)

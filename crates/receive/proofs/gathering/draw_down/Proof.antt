@@ -1,6 +1,10 @@
 use borrow.Author.Needs.{needs}
 use Rattle.receive.proofs.gathering.draw_down.Statement.{statement}
 use Rattle.receive.proofs.gathering.draw_down.Tie as tie
+use Rattle.receive.proofs.gathering.draw_down.Reads as reads
+use Rattle.receive.proofs.gathering.draw_down.Lts as lts
+use Rattle.receive.proofs.gathering.draw_one.Reads as draw-one-reads
+use Rattle.receive.proofs.gathering.must_draw.Reads as must-draw-reads
 
 abbrev Inv-loop : tie.InvT-loop
 Inv-loop store kept left₀ turns₀ left turns = Unit

@@ -3,6 +3,11 @@ use lib.ListN.{length-take}
 use borrow.Author.Needs.{needs}
 use Rattle.receive.proofs.gathering.pass_on.Statement.{statement}
 use Rattle.receive.proofs.gathering.pass_on.Tie as tie
+use Rattle.receive.proofs.gathering.pass_on.Reads as reads
+use Rattle.receive.proofs.gathering.pass_on.Lts as lts
+use Rattle.receive.proofs.gathering.draw_down.Reads as draw-down-reads
+use Rattle.receive.proofs.gathering.end.Reads as end-reads
+use Rattle.receive.proofs.gathering.offer.Reads as offer-reads
 
 slice-aggregate-offer : tie.Need-slice-aggregate-offer
 slice-aggregate-offer c = simp length-take (omega arith)

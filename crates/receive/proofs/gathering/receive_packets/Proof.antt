@@ -3,9 +3,12 @@ use lib.ListN.{length}
 use borrow.Author.Needs.{needs}
 use Rattle.receive.proofs.gathering.receive_packets.Statement.{statement}
 use Rattle.receive.proofs.gathering.receive_packets.Tie as tie
+use Rattle.receive.proofs.gathering.receive_packets.Reads as reads
+use Rattle.receive.proofs.gathering.receive_packets.Lts as lts
+use Rattle.receive.proofs.gathering.receive_packet.Reads as receive-packet-reads
 
 abbrev Inv-loop : tie.InvT-loop
-Inv-loop area₀ store₀ reached₀ turns₀ area store reached turns = (length area ≡ length area₀) × (length store ≡ length store₀)
+Inv-loop area₀ store₀ reached₀ turns₀ area store reached turns = length store ≡ length store₀
 
 abbrev μ-loop : tie.MeasureT-loop
 μ-loop area₀ store₀ reached₀ turns₀ area store reached turns = turns
@@ -28,17 +31,11 @@ loop-again c = search needs
 same-length : tie.Need-same-length Inv-loop μ-loop
 same-length c = search needs
 
-same-length-2 : tie.Need-same-length-2 Inv-loop μ-loop
-same-length-2 c = search needs
-
 returns : tie.Need-returns Inv-loop μ-loop
 returns c = search needs
 
-same-length-3 : tie.Need-same-length-3 Inv-loop μ-loop
-same-length-3 c = search needs
-
-same-length-4 : tie.Need-same-length-4 Inv-loop μ-loop
-same-length-4 c = search needs
+same-length-2 : tie.Need-same-length-2 Inv-loop μ-loop
+same-length-2 c = search needs
 
 returns-2 : tie.Need-returns-2 Inv-loop μ-loop
 returns-2 c = search needs
@@ -55,8 +52,6 @@ receive-packets-spec =
     loop-less
     loop-again
     same-length
-    same-length-2
     returns
-    same-length-3
-    same-length-4
+    same-length-2
     returns-2)
