@@ -6,6 +6,7 @@
 set -euo pipefail
 cd "$(dirname "$0")"
 . ./archive.sh
+need valgrind 'Debian: valgrind'
 start=$SECONDS
 link_c
 cargo build --offline --release --quiet -p exact --no-default-features --features "$features"
