@@ -29,7 +29,7 @@
  *   12  an area is too short: see the function
  *   13  the rows cannot be written: see the function
  *   14  a row to be written has start + length over the length of the byte area
- *   15  the buffer handed in is not well-formed; one that these functions have left always is
+ *   15  the buffer handed in is not well-formed: see hsp_buffer
  *
  * The order in which they are asked: reading 11, 12, 1, 2, 3, 4, 5, then 6 to 9 table entry by table entry, then 10.
  * (Redundancy: all block headers 6, then their lengths 10, then block by block as a payload.) Writing 11, 14, 13, 12.
@@ -88,8 +88,10 @@ typedef struct {
 
 /*
  * A reorder buffer; 3,112 bytes with no padding, so that two equal buffers are equal bytes. Get one from hsp_new and hand in
- * what the last call gave back; a value that no call gives back is refused with 15. The frames' bytes are in the store: the
- * frame of slot s is at 320 * s. To look inside:
+ * what the last call gave back. Whatever is handed in is tested: settings out of range are 11 (the all-zero buffer of a
+ * refused hsp_new too), and a value that breaks a rule below is 15. From an accepted hsp_new on every call gives back a
+ * well-formed buffer. The test cannot tell a buffer of yours from another that keeps the rules, nor look at the store.
+ * The frames' bytes are in the store: the frame of slot s is at 320 * s. To look inside:
  *   times, tags, lengths, slots   the frames held, earliest first, in the first n elements, n being the number of ones in
  *                                 `occupied`; a tag is 256 * class + channel; the elements after the first n are 0
  *   occupied                      slot s is in use if bit s % 64 of occupied[s / 64] is set

@@ -17,7 +17,7 @@ use Rattle.playout.specs.Lists.{Playout, WithinStretch, AtMost}
 use Rattle.playout.proofs.HeldLaws.{fresh}
 use Rattle.playout.proofs.PlayoutLaws.{gathered, playout-of, playout-unique}
 use Rattle.delivery.specs.Runs.{State, Offer, offer, draw, run, refusalOf, served}
-use Rattle.delivery.specs.Claims.{accepted, copiesIn, SamePackets, inTurn, delivery, Demand}
+use Rattle.delivery.specs.Claims.{accepted, copiesIn, SamePackets, inTurn, delivery, Demand, OnePlayout}
 use Rattle.delivery.proofs.StepLaws.{spare, at, fresh-fine, begun-at}
 use Rattle.delivery.proofs.RunLaws.{run-refusals}
 use Rattle.delivery.proofs.AcceptedLaws.{accepted-none, copies-frames, copies-among}
@@ -72,6 +72,10 @@ module _ (st : Settings) (range : inRange st ≡ true) where
           subst (λ (x : State). InTurn (served (run x (map offer os ++ map draw areas) .yields)) (left (spare .0) packets)) (sym (begun-at st range s rows))
           (offers-turn st range areas os fresh (fresh-fine st) s rows
           ∙ ap (λ (l : List Copy). inTurn (length (served (run (at st fresh s rows) (map offer os ++ map draw areas) .yields))) l) one-list)
+
+pub one-playout : OnePlayout
+one-playout st range packets W l m p q =
+    playout-unique (copiesIn st packets) (copiesIn st packets) l m (copies-frames st range packets) W (λ x i. i) (λ x i. i) p q
 
 pub demand : Demand
 demand st range = record {

@@ -1,10 +1,12 @@
 -- Runs keep a buffer well-formed: the proof of the claim.
-use mathlib.Core.Path.{_≡_, refl, ap, _∙_, subst}
+use mathlib.Core.Path.{_≡_, refl, ap, sym, _∙_, subst}
 use mathlib.Core.List.{List, [], _∷_}
 use mathlib.Core.Bool.{true, false}
 use Prim.Native.Nat.{ℕ}
 use Rattle.rtp.specs.Ranges.{inRange}
+use Rattle.rtp.specs.declared.settings.Settings.{Settings}
 use Rattle.rtp.proofs.TestLaws.{by-test}
+use Rattle.playout.proofs.HeldLaws.{fresh}
 use Rattle.reorder.specs.declared.buffer.Buffer.{Buffer}
 use Rattle.reorder.specs.Arrays.{Machine}
 use Rattle.reorder.specs.Layout.{decode}
@@ -13,9 +15,9 @@ use Rattle.reorder.specs.Calls.{NewOutcome, OfferOutcome, DrawOutcome}
 use Rattle.reorder.proofs.CallLaws.{new-in, offer-out, draw-out}
 use Rattle.reorder.proofs.WellFormedLaws.{encode-decode, fresh-formed}
 use Rattle.reorder.proofs.BufferLaws.{buffer-good, good-fine}
-use Rattle.delivery.specs.Runs.{State, lent, Call, offer, draw, step, run}
+use Rattle.delivery.specs.Runs.{State, lent, Call, offer, draw, step, run, begun}
 use Rattle.delivery.specs.Claims.{KeepsWellFormed}
-use Rattle.delivery.proofs.StepLaws.{spare}
+use Rattle.delivery.proofs.StepLaws.{spare, fresh-fine, begun-at}
 use Rattle.delivery.proofs.RunLaws.{run-leaves}
 
 -- under settings out of range every call is refused
@@ -40,8 +42,15 @@ kept s cs m w =
     (ap (λ (x : State). wellFormed (x .buffer)) (k .same) ∙ good-fine st (k .held) (spare .0) (k .fine)))
     (λ r. ap wellFormed (stays b r cs (s .store) (s .rows)) ∙ w)
 
+from-fresh : (st : Settings) → inRange st ≡ true → (store rows : List ℕ) (cs : List Call) → wellFormed (run (begun st store rows) cs .state .buffer) ≡ true
+from-fresh st r store rows cs =
+    let k = run-leaves st r cs fresh (fresh-fine st) store rows in
+    subst (λ (s : State). wellFormed (run s cs .state .buffer) ≡ true) (sym (begun-at st r store rows))
+    (ap (λ (x : State). wellFormed (x .buffer)) (k .same) ∙ good-fine st (k .held) (spare .0) (k .fine))
+
 pub keeps-well-formed : KeepsWellFormed
 keeps-well-formed = record {
   new = λ st r. ap (λ (n : NewOutcome). wellFormed (n .buffer)) (new-in st r) ∙ fresh-formed st;
   kept = kept;
+  from-fresh = from-fresh;
 }

@@ -101,6 +101,11 @@ pub record Demand3 (st : Settings) : Type 0 where
 abbrev pub Demand : Type 0
 Demand = (st : Settings) → inRange st ≡ true → Demand3 st
 
+-- copies within a stretch have one playout list at most
+abbrev pub OnePlayout : Type 0
+OnePlayout = (st : Settings) → inRange st ≡ true → (packets : List (List ℕ)) → WithinStretch (copiesIn st packets)
+    → (l m : List Copy) → Playout (copiesIn st packets) l → Playout (copiesIn st packets) m → l ≡ m
+
 -- its premises hold exactly if no copy accepted is far or finds no room
 abbrev pub PremisesExact : Type 0
 PremisesExact = (st : Settings) (store rows : List ℕ) (os : List Offer) → inRange st ≡ true
@@ -109,10 +114,11 @@ PremisesExact = (st : Settings) (store rows : List ℕ) (os : List Offer) → in
 
 -- Well-formedness
 
--- a fresh buffer is well-formed, and every run keeps a buffer so
+-- a fresh buffer is well-formed, every run keeps a buffer so, and so every run from a fresh buffer leaves a well-formed one
 pub record KeepsWellFormed : Type 0 where
   pub new : (st : Settings) → inRange st ≡ true → wellFormed (newCall st .buffer) ≡ true
   pub kept : (s : State) (cs : List Call) → Machine (s .buffer) → wellFormed (s .buffer) ≡ true → wellFormed (run s cs .state .buffer) ≡ true
+  pub from-fresh : (st : Settings) → inRange st ≡ true → (store rows : List ℕ) (cs : List Call) → wellFormed (run (begun st store rows) cs .state .buffer) ≡ true
 
 -- The counts
 
