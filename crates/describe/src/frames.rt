@@ -11,7 +11,12 @@ fn print_words(time: u32, tag: u32, start: u32, length: u32) -> bool {
     let class = tagging::tag_class(tag);
     let mut line = lines::blank();
     let mut at = lines::put_number(&mut line, 0, b"    time ", time as u64);
-    at = lines::put_number(&mut line, at, b", channel ", tagging::tag_channel(tag) as u64);
+    at = lines::put_number(
+        &mut line,
+        at,
+        b", channel ",
+        tagging::tag_channel(tag) as u64,
+    );
     at = lines::put(&mut line, at, b", ");
     at = words::put_class(&mut line, at, class);
     if class != 0 {

@@ -1,7 +1,4 @@
 // The stream through a reorder buffer: each packet is offered, and frames are drawn so that the next packet's have room.
-use console::stream;
-use console::stream::AREA;
-use console::stream::Input;
 use crate::gaps;
 use crate::gaps::Gaps;
 use crate::printing;
@@ -9,10 +6,13 @@ use crate::sources;
 use crate::sources::Sources;
 use crate::totals;
 use crate::totals::Totals;
+use console::stream;
+use console::stream::AREA;
+use console::stream::Input;
 use formats::frames;
 use reorder::buffer::Buffer;
-use reorder::buffer::SLOTS;
 use reorder::buffer::SLOT_SIZE;
+use reorder::buffer::SLOTS;
 use reorder::buffer::STORE_SIZE;
 use reorder::calls;
 use reorder::calls::DrawAnswer;
