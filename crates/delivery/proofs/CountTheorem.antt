@@ -20,9 +20,9 @@ use Rattle.playout.specs.Entries.{Entry, Held}
 use Rattle.playout.specs.Verdicts.{Counts, noCounts, tally, judgeAll}
 use Rattle.playout.proofs.JudgeLaws.{judgeAll-count, tally-append}
 use Rattle.playout.proofs.HeldLaws.{fresh, drawnFirst}
-use Rattle.reorder.specs.declared.buffer.Buffer.{Buffer}
-use Rattle.reorder.specs.Layout.{encode, model}
-use Rattle.reorder.specs.WellFormed.{wellFormed}
+use Rattle.layout.specs.declared.buffer.Buffer.{Buffer}
+use Rattle.layout.specs.Layout.{encode, model}
+use Rattle.layout.specs.WellFormed.{wellFormed}
 use Rattle.reorder.specs.Rows.{copiesOf}
 use Rattle.reorder.specs.ModelCalls.{Result, refused, done, Offered, offerTo}
 use Rattle.reorder.specs.Calls.{countNumbers, OfferOutcome, offerRefused, offerDone, offerCall}

@@ -25,12 +25,12 @@ use Rattle.playout.specs.Sizes.{slotSize, storeSize}
 use Rattle.playout.specs.Entries.{Entry, Held, frameOf}
 use Rattle.playout.specs.Verdicts.{noCounts, tally, judgeAll}
 use Rattle.playout.proofs.HeldLaws.{fresh, drawnFirst, judgeAll-length}
-use Rattle.reorder.specs.declared.buffer.Buffer.{Buffer}
-use Rattle.reorder.specs.Layout.{encode, model}
+use Rattle.layout.specs.declared.buffer.Buffer.{Buffer}
+use Rattle.layout.specs.Layout.{encode, model}
 use Rattle.reorder.specs.Rows.{copiesOf}
 use Rattle.reorder.specs.ModelCalls.{Result, refused, Offered, judgeRead, offerTo}
 use Rattle.reorder.specs.Calls.{NewOutcome, countNumbers, OfferOutcome, offerDone, offerCall, DrawNumbers, noFrame, DrawOutcome, drawRefused, drawCall}
-use Rattle.reorder.proofs.LayoutLaws.{fresh-encode}
+use Rattle.layout.proofs.LayoutLaws.{fresh-encode}
 use Rattle.reorder.proofs.CallLaws.{new-in, drawFirst, draw-store, draw-area, draw-goes}
 use Rattle.reorder.proofs.StateLaws.{Good, good-facts, judgeAll-good, draw-good}
 use Rattle.reorder.proofs.BufferLaws.{good-fine, good-back}

@@ -7,13 +7,13 @@ use Rattle.rtp.specs.Ranges.{inRange}
 use Rattle.rtp.specs.declared.settings.Settings.{Settings}
 use Rattle.rtp.proofs.TestLaws.{by-test}
 use Rattle.playout.proofs.HeldLaws.{fresh}
-use Rattle.reorder.specs.declared.buffer.Buffer.{Buffer}
-use Rattle.reorder.specs.Arrays.{Machine}
-use Rattle.reorder.specs.Layout.{decode}
-use Rattle.reorder.specs.WellFormed.{wellFormed}
+use Rattle.layout.specs.declared.buffer.Buffer.{Buffer}
+use Rattle.layout.specs.Arrays.{Machine}
+use Rattle.layout.specs.Layout.{decode}
+use Rattle.layout.specs.WellFormed.{wellFormed}
 use Rattle.reorder.specs.Calls.{NewOutcome, OfferOutcome, DrawOutcome}
 use Rattle.reorder.proofs.CallLaws.{new-in, offer-out, draw-out}
-use Rattle.reorder.proofs.WellFormedLaws.{encode-decode, fresh-formed}
+use Rattle.layout.proofs.WellFormedLaws.{encode-decode, fresh-formed}
 use Rattle.reorder.proofs.BufferLaws.{buffer-good, good-fine}
 use Rattle.delivery.specs.Runs.{State, lent, Call, offer, draw, step, run, begun}
 use Rattle.delivery.specs.Claims.{KeepsWellFormed}

@@ -16,10 +16,10 @@ use Rattle.playout.specs.Sizes.{slots, slotSize, storeSize}
 use Rattle.playout.specs.Copies.{Copy}
 use Rattle.playout.specs.Verdicts.{noCounts, tally}
 use Rattle.playout.specs.Lists.{Playout, WithinStretch, AtMost}
-use Rattle.reorder.specs.declared.buffer.Buffer.{Buffer}
-use Rattle.reorder.specs.Arrays.{Machine}
-use Rattle.reorder.specs.Layout.{decode}
-use Rattle.reorder.specs.WellFormed.{wellFormed}
+use Rattle.layout.specs.declared.buffer.Buffer.{Buffer}
+use Rattle.layout.specs.Arrays.{Machine}
+use Rattle.layout.specs.Layout.{decode}
+use Rattle.layout.specs.WellFormed.{wellFormed}
 use Rattle.reorder.specs.Rows.{readCopies}
 use Rattle.reorder.specs.Calls.{newCall, countNumbers, noFrame}
 use Rattle.delivery.specs.Runs.{State, lent, Offer, Call, offer, draw, Yield, offered, drew, step, Run, run, begun, refusalOf, judged, Served, served, frames}

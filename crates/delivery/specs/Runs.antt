@@ -7,8 +7,8 @@ use lib.ListN.{length, take}
 use lib.Dec.{eqb}
 use Rattle.rtp.specs.declared.settings.Settings.{Settings}
 use Rattle.playout.specs.Verdicts.{Judgement}
-use Rattle.reorder.specs.declared.buffer.Buffer.{Buffer}
-use Rattle.reorder.specs.Layout.{model}
+use Rattle.layout.specs.declared.buffer.Buffer.{Buffer}
+use Rattle.layout.specs.Layout.{model}
 use Rattle.reorder.specs.ModelCalls.{Result, refused, done, Offered, offerTo}
 use Rattle.reorder.specs.Calls.{newCall, OfferNumbers, offerCall, DrawNumbers, drawCall}
 

@@ -9,7 +9,7 @@ use Rattle.packet.specs.declared.reading.Packet.{Packet}
 use Rattle.packet.specs.Readings.{readingNumbers}
 use Rattle.encoder.specs.declared.writing.Written.{Written}
 use Rattle.encoder.specs.Writings.{writtenNumbers}
-use Rattle.reorder.specs.declared.buffer.Buffer.{Buffer}
+use Rattle.layout.specs.declared.buffer.Buffer.{Buffer}
 use Rattle.reorder.specs.declared.tally.Tally.{Tally}
 use Rattle.reorder.specs.declared.calls.DrawnFrame.{DrawnFrame}
 use Rattle.reorder.specs.declared.calls.NewAnswer.{NewAnswer}

@@ -1,5 +1,5 @@
 // hsp_new, hsp_offer and hsp_draw: the calls on a reorder buffer.
-use reorder::buffer::Buffer;
+use layout::buffer::Buffer;
 use reorder::calls;
 use reorder::calls::DrawAnswer;
 use reorder::calls::NewAnswer;

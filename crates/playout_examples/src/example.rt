@@ -1,7 +1,7 @@
 // A receiver of interleaved mono, and packets for it, printed.
-use reorder::buffer::Buffer;
-use reorder::buffer::SLOT_SIZE;
-use reorder::buffer::STORE_SIZE;
+use layout::buffer::Buffer;
+use layout::buffer::SLOT_SIZE;
+use layout::buffer::STORE_SIZE;
 use reorder::calls;
 use reorder::calls::DrawAnswer;
 use reorder::calls::DrawnFrame;

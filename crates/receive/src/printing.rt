@@ -8,9 +8,9 @@ use console::lines;
 use console::lines::LINE;
 use console::refusals;
 use formats::frames::SID;
+use layout::buffer::SLOT_SIZE;
 use libc::STDERR_FILENO;
 use libc::STDOUT_FILENO;
-use reorder::buffer::SLOT_SIZE;
 use reorder::calls::DrawnFrame;
 
 // Progress is said after each so many packets.

@@ -12,12 +12,12 @@ use Rattle.rtp.proofs.TestLaws.{by-test}
 use Rattle.rtp.proofs.RangeLaws.{few-channels}
 use Rattle.playout.specs.Sizes.{slots, storeSize}
 use Rattle.playout.specs.Entries.{Entry, Held}
-use Rattle.reorder.specs.declared.buffer.Buffer.{Buffer}
-use Rattle.reorder.specs.Layout.{entryTag, padTo, column, encode, decode}
-use Rattle.reorder.specs.WellFormed.{wellFormed}
-use Rattle.reorder.specs.Arrays.{Column, Machine}
-use Rattle.reorder.proofs.LayoutLaws.{column-length, decode-encode}
-use Rattle.reorder.proofs.WellFormedLaws.{facts, times-word, well-formed}
+use Rattle.layout.specs.declared.buffer.Buffer.{Buffer}
+use Rattle.layout.specs.Layout.{entryTag, padTo, column, encode, decode}
+use Rattle.layout.specs.WellFormed.{wellFormed}
+use Rattle.layout.specs.Arrays.{Column, Machine}
+use Rattle.layout.proofs.LayoutLaws.{column-length, decode-encode}
+use Rattle.layout.proofs.WellFormedLaws.{facts, times-word, well-formed}
 use Rattle.reorder.proofs.StateLaws.{Good, good-facts}
 
 -- a well-formed buffer's model

@@ -13,9 +13,9 @@ use Rattle.rtp.specs.declared.refusal.Refusal.the-variants.{SettingsOutOfRange,
 use Rattle.packet.specs.Readings.{Outcome, reading}
 use Rattle.playout.specs.Sizes.{slotSize, storeSize}
 use Rattle.playout.specs.Entries.{Entry}
-use Rattle.reorder.specs.declared.buffer.Buffer.{Buffer}
-use Rattle.reorder.specs.Layout.{decode, fresh}
-use Rattle.reorder.specs.WellFormed.{wellFormed}
+use Rattle.layout.specs.declared.buffer.Buffer.{Buffer}
+use Rattle.layout.specs.Layout.{decode, fresh}
+use Rattle.layout.specs.WellFormed.{wellFormed}
 use Rattle.reorder.specs.ModelCalls.{done, judgeRead, offerTo, earliest, drawFrom}
 use Rattle.reorder.specs.Calls.{noSettings, newCall, OfferOutcome, offerRefused, offerDone, offerCall, DrawOutcome, drawRefused, drawDone, drawCall}
 

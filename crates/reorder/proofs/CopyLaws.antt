@@ -19,7 +19,7 @@ use Rattle.packet.specs.Readings.{Outcome, refused, readAs, reading}
 use Rattle.packet.proofs.RowFactLaws.{rows-fine}
 use Rattle.playout.specs.Copies.{Copy}
 use Rattle.playout.proofs.HeldLaws.{IsFrame, Frames}
-use Rattle.reorder.specs.Model.{allowed}
+use Rattle.layout.specs.Model.{allowed}
 use Rattle.reorder.specs.Rows.{copyOf, copiesOf, readCopies}
 use Rattle.reorder.specs.Judging.{RowAllowed, RowsAllowed}
 use Rattle.reorder.proofs.StateLaws.{Fit, Fits, fit-frame}

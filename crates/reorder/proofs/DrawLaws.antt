@@ -9,16 +9,16 @@ use lib.Seq.{paste, take-length}
 use Rattle.rtp.specs.Areas.{over}
 use Rattle.playout.specs.Sizes.{slots, slotSize}
 use Rattle.playout.specs.Entries.{Entry, frameOf}
-use Rattle.reorder.specs.declared.buffer.Buffer.{Buffer}
-use Rattle.reorder.specs.Bits.{wordsOf, unmarked}
-use Rattle.reorder.specs.Columns.{removeFirst}
-use Rattle.reorder.specs.Layout.{entryTag, column, entryAt, entriesFrom, decode}
+use Rattle.layout.specs.declared.buffer.Buffer.{Buffer}
+use Rattle.layout.specs.Bits.{wordsOf, unmarked}
+use Rattle.layout.specs.Columns.{removeFirst}
+use Rattle.layout.specs.Layout.{entryTag, column, entryAt, entriesFrom, decode}
 use Rattle.reorder.specs.Judging.{Drawable}
 use Rattle.reorder.proofs.CallLaws.{drawFirst}
-use Rattle.reorder.proofs.WordLaws.{slotOf, slotsOf, words-first}
-use Rattle.reorder.proofs.LayoutLaws.{column-rest, words-remove}
-use Rattle.reorder.proofs.WellFormedLaws.{facts, decode-length, words-held, encode-decode}
-use Rattle.reorder.proofs.AllowedLaws.{allowed-frame}
+use Rattle.layout.proofs.WordLaws.{slotOf, slotsOf, words-first}
+use Rattle.layout.proofs.LayoutLaws.{column-rest, words-remove}
+use Rattle.layout.proofs.WellFormedLaws.{facts, decode-length, words-held, encode-decode}
+use Rattle.layout.proofs.AllowedLaws.{allowed-frame}
 
 -- bytes laid at the front
 paste-front : (area f : List ℕ) → paste area 0 f (length f) ≡ over f area

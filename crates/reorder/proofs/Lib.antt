@@ -1,15 +1,5 @@
-pub mod BitLaws
-pub mod ColumnLaws
-pub mod PositionLaws
-pub mod CheckLaws
-pub mod WordLaws
-pub mod LayoutLaws
+pub mod SearchLaws
 pub mod PlaceLaws
-pub mod ModelLaws
-pub mod PassLaws
-pub mod WellFormedLaws
-pub mod AllowedLaws
-pub mod FreeLaws
 pub mod CallLaws
 pub mod StateLaws
 pub mod BufferLaws
@@ -17,6 +7,5 @@ pub mod CopyLaws
 pub mod VerdictLaws
 pub mod PlaceSearchLaws
 pub mod RowStepLaws
-pub mod MachineLaws
 pub mod DrawLaws
 pub mod OfferLaws

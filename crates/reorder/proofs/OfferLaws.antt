@@ -23,14 +23,14 @@ use Rattle.packet.specs.Readings.{Outcome, refused, readAs, reading, Numbers, r
 use Rattle.packet.proofs.RowFactLaws.{rows-fine}
 use Rattle.playout.specs.Sizes.{storeSize}
 use Rattle.playout.specs.Verdicts.{noCounts, tally, Gathered, judgeAll}
-use Rattle.reorder.specs.declared.buffer.Buffer.{Buffer}
+use Rattle.layout.specs.declared.buffer.Buffer.{Buffer}
 use Rattle.reorder.specs.declared.calls.OfferAnswer.{OfferAnswer}
 use Rattle.reorder.specs.declared.judging.Judged.{Judged}
 use Rattle.reorder.specs.declared.tally.Tally.{Tally}
-use Rattle.reorder.specs.Layout.{encode, decode}
-use Rattle.reorder.specs.WellFormed.{wellFormed}
+use Rattle.layout.specs.Layout.{encode, decode}
+use Rattle.layout.specs.WellFormed.{wellFormed}
 use Rattle.reorder.specs.Rows.{copiesOf}
-use Rattle.reorder.specs.Arrays.{Machine}
+use Rattle.layout.specs.Arrays.{Machine}
 use Rattle.reorder.specs.Judging.{noTally, RowsJudgeable, RowsJudged, OfferJudged}
 use Rattle.reorder.specs.Calls.{countNumbers, offerNumbers, offerRefused, offerCall}
 use Rattle.reorder.proofs.CallLaws.{offerRead, offer-reads}

@@ -17,10 +17,11 @@ use Rattle.playout.specs.Entries.{Entry, sideOfEntry, putAt, put, findAt, findB
 use Rattle.playout.specs.Verdicts.{allWithin, fits}
 use Rattle.playout.proofs.InsertionLaws.{Cmp, cmp}
 use Rattle.reorder.specs.declared.columns.Place.{Place}
-use Rattle.reorder.specs.Columns.{placeAt, placeFrom, withinFrom, fitsFrom}
-use Rattle.reorder.specs.Layout.{entryTag, column}
-use Rattle.reorder.proofs.ColumnLaws.{inserted}
-use Rattle.reorder.proofs.LayoutLaws.{noEntry, Octets, column-at, column-first, at-member, tag-channel}
+use Rattle.layout.specs.Columns.{withinFrom, fitsFrom}
+use Rattle.reorder.specs.Places.{placeAt, placeFrom}
+use Rattle.layout.specs.Layout.{entryTag, column}
+use Rattle.layout.proofs.ColumnLaws.{inserted}
+use Rattle.layout.proofs.LayoutLaws.{noEntry, Octets, column-at, column-first, at-member, tag-channel}
 
 -- A place in a list: what it says of `findBy` and of `put`
 

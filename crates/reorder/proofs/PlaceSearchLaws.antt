@@ -13,15 +13,15 @@ use Rattle.playout.proofs.InsertionLaws.{Asc, Cmp, cmp}
 use Rattle.playout.proofs.WrapLaws.{Near, place, order-place, order-after}
 use Rattle.playout.proofs.HeldLaws.{entryPlace, Sorted, sorted-with}
 use Rattle.rtp.proofs.RangeLaws.{few-channels}
-use Rattle.reorder.specs.declared.buffer.Buffer.{Buffer}
+use Rattle.layout.specs.declared.buffer.Buffer.{Buffer}
 use Rattle.reorder.specs.declared.laying.FrameHead.{FrameHead}
-use Rattle.reorder.specs.Bits.{heldIn}
-use Rattle.reorder.specs.Columns.{Parted}
-use Rattle.reorder.specs.Layout.{entryAt, decode}
+use Rattle.layout.specs.Bits.{heldIn}
+use Rattle.reorder.specs.Places.{Parted}
+use Rattle.layout.specs.Layout.{entryAt, decode}
 use Rattle.reorder.specs.Laying.{channelIn, copyIn}
 use Rattle.reorder.specs.Judging.{Judgeable}
-use Rattle.reorder.proofs.LayoutLaws.{noEntry, at-member}
-use Rattle.reorder.proofs.WellFormedLaws.{decode-length}
+use Rattle.layout.proofs.LayoutLaws.{noEntry, at-member}
+use Rattle.layout.proofs.WellFormedLaws.{decode-length}
 use Rattle.reorder.proofs.StateLaws.{good-facts, fit-frame}
 use Rattle.reorder.proofs.BufferLaws.{buffer-good}
 use Rattle.reorder.proofs.VerdictLaws.{entries-at}

@@ -19,19 +19,19 @@ use Rattle.playout.specs.Sizes.{storeSize}
 use Rattle.playout.specs.Copies.{Copy}
 use Rattle.playout.specs.Entries.{Held}
 use Rattle.playout.specs.Verdicts.{Counts, counted, tally, Gathered, judge, judgeAll}
-use Rattle.reorder.specs.declared.buffer.Buffer.{Buffer}
+use Rattle.layout.specs.declared.buffer.Buffer.{Buffer}
 use Rattle.reorder.specs.declared.tally.Tally.{Tally}
 use Rattle.reorder.specs.declared.laying.FrameHead.{FrameHead}
-use Rattle.reorder.specs.Layout.{encode, decode}
-use Rattle.reorder.specs.Model.{allowed}
-use Rattle.reorder.specs.WellFormed.{wellFormed}
+use Rattle.layout.specs.Layout.{encode, decode}
+use Rattle.layout.specs.Model.{allowed}
+use Rattle.layout.specs.WellFormed.{wellFormed}
 use Rattle.reorder.specs.Rows.{firstRow, restWords, copyOf, copiesOf}
-use Rattle.reorder.specs.Arrays.{Machine}
+use Rattle.layout.specs.Arrays.{Machine}
 use Rattle.reorder.specs.Laying.{copyIn}
 use Rattle.reorder.specs.Judging.{Judgeable, JudgedAs, countsOf, RowsAllowed, RowsJudgeable, RowsJudged}
 use Rattle.reorder.proofs.StateLaws.{Good, judge-good}
 use Rattle.reorder.proofs.BufferLaws.{buffer-good, good-machine, good-fine, good-back}
-use Rattle.reorder.proofs.WellFormedLaws.{encode-decode}
+use Rattle.layout.proofs.WellFormedLaws.{encode-decode}
 use Rattle.reorder.proofs.CopyLaws.{frame-size}
 
 pub rows-split : (ws : List ℕ) → rowWidth ≤ length ws → rowsIn ws ≡ firstRow ws ∷ rowsIn (restWords ws)

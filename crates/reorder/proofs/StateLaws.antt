@@ -15,9 +15,9 @@ use Rattle.playout.specs.Verdicts.{judge, judgeAll}
 use Rattle.playout.proofs.InsertionLaws.{put-from}
 use Rattle.playout.proofs.JudgeLaws.{judge-cases, judge-last, judge-room}
 use Rattle.playout.proofs.HeldLaws.{IsFrame, HeldFacts, judge-facts, drawnFirst, draw-facts}
-use Rattle.reorder.specs.Model.{allowed}
-use Rattle.reorder.proofs.ModelLaws.{EntryFacts, Facts}
-use Rattle.reorder.proofs.AllowedLaws.{allowed-frame}
+use Rattle.layout.specs.Model.{allowed}
+use Rattle.layout.proofs.ModelLaws.{EntryFacts, Facts}
+use Rattle.layout.proofs.AllowedLaws.{allowed-frame}
 
 -- the buffer's model, with its store, under settings in range
 pub record Good (st : Settings) (h : Held) (s : List ℕ) : Type 0 where

@@ -17,23 +17,24 @@ use Rattle.playout.specs.Sizes.{slots, slotSize, storeSize}
 use Rattle.playout.specs.Copies.{Copy, better}
 use Rattle.playout.specs.Entries.{Entry, view, entryOf, sideOfEntry, put, findBy, always, freeSlot, placed, stored}
 use Rattle.playout.specs.Verdicts.{Judged, isLate, fits, isFar, keeps, lays, judgeHeld, judge}
-use Rattle.reorder.specs.declared.buffer.Buffer.{Buffer}
+use Rattle.layout.specs.declared.buffer.Buffer.{Buffer}
 use Rattle.reorder.specs.declared.columns.Place.{Place}
 use Rattle.reorder.specs.declared.laying.FrameHead.{FrameHead}
-use Rattle.reorder.specs.Bits.{heldIn, wordsOf, marked, lowestFree}
-use Rattle.reorder.specs.Columns.{insertAt, placeFrom, fitsFrom}
-use Rattle.reorder.specs.Layout.{entryTag, column, flagOf, encode, entryAt, entriesFrom, decode}
-use Rattle.reorder.specs.WellFormed.{wellFormed}
-use Rattle.reorder.specs.Arrays.{Machine}
+use Rattle.layout.specs.Bits.{heldIn, wordsOf, marked, lowestFree}
+use Rattle.layout.specs.Columns.{insertAt, fitsFrom}
+use Rattle.reorder.specs.Places.{placeFrom}
+use Rattle.layout.specs.Layout.{entryTag, column, flagOf, encode, entryAt, entriesFrom, decode}
+use Rattle.layout.specs.WellFormed.{wellFormed}
+use Rattle.layout.specs.Arrays.{Machine}
 use Rattle.reorder.specs.Laying.{channelIn, copyIn, HeldAt, beats, Replaced, Laid}
 use Rattle.reorder.specs.Judging.{JudgedAs}
-use Rattle.reorder.proofs.ColumnLaws.{inserted}
-use Rattle.reorder.proofs.WordLaws.{slotOf, slotsOf, free-is}
-use Rattle.reorder.proofs.FreeLaws.{free-when-room}
-use Rattle.reorder.proofs.LayoutLaws.{tag-back, noEntry, at-member, column-insert, column-set, column-same, words-insert, words-set}
+use Rattle.layout.proofs.ColumnLaws.{inserted}
+use Rattle.layout.proofs.WordLaws.{slotOf, slotsOf, free-is}
+use Rattle.layout.proofs.FreeLaws.{free-when-room}
+use Rattle.layout.proofs.LayoutLaws.{tag-back, noEntry, at-member, column-insert, column-set, column-same, words-insert, words-set}
 use Rattle.reorder.proofs.PlaceLaws.{AtPlace, place-at, fits-is}
-use Rattle.reorder.proofs.WellFormedLaws.{facts, decode-length, words-held, encode-decode}
-use Rattle.reorder.proofs.AllowedLaws.{allowed-frame}
+use Rattle.layout.proofs.WellFormedLaws.{facts, decode-length, words-held, encode-decode}
+use Rattle.layout.proofs.AllowedLaws.{allowed-frame}
 
 -- the entry at a place of the list is that at the place of the columns
 pub entries-at : (b : Buffer) (k i j : ℕ) → j < k → getD (entriesFrom b k i) j noEntry ≡ entryAt b (i + j)

@@ -12,12 +12,12 @@ use Rattle.rtp.specs.declared.refusal.Refusal.{Refusal}
 use Rattle.rtp.specs.declared.refusal.Refusal.the-variants.{SettingsOutOfRange, MalformedBuffer}
 use Rattle.payload.specs.Rows.{words}
 use Rattle.playout.specs.Verdicts.{Counts, noCounts, tally}
-use Rattle.reorder.specs.declared.buffer.Buffer.{Buffer}
+use Rattle.layout.specs.declared.buffer.Buffer.{Buffer}
 use Rattle.reorder.specs.declared.calls.NewAnswer.{NewAnswer}
 use Rattle.reorder.specs.declared.calls.OfferAnswer.{OfferAnswer}
 use Rattle.reorder.specs.declared.calls.DrawAnswer.{DrawAnswer}
-use Rattle.reorder.specs.Layout.{encode, model, fresh}
-use Rattle.reorder.specs.WellFormed.{wellFormed}
+use Rattle.layout.specs.Layout.{encode, model, fresh}
+use Rattle.layout.specs.WellFormed.{wellFormed}
 use Rattle.reorder.specs.ModelCalls.{Result, refused, done, Offered, offerTo, HandedOut, drawFrom}
 
 -- New

@@ -12,15 +12,15 @@ use Rattle.playout.specs.declared.verdict.Verdict.{Verdict}
 use Rattle.playout.specs.Sizes.{slotSize, storeSize}
 use Rattle.playout.specs.Copies.{Copy}
 use Rattle.playout.specs.Verdicts.{isLate, isFar, Counts, noCounts, judge, tally, judgeAll}
-use Rattle.reorder.specs.declared.buffer.Buffer.{Buffer}
+use Rattle.layout.specs.declared.buffer.Buffer.{Buffer}
 use Rattle.reorder.specs.declared.calls.OfferAnswer.{OfferAnswer}
 use Rattle.reorder.specs.declared.laying.FrameHead.{FrameHead}
 use Rattle.reorder.specs.declared.tally.Tally.{Tally}
-use Rattle.reorder.specs.Arrays.{Machine}
-use Rattle.reorder.specs.Bits.{heldIn}
-use Rattle.reorder.specs.Layout.{encode, decode}
-use Rattle.reorder.specs.Model.{allowed}
-use Rattle.reorder.specs.WellFormed.{wellFormed}
+use Rattle.layout.specs.Arrays.{Machine}
+use Rattle.layout.specs.Bits.{heldIn}
+use Rattle.layout.specs.Layout.{encode, decode}
+use Rattle.layout.specs.Model.{allowed}
+use Rattle.layout.specs.WellFormed.{wellFormed}
 use Rattle.reorder.specs.Rows.{copiesOf}
 use Rattle.reorder.specs.Laying.{classIn, channelIn}
 use Rattle.reorder.specs.Calls.{countNumbers, offerNumbers}

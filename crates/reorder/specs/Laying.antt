@@ -12,10 +12,10 @@ use Rattle.playout.specs.declared.verdict.Verdict.the-variants.{Repeated, Bette
 use Rattle.playout.specs.Sizes.{slots, slotSize, storeSize}
 use Rattle.playout.specs.Pairs.{order, isAfter}
 use Rattle.playout.specs.Copies.{Copy, betterFrame}
-use Rattle.reorder.specs.declared.buffer.Fixed.{Fixed}
+use Rattle.layout.specs.declared.buffer.Fixed.{Fixed}
 use Rattle.reorder.specs.declared.laying.FrameHead.{FrameHead}
-use Rattle.reorder.specs.Bits.{heldIn, lowestFree, marked}
-use Rattle.reorder.specs.Columns.{insertAt, fitsFrom}
+use Rattle.layout.specs.Bits.{heldIn, lowestFree, marked}
+use Rattle.layout.specs.Columns.{insertAt, fitsFrom}
 
 -- the class and the channel of a frame, and its copy
 abbrev pub classIn : FrameHead → ℕ

@@ -1,12 +1,6 @@
-pub mod Bits
-pub mod Columns
-pub mod Model
-pub mod Arrays
-pub mod Layout
-pub mod WellFormed
+pub mod Places
 pub mod Rows
 pub mod ModelCalls
-pub mod Checks
 pub mod Calls
 pub mod Laying
 pub mod Judging

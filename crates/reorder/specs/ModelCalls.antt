@@ -13,7 +13,7 @@ use Rattle.packet.specs.Readings.{Outcome, refused as unread, readAs, reading}
 use Rattle.playout.specs.Sizes.{slotSize, storeSize}
 use Rattle.playout.specs.Entries.{Entry, Held, frameOf}
 use Rattle.playout.specs.Verdicts.{Gathered, judgeAll}
-use Rattle.reorder.specs.Model.{Model}
+use Rattle.layout.specs.Model.{Model}
 use Rattle.reorder.specs.Rows.{copiesOf}
 
 -- a call refused, or what it comes to

@@ -1,13 +1,13 @@
 // Columns of a buffer.
-use crate::buffer::SLOTS;
 use formats::tagging;
+use layout::buffer::SLOTS;
 use playout::order;
 use playout::order::Side;
 ghost use mathlib.Core.Path.{_≡_};
 ghost use Prim.Native.Nat.{_≤_, _<_};
-ghost use lib.ListN.{drop};
 ghost use Rattle.playout.specs.Sizes.{slots};
-ghost use Rattle.reorder.specs.Columns.{insertAt, removeFirst, zeros, placeFrom, Parted, fitsFrom, withinFrom};
+ghost use Rattle.layout.specs.Columns.{insertAt, removeFirst, fitsFrom, withinFrom};
+ghost use Rattle.reorder.specs.Places.{placeFrom, Parted};
 
 // Where a pair is held, or belongs.
 pub enum Place {
@@ -107,19 +107,4 @@ pub(crate) fn in_stretch(times: &[u32; SLOTS], n: usize, time: u32) -> bool
         return true;
     }
     all_within(times, n, time)
-}
-
-// Whether a column is zero from the n-th value on.
-pub(crate) fn zero_from(column: &[u32; SLOTS], n: usize) -> bool
-    requires { ⌜ n ≤ slots ⌝ }
-    ensures { λ r. ⌜ r ≡ zeros (drop n (now (column .entry))) ⌝ }
-{
-    let values: &[u32] = column;
-    let mut any = 0;
-    let mut i = n;
-    while i < SLOTS {
-        any |= values[i];
-        i += 1;
-    }
-    any == 0
 }

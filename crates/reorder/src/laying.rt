@@ -1,9 +1,9 @@
 // Frames laid into the columns and the store.
-use crate::bits;
-use crate::buffer::SLOT_SIZE;
-use crate::buffer::SLOTS;
 use crate::columns;
 use formats::tagging;
+use layout::bits;
+use layout::buffer::SLOT_SIZE;
+use layout::buffer::SLOTS;
 use playout::compare;
 use playout::verdict::Verdict;
 ghost use mathlib.Core.Path.{_≡_};

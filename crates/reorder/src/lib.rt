@@ -1,9 +1,6 @@
 // The reorder buffer: gathers frames from packets, and hands them out in time order across the timestamp wrap.
-pub mod bits;
-pub mod buffer;
 pub mod calls;
 pub mod columns;
 pub mod judging;
 pub mod laying;
 pub mod tally;
-pub mod well_formed;

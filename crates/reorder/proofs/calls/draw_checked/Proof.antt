@@ -5,14 +5,14 @@ use Prim.Native.Nat.{ℕ}
 use native.Mathlib.Omega.{arith}
 use denote.Ref.{now}
 use Rattle.reorder.specs.declared.calls.Drawn.{Drawn}
-use Rattle.reorder.specs.Arrays.{Machine}
-use Rattle.reorder.specs.Bits.{heldIn}
-use Rattle.reorder.specs.Layout.{entriesFrom}
-use Rattle.reorder.specs.WellFormed.{wellFormed}
+use Rattle.layout.specs.Arrays.{Machine}
+use Rattle.layout.specs.Bits.{heldIn}
+use Rattle.layout.specs.Layout.{entriesFrom}
+use Rattle.layout.specs.WellFormed.{wellFormed}
 use Rattle.reorder.specs.Calls.{DrawOutcome, drawNumbers}
-use Rattle.reorder.proofs.CheckLaws.{passed, failed}
+use Rattle.layout.proofs.CheckLaws.{passed, failed}
 use Rattle.reorder.proofs.CallLaws.{drawFirst, draw-malformed, draw-store, draw-area, draw-goes}
-use Rattle.reorder.proofs.MachineLaws.{owned-machine}
+use Rattle.layout.proofs.MachineLaws.{owned-machine}
 use borrow.Author.Needs.{needs}
 use Rattle.reorder.proofs.calls.draw_checked.Statement.{statement}
 use Rattle.reorder.proofs.calls.draw_checked.Tie as tie

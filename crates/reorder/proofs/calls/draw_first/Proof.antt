@@ -6,6 +6,7 @@ use lib.ListN.{length, getD, take, drop}
 use Rattle.rtp.proofs.AreaLaws.{part-cut, part-size}
 use denote.Ref.{now}
 use Rattle.playout.specs.Sizes.{slots, slotSize}
+use Rattle.layout.proofs.FreeLaws.{released-marked}
 use Rattle.reorder.proofs.DrawLaws.{first-slot, first-short, few, first-marked, left}
 use borrow.Author.Needs.{needs}
 use Rattle.reorder.proofs.calls.draw_first.Statement.{statement}
@@ -85,7 +86,7 @@ remove-first-requires-4 : tie.Need-remove-first-requires-4
 remove-first-requires-4 c κs = (c .before .before .before .before .before .before .before .before .before .before .before .before .before .before .before .before .before .before .before .before .before .before .pre .some, few-at (c .before .before .before .before .before .before .before .before .before .before .before .before .before .before .before .before .before .before .before .before .before .before))
 
 unmark-requires : tie.Need-unmark-requires
-unmark-requires c κs = let s = c .before .before .before .before .before .before .before .before .before .before .before .before .before .before .before .before .before .before .before .before .before .before .before in (slot-at s, first-marked (s .args .t1) (s .args .n) (now (s .args .store)) (now (s .args .area)) (s .pre))
+unmark-requires c κs = search needs
 
 same-length : tie.Need-same-length
 same-length c = search needs
@@ -94,7 +95,7 @@ returns : tie.Need-returns
 returns c =
     let s = c .before .before .before .before .before .before .before .before .before .before .before .before .before .before .before .before .before .before .before .before .before .before .before .before in
     let b = s .args .t1 in
-    left b (s .args .n) (now (s .args .store)) (now (s .args .area)) (s .pre) _ _ (c .before .before .before .before .before .before .before .before .before .before .before .before .before .before .before .before .before .before .before .tag-channel .ensures .0) (c .before .before .before .before .before .before .before .before .before .before .before .before .before .before .before .before .before .tag-class .ensures) _ _ _ _ _ _ (c .before .before .before .before .before .before .before .remove-first .ensures) (c .before .before .before .before .before .remove-first2 .ensures) (c .before .before .before .remove-first3 .ensures) (c .before .remove-first4 .ensures) (c .unmark .ensures)
+    left b (s .args .n) (now (s .args .store)) (now (s .args .area)) (s .pre) _ _ (c .before .before .before .before .before .before .before .before .before .before .before .before .before .before .before .before .before .before .before .tag-channel .ensures .0) (c .before .before .before .before .before .before .before .before .before .before .before .before .before .before .before .before .before .tag-class .ensures) _ _ _ _ _ _ (c .before .before .before .before .before .before .before .remove-first .ensures) (c .before .before .before .before .before .remove-first2 .ensures) (c .before .before .before .remove-first3 .ensures) (c .before .remove-first4 .ensures) (c .unmark .ensures ∙ released-marked (b .occupied) (getD (b .slots) 0 0) (slot-at s) (first-marked b (s .args .n) (now (s .args .store)) (now (s .args .area)) (s .pre)))
     (take (slotSize * getD (b .slots) 0 0 + getD (b .lengths) 0 0 - slotSize * getD (b .slots) 0 0) (drop (slotSize * getD (b .slots) 0 0) (now (s .args .store))))
     (part-cut (slotSize * getD (b .slots) 0 0) (getD (b .lengths) 0 0) (now (s .args .store)))
     (c .before .before .before .before .before .before .before .before .before .before .before .copy-into .ensures)

@@ -13,12 +13,12 @@ use Rattle.rtp.proofs.AreaLaws.{over-none}
 use Rattle.packet.specs.Readings.{reading, readingNumbers, outcomeNumbers}
 use Rattle.packet.specs.declared.reading.Reading.{Reading}
 use Rattle.reorder.specs.declared.calls.Offered.{Offered}
-use Rattle.reorder.specs.WellFormed.{wellFormed}
-use Rattle.reorder.specs.Arrays.{Machine}
+use Rattle.layout.specs.WellFormed.{wellFormed}
+use Rattle.layout.specs.Arrays.{Machine}
 use Rattle.reorder.specs.Calls.{OfferOutcome, offerNumbers}
-use Rattle.reorder.proofs.CheckLaws.{passed, failed}
+use Rattle.layout.proofs.CheckLaws.{passed, failed}
 use Rattle.reorder.proofs.CallLaws.{offer-malformed, offer-rows, offer-store, offer-reads}
-use Rattle.reorder.proofs.MachineLaws.{owned-machine}
+use Rattle.layout.proofs.MachineLaws.{owned-machine}
 use Rattle.reorder.proofs.OfferLaws.{refused-words, refused-offer, words-fit, offer-asks, offer-gives}
 use borrow.Author.Needs.{needs}
 use Rattle.reorder.proofs.calls.offer_checked.Statement.{statement}

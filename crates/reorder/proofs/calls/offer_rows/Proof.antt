@@ -3,9 +3,9 @@ use mathlib.Core.List.{List}
 use Prim.Native.Nat.{ℕ}
 use denote.Ref.{now}
 use Rattle.payload.specs.Rows.{rowsIn}
-use Rattle.reorder.specs.declared.buffer.Buffer.{Buffer}
+use Rattle.layout.specs.declared.buffer.Buffer.{Buffer}
 use Rattle.reorder.specs.declared.judging.Judged.{Judged}
-use Rattle.reorder.specs.Layout.{assembled}
+use Rattle.layout.specs.Layout.{assembled}
 use Rattle.reorder.specs.Judging.{RowsJudgeable}
 use Rattle.reorder.proofs.OfferLaws.{rows-offer}
 use borrow.Author.Needs.{needs}

@@ -4,8 +4,8 @@ use lib.Dec.{ltb}
 use Rattle.playout.specs.Pairs.{half}
 use native.Mathlib.Nat.{sub-zero}
 use borrow.Author.Tests.{lt-ltb, le-ltb}
-use Rattle.reorder.specs.Columns.{withinFrom}
-use Rattle.reorder.proofs.ColumnLaws.{within-end, within-step}
+use Rattle.layout.specs.Columns.{withinFrom}
+use Rattle.layout.proofs.ColumnLaws.{within-end, within-step}
 use borrow.Author.Needs.{needs}
 use native.Mathlib.Omega.{arith}
 use Rattle.reorder.proofs.columns.all_within.Statement.{statement}

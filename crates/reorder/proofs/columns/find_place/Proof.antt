@@ -5,7 +5,7 @@ use lib.ListN.{getD}
 use Rattle.playout.specs.Pairs.{order, sideOf}
 use native.Mathlib.Nat.{lt-irrefl}
 use native.Mathlib.Omega.{arith}
-use Rattle.reorder.proofs.ColumnLaws.{from, side-order, search-none, search-same, search-after}
+use Rattle.reorder.proofs.SearchLaws.{from, side-order, search-none, search-same, search-after}
 use borrow.Author.Needs.{needs}
 use Rattle.reorder.proofs.columns.find_place.Statement.{statement}
 use Rattle.reorder.proofs.columns.find_place.Tie as tie

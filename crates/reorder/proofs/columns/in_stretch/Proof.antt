@@ -1,5 +1,5 @@
 use borrow.Author.Tests.{eq-eqb, ne-eqb, lt-ltb, le-ltb}
-use Rattle.reorder.specs.Columns.{fitsFrom}
+use Rattle.layout.specs.Columns.{fitsFrom}
 use borrow.Author.Needs.{needs}
 use Rattle.reorder.proofs.columns.in_stretch.Statement.{statement}
 use Rattle.reorder.proofs.columns.in_stretch.Tie as tie

@@ -2,8 +2,8 @@ use Prim.Native.Nat.{_+_, _-_, _≤_}
 use mathlib.Core.Path.{_≡_, _∙_, sym}
 use lib.ListN.{length, length-set}
 use Rattle.playout.specs.Sizes.{slots}
-use Rattle.reorder.specs.Columns.{insertAt}
-use Rattle.reorder.proofs.ColumnLaws.{inserting, insert-start, insert-more, insert-end}
+use Rattle.layout.specs.Columns.{insertAt}
+use Rattle.layout.proofs.ColumnLaws.{inserting, insert-start, insert-more, insert-end}
 use borrow.Author.Needs.{needs}
 use native.Mathlib.Omega.{arith}
 use Rattle.reorder.proofs.columns.insert_at.Statement.{statement}

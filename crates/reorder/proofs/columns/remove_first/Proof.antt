@@ -2,8 +2,8 @@ use Prim.Native.Nat.{_-_, _≤_}
 use mathlib.Core.Path.{_≡_, _∙_}
 use lib.ListN.{length, length-set}
 use Rattle.playout.specs.Sizes.{slots}
-use Rattle.reorder.specs.Columns.{removeFirst}
-use Rattle.reorder.proofs.ColumnLaws.{removing, remove-start, remove-more, remove-end}
+use Rattle.layout.specs.Columns.{removeFirst}
+use Rattle.layout.proofs.ColumnLaws.{removing, remove-start, remove-more, remove-end}
 use borrow.Author.Needs.{needs}
 use native.Mathlib.Omega.{arith}
 use Rattle.reorder.proofs.columns.remove_first.Statement.{statement}

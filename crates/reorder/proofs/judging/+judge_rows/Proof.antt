@@ -8,8 +8,8 @@ use Rattle.rtp.specs.Sizes.{rowWidth}
 use Rattle.rtp.proofs.AreaLaws.{part-length}
 use Rattle.payload.specs.Rows.{rowsIn}
 use Rattle.payload.proofs.RowLaws.{rows-none}
-use Rattle.reorder.specs.declared.buffer.Buffer.{Buffer}
-use Rattle.reorder.specs.Layout.{assembled}
+use Rattle.layout.specs.declared.buffer.Buffer.{Buffer}
+use Rattle.layout.specs.Layout.{assembled}
 use Rattle.reorder.proofs.RowStepLaws.{rows-over, rows-joined}
 use borrow.Author.Needs.{needs}
 use borrow.Fn.Kinds.{In, Out}

@@ -3,8 +3,8 @@ use mathlib.Core.Bool.{false}
 use denote.Ref.{now}
 use Rattle.playout.specs.Copies.{Copy}
 use Rattle.playout.specs.Verdicts.{isLate, isFar}
-use Rattle.reorder.specs.declared.buffer.Buffer.{Buffer}
-use Rattle.reorder.specs.Layout.{decode, assembled}
+use Rattle.layout.specs.declared.buffer.Buffer.{Buffer}
+use Rattle.layout.specs.Layout.{decode, assembled}
 use Rattle.reorder.specs.Laying.{copyIn}
 use Rattle.reorder.proofs.VerdictLaws.{step-late, far-is, step-far}
 use borrow.Author.Needs.{needs}

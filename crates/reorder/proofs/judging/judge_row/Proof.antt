@@ -7,9 +7,9 @@ use denote.Ref.{now}
 use Rattle.formats.specs.Frames.{noData}
 use Rattle.formats.specs.Tags.{tagClass}
 use Rattle.payload.specs.Rows.{Row, rowsIn}
-use Rattle.reorder.specs.declared.buffer.Buffer.{Buffer}
+use Rattle.layout.specs.declared.buffer.Buffer.{Buffer}
 use Rattle.reorder.specs.declared.laying.FrameHead.{FrameHead}
-use Rattle.reorder.specs.Layout.{assembled}
+use Rattle.layout.specs.Layout.{assembled}
 use Rattle.reorder.specs.Rows.{firstRow, restWords}
 use Rattle.reorder.specs.Judging.{RowsJudgeable}
 use Rattle.reorder.proofs.RowStepLaws.{rows-split, skip-asks, skip-gives, copy-asks, next-asks, next-gives}

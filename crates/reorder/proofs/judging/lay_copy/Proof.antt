@@ -5,12 +5,12 @@ use mir.Syntax.{w32}
 use lib.ListN.{length}
 use denote.Ref.{now}
 use Rattle.playout.specs.Sizes.{slotSize}
-use Rattle.reorder.specs.declared.buffer.Buffer.{Buffer}
+use Rattle.layout.specs.declared.buffer.Buffer.{Buffer}
 use Rattle.reorder.specs.declared.columns.Place.{Place}
-use Rattle.reorder.specs.Columns.{Parted, placeFrom}
-use Rattle.reorder.specs.Layout.{assembled}
+use Rattle.reorder.specs.Places.{Parted, placeFrom}
+use Rattle.layout.specs.Layout.{assembled}
 use Rattle.reorder.specs.Laying.{classIn, channelIn}
-use Rattle.reorder.proofs.AllowedLaws.{allowed-frame}
+use Rattle.layout.proofs.AllowedLaws.{allowed-frame}
 use Rattle.reorder.proofs.VerdictLaws.{held-at, step-found, place-in, step-full, step-new}
 use Rattle.reorder.proofs.PlaceSearchLaws.{parts}
 use borrow.Author.Needs.{needs}

@@ -5,9 +5,9 @@ use lib.ListN.{length}
 use lib.Seq.{paste}
 use denote.Ref.{now}
 use Rattle.playout.specs.Sizes.{slots, slotSize}
-use Rattle.reorder.specs.Bits.{marked}
-use Rattle.reorder.specs.Columns.{insertAt}
-use Rattle.reorder.proofs.FreeLaws.{free-when-room, free-unmarked}
+use Rattle.layout.specs.Bits.{lowestFree, claimed}
+use Rattle.layout.specs.Columns.{insertAt}
+use Rattle.layout.proofs.FreeLaws.{free-when-room, free-unmarked, claimed-free}
 use borrow.Author.Needs.{needs}
 use Rattle.reorder.proofs.laying.insert_copy.Statement.{statement}
 use Rattle.reorder.proofs.laying.insert_copy.Tie as tie
@@ -19,7 +19,7 @@ lowest-free-requires : tie.Need-lowest-free-requires
 lowest-free-requires c κs = search needs
 
 mark-requires : tie.Need-mark-requires
-mark-requires c κs = (slot-at c, rw (c .lowest-free .ensures) (free-unmarked (c .before .before .before .args .occupied) (rw (c .lowest-free .ensures) at (slot-at c))))
+mark-requires c κs = search needs
 
 insert-at-requires : tie.Need-insert-at-requires
 insert-at-requires c κs = search needs
@@ -52,12 +52,13 @@ returns : tie.Need-returns
 returns c =
     let a = c .before .before .before .before .before .before .before .before .before .before .before .before .before .before .before .before .args in
     let e = c .before .before .before .before .before .before .before .before .before .before .before .before .before .lowest-free .ensures in
+    let l : lowestFree (a .occupied) < slots = rw e at (slot-at (c .before .before .before .before .before .before .before .before .before .before .before .before .before)) in
     record {
       times-left = c .before .before .before .before .before .before .before .before .before .before .insert-at .ensures;
       tags-left = c .before .before .before .before .before .before .before .before .insert-at2 .ensures;
       lengths-left = c .before .before .before .before .before .before .insert-at3 .ensures;
       slots-left = c .before .before .before .before .insert-at4 .ensures ∙ ap (insertAt (now (a .slots)) (a .n) (a .at)) e;
-      words-left = c .before .before .before .before .before .before .before .before .before .before .before .before .mark .ensures ∙ ap (marked (a .occupied)) e;
+      words-left = c .before .before .before .before .before .before .before .before .before .before .before .before .mark .ensures ∙ ap (claimed (a .occupied)) e ∙ claimed-free (a .occupied) (lowestFree (a .occupied)) l (free-unmarked (a .occupied) l);
       store-left = c .before .before .copy-into .ensures ∙ ap (λ (k : ℕ). paste (now (a .store)) (slotSize * k) (now (a .frame)) (length (now (a .frame)))) e;
     }
 

@@ -1,0 +1,7 @@
+pub mod Bits
+pub mod Columns
+pub mod Model
+pub mod Arrays
+pub mod Layout
+pub mod WellFormed
+pub mod Checks
