@@ -1,3 +1,4 @@
 pub mod TableRule
 pub mod FormatLaws
 pub mod CodeLaws
+pub mod NumberLaws

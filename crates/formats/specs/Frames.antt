@@ -2,6 +2,8 @@
 use Prim.Native.Nat.{ℕ, _+_, _-_, _*_}
 use mathlib.Core.Bool.{cond}
 use lib.Dec.{ltb, eqb}
+use Rattle.rtp.specs.Refusals.{number}
+use Rattle.rtp.specs.declared.refusal.Refusal.the-variants.{ReservedCode}
 use Rattle.formats.specs.declared.facts.Format.{Format}
 use Rattle.formats.specs.declared.facts.FrameTable.{FrameTable}
 use Rattle.formats.specs.declared.frames.Frame.{Frame}
@@ -61,3 +63,13 @@ frameIn f code = codedFrame (f .sid) code (lengthIn (f .table) code)
 
 abbrev pub frameOf : ℕ → ℕ → Coded
 frameOf format code = frameIn (formatOf format) code
+
+-- The answer in numbers: 0, or the refusal number of a reserved code; then class and length, 0 of a reserved code
+pub record CodedNumbers : Type 0 where
+  pub refusal : ℕ
+  pub class : ℕ
+  pub length : ℕ
+
+abbrev pub codedNumbers : Coded → CodedNumbers
+codedNumbers Coded.Reserved = record { refusal = number ReservedCode; class = 0; length = 0 }
+codedNumbers (Coded.Frame f) = record { refusal = 0; class = f .class; length = f .length }

@@ -3,7 +3,7 @@ use crate::facts;
 use crate::facts::FrameTable;
 ghost use mathlib.Core.Path.{_≡_};
 ghost use Prim.Native.Nat.{_<_};
-ghost use Rattle.formats.specs.Frames.{stepOf, g719Length, lengthIn, frameOf};
+ghost use Rattle.formats.specs.Frames.{stepOf, g719Length, lengthIn, frameOf, codedNumbers};
 ghost use Rattle.formats.specs.Room.{InTable};
 
 // Frame classes: no data, sound, and a description of silence.
@@ -102,7 +102,7 @@ fn length_in(table: FrameTable, code: usize) -> usize
 
 // The frame that a code of a format stands for.
 pub fn frame_of(format: u8, code: usize) -> Coded
-    ensures { λ r. ⌜ r ≡ frameOf format code ⌝ }
+    ensures { λ r. ⌜ codedNumbers r ≡ codedNumbers (frameOf format code) ⌝ }
 {
     let facts = facts::format_of(format);
     if facts.codes <= code {

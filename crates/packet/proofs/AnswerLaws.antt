@@ -10,9 +10,10 @@ use Rattle.rtp.specs.declared.refusal.Refusal.{Refusal}
 use Rattle.rtp.proofs.AreaLaws.{over-none}
 use Rattle.payload.specs.declared.reading.PayloadRead.{PayloadRead}
 use Rattle.payload.specs.Rows.{Row, words}
-use Rattle.payload.specs.Payloads.{Rows, noRows, rowsOf, rowsAnswer, rowsWords}
+use Rattle.payload.specs.Payloads.{Rows, noRows, rowsOf, payloadNumbers, rowsNumbers, rowsAnswer, rowsWords}
 use Rattle.payload.proofs.RowLaws.{length-words, words-append}
 use Rattle.payload.proofs.PayloadLaws.{answer-none, words-none}
+use Rattle.payload.proofs.NumberLaws.{rows-is}
 use Rattle.packet.specs.Blocks.{prependRows, thenRows}
 use Rattle.packet.specs.Room.{Taken}
 
@@ -98,6 +99,10 @@ then-words (rowsOf rs) next n h k =
 
 abbrev pub Gives : PayloadRead → List ℕ → List ℕ → Rows → Type 0
 Gives p l m x = (p ≡ rowsAnswer x) × (m ≡ over (rowsWords x) l)
+
+-- by the payload's numbers
+pub gives-read : (p : PayloadRead) (l m : List ℕ) (x : Rows) → (payloadNumbers p ≡ rowsNumbers x) × (m ≡ over (rowsWords x) l) → Gives p l m x
+gives-read p l m x g = (rows-is p x (g .0), g .1)
 
 pub gives-none : (r : Refusal) (l : List ℕ) (x : Rows) → x ≡ noRows r → Gives (PayloadRead.Refused r) l l x
 gives-none r l x h = (answer-none x r h, words-none x r l h)

@@ -5,3 +5,4 @@ pub mod GroupLaws
 pub mod TableLaws
 pub mod PayloadLaws
 pub mod RowFactLaws
+pub mod NumberLaws

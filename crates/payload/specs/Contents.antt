@@ -1,11 +1,12 @@
 -- Document 01, "G.719 tables of contents" and "GSM-HR tables": entries and tables, over the formats.
 use Prim.Native.Nat.{ℕ, zero, suc, _+_, _*_, _/_, _%_}
 use mathlib.Core.List.{List, [], _∷_}
-use mathlib.Core.Bool.{Bool, cond}
+use mathlib.Core.Bool.{Bool, false, cond}
 use lib.ListN.{length, drop}
 use lib.Dec.{ltb, leb, eqb}
 use Rattle.rtp.specs.Sizes.{maxRows}
 use Rattle.rtp.specs.Numbers.{byteAt}
+use Rattle.rtp.specs.Refusals.{number}
 use Rattle.rtp.specs.declared.refusal.Refusal.{Refusal}
 use Rattle.rtp.specs.declared.refusal.Refusal.the-variants.{ContentsTruncated, ReservedCode, NoFrameBlocks, TooManyRows}
 use Rattle.formats.specs.declared.frames.Coded.{Coded}
@@ -49,6 +50,18 @@ entryOf format s =
     cond (ltb (length s) (minEntry format)) (EntryRead.Refused ContentsTruncated)
     (cond (ltb (length s) (entrySize format (blocksIn format s))) (EntryRead.Refused ContentsTruncated)
     (codedEntry (leb 128 (byteAt s 0)) (blocksIn format s) (entrySize format (blocksIn format s)) (frameOf format (codeIn format (byteAt s 0)))))
+
+-- The answer in numbers: the refusal number or 0, and the entry, with no number in it on refusal
+pub record EntryNumbers : Type 0 where
+  pub refusal : ℕ
+  pub entry : Entry
+
+abbrev pub noEntry : Entry
+noEntry = record { more = false; class = 0; length = 0; blocks = 0; size = 0 }
+
+abbrev pub entryNumbers : EntryRead → EntryNumbers
+entryNumbers (EntryRead.Refused r) = record { refusal = number r; entry = noEntry }
+entryNumbers (EntryRead.Entry e) = record { refusal = 0; entry = e }
 
 -- A table as parsed
 
@@ -112,6 +125,24 @@ unfoldable pub framesIn : ℕ → List Group → ℕ
 framesIn ch [] = 0
 framesIn ch (g ∷ gs) = length (g .gaps) * ch * g .length + framesIn ch gs
 
+-- The answer in numbers: the refusal number or 0, and the three sizes, 0 on refusal
+pub record ContentsNumbers : Type 0 where
+  pub refusal : ℕ
+  pub rows : ℕ
+  pub size : ℕ
+  pub frames : ℕ
+
+-- of the code's answer, case by case
+abbrev pub contentsReadNumbers : ContentsRead → ContentsNumbers
+contentsReadNumbers (ContentsRead.Refused r) = record { refusal = number r; rows = 0; size = 0; frames = 0 }
+contentsReadNumbers (ContentsRead.Contents t) = record { refusal = 0; rows = t .rows; size = t .size; frames = t .frames }
+
+-- of the table
+unfoldable pub contentsNumbers : ℕ → ℕ → Contents → ContentsNumbers
+contentsNumbers format ch (refused r) = record { refusal = number r; rows = 0; size = 0; frames = 0 }
+contentsNumbers format ch (groups gs) = record { refusal = 0; rows = rowCount ch gs; size = sizeIn format gs; frames = framesIn ch gs }
+
+-- the code's answer that has them
 unfoldable pub sizesAnswer : ℕ → ℕ → Contents → ContentsRead
 sizesAnswer format ch (refused r) = ContentsRead.Refused r
 sizesAnswer format ch (groups gs) = ContentsRead.Contents (record { rows = rowCount ch gs; size = sizeIn format gs; frames = framesIn ch gs })

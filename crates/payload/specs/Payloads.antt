@@ -6,6 +6,7 @@ use lib.ListN.{length}
 use lib.Dec.{ltb, eqb}
 use Rattle.rtp.specs.Sizes.{maxPacket, rowWidth, rowArea}
 use Rattle.rtp.specs.Ranges.{inRange}
+use Rattle.rtp.specs.Refusals.{number}
 use Rattle.rtp.specs.declared.settings.Settings.{Settings}
 use Rattle.rtp.specs.declared.refusal.Refusal.{Refusal}
 use Rattle.rtp.specs.declared.refusal.Refusal.the-variants.{PacketLength, LengthMismatch, SettingsOutOfRange, AreaTooShort}
@@ -41,7 +42,22 @@ unfoldable pub rowsWords : Rows → List ℕ
 rowsWords (noRows r) = []
 rowsWords (rowsOf rs) = words rs
 
--- the answer: the number of rows, or the refusal
+-- The answer in numbers: the refusal number or 0, and the number of rows, 0 on refusal
+pub record PayloadNumbers : Type 0 where
+  pub refusal : ℕ
+  pub rows : ℕ
+
+-- of the code's answer, case by case
+abbrev pub payloadNumbers : PayloadRead → PayloadNumbers
+payloadNumbers (PayloadRead.Refused r) = record { refusal = number r; rows = 0 }
+payloadNumbers (PayloadRead.Rows n) = record { refusal = 0; rows = n }
+
+-- of the rows
+unfoldable pub rowsNumbers : Rows → PayloadNumbers
+rowsNumbers (noRows r) = record { refusal = number r; rows = 0 }
+rowsNumbers (rowsOf rs) = record { refusal = 0; rows = length rs }
+
+-- the code's answer that has them
 unfoldable pub rowsAnswer : Rows → PayloadRead
 rowsAnswer (noRows r) = PayloadRead.Refused r
 rowsAnswer (rowsOf rs) = PayloadRead.Rows (length rs)

@@ -8,7 +8,7 @@ use rtp::sizes::MAX_ROWS;
 ghost use mathlib.Core.Path.{_≡_};
 ghost use Prim.Native.Nat.{_+_, _<_, _≤_};
 ghost use lib.ListN.{length};
-ghost use Rattle.payload.specs.Contents.{minEntry, codeIn, blocksIn, entrySize, entryOf, contents, sizesAnswer, gapAt};
+ghost use Rattle.payload.specs.Contents.{minEntry, codeIn, blocksIn, entrySize, entryOf, entryNumbers, contents, contentsReadNumbers, contentsNumbers, gapAt};
 ghost use Rattle.formats.specs.Formats.{formatOf};
 
 // One table entry: whether another follows, the frames' class and length, the number of frame-blocks, and the entry's own bytes.
@@ -79,7 +79,7 @@ pub fn entry_size(format: u8, blocks: usize) -> usize
 
 // The entry at the front of s.
 pub fn read_entry(format: u8, s: &[u8]) -> EntryRead
-    ensures { λ r. ⌜ r ≡ entryOf format (now (s .entry)) ⌝ }
+    ensures { λ r. ⌜ entryNumbers r ≡ entryNumbers (entryOf format (now (s .entry))) ⌝ }
 {
     if s.len() < min_entry(format) {
         return EntryRead::Refused(Refusal::ContentsTruncated);
@@ -110,7 +110,7 @@ pub fn read_entry(format: u8, s: &[u8]) -> EntryRead
 // The table at the front of s, where `rows` rows came before it. `&s[0..]` and not `s` is passed on, here and where a payload is read: the same slice,
 // but its address and length go by themselves, and not as one copy that would have to wait for both (docs/PERFORMANCE.md).
 pub fn read_contents(format: u8, channels: u8, rows: u32, s: &[u8]) -> ContentsRead
-    ensures { λ r. ⌜ r ≡ sizesAnswer format channels (contents format channels rows (now (s .entry))) ⌝ }
+    ensures { λ r. ⌜ contentsReadNumbers r ≡ contentsNumbers format channels (contents format channels rows (now (s .entry))) ⌝ }
 {
     match read_entry(format, &s[0..]) {
         EntryRead::Refused(refusal) => ContentsRead::Refused(refusal),

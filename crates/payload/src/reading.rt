@@ -12,7 +12,7 @@ ghost use mathlib.Core.Path.{_≡_};
 ghost use lib.ListN.{length};
 ghost use Rattle.rtp.specs.Sizes.{rowArea};
 ghost use Rattle.rtp.specs.Areas.{over};
-ghost use Rattle.payload.specs.Payloads.{askedRows, rowsAnswer, rowsWords};
+ghost use Rattle.payload.specs.Payloads.{askedRows, payloadNumbers, rowsNumbers, rowsWords};
 
 // The number of rows, or why there are none.
 pub enum PayloadRead {
@@ -22,7 +22,7 @@ pub enum PayloadRead {
 
 // Whether a payload can be read after `done` rows of its packet, and how many rows it gives.
 pub fn check_payload(asked: Settings, done: u32, s: &[u8]) -> PayloadRead
-    ensures { λ r. ⌜ r ≡ rowsAnswer (askedRows asked done rowArea 0 0 (now (s .entry))) ⌝ }
+    ensures { λ r. ⌜ payloadNumbers r ≡ rowsNumbers (askedRows asked done rowArea 0 0 (now (s .entry))) ⌝ }
 {
     if settings::in_range(asked) {
         if MAX_PACKET < s.len() {
@@ -53,7 +53,7 @@ pub fn read_payload(
     s: &[u8],
     area: &mut [u32],
 ) -> PayloadRead
-    ensures { λ r. ⌜ (r ≡ rowsAnswer (askedRows asked done (length (now (area .entry))) time at (now (s .entry))))
+    ensures { λ r. ⌜ (payloadNumbers r ≡ rowsNumbers (askedRows asked done (length (now (area .entry))) time at (now (s .entry))))
         × (now (area .exit) ≡ over (rowsWords (askedRows asked done (length (now (area .entry))) time at (now (s .entry)))) (now (area .entry))) ⌝ }
 {
     if settings::in_range(asked) {

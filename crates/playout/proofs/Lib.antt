@@ -8,3 +8,4 @@ pub mod JudgeLaws
 pub mod HeldLaws
 pub mod PlayoutLaws
 pub mod PremiseLaws
+pub mod SideLaws

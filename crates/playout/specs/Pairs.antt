@@ -26,7 +26,13 @@ isAfter Ordering·lt = false
 isAfter Ordering·eq = false
 isAfter Ordering·gt = true
 
--- as the code answers it
+-- what each of the code's answers says
+abbrev pub sideOrder : Side → Ordering
+sideOrder Side.Before = Ordering·lt
+sideOrder Side.Same = Ordering·eq
+sideOrder Side.After = Ordering·gt
+
+-- the code's answer that says it
 abbrev pub sideOf : Ordering → Side
 sideOf Ordering·lt = Side.Before
 sideOf Ordering·eq = Side.Same

@@ -1,7 +1,7 @@
 // Time modulo 2^32, and pairs of time and channel.
 use rtp::time;
 ghost use mathlib.Core.Path.{_≡_};
-ghost use Rattle.playout.specs.Pairs.{ahead, after, order, sideOf};
+ghost use Rattle.playout.specs.Pairs.{ahead, after, order, sideOrder};
 
 // Half the range of time: a time from here on is not ahead.
 pub const HALF: u32 = 2147483648;
@@ -32,7 +32,7 @@ pub fn is_after(t: u32, h: u32) -> bool
 
 // Where the pair (t, c) lies from the pair (h, d).
 pub fn side_of(t: u32, c: u32, h: u32, d: u32) -> Side
-    ensures { λ r. ⌜ r ≡ sideOf (order t c h d) ⌝ }
+    ensures { λ r. ⌜ sideOrder r ≡ order t c h d ⌝ }
 {
     if t == h {
         if c == d {

@@ -3,4 +3,5 @@ pub mod AreaLaws
 pub mod HeaderLaws
 pub mod RedundancyLaws
 pub mod RefusalLaws
+pub mod NumberLaws
 pub mod RangeLaws

@@ -1,6 +1,9 @@
 -- Laws of the refusal numbers.
-use Prim.Native.Nat.{_<_}
+use mathlib.Core.Path.{_≡_, refl, ap, sym, _∙_}
+use mathlib.Core.List.{List, [], _∷_}
+use Prim.Native.Nat.{ℕ, _<_}
 use native.Mathlib.Omega.{arith}
+use lib.ListN.{getD}
 use Rattle.rtp.specs.declared.refusal.Refusal.{Refusal}
 use Rattle.rtp.specs.declared.refusal.Refusal.the-variants.{PacketLength, Version, HeaderTruncated, PaddingCount, UnknownPayloadType, ContentsTruncated, ReservedCode, NoFrameBlocks, TooManyRows, LengthMismatch, SettingsOutOfRange, AreaTooShort, Unwritable, RowOutsideBytes, MalformedBuffer}
 use Rattle.rtp.specs.Refusals.{number}
@@ -22,3 +25,31 @@ number-positive AreaTooShort = omega arith
 number-positive Unwritable = omega arith
 number-positive RowOutsideBytes = omega arith
 number-positive MalformedBuffer = omega arith
+
+-- each has its own
+refusalOf : ℕ → Refusal
+refusalOf n = getD (PacketLength ∷ PacketLength ∷ Version ∷ HeaderTruncated ∷ PaddingCount ∷ UnknownPayloadType ∷ ContentsTruncated ∷ ReservedCode ∷ NoFrameBlocks ∷ TooManyRows ∷ LengthMismatch ∷ SettingsOutOfRange ∷ AreaTooShort ∷ Unwritable ∷ RowOutsideBytes ∷ MalformedBuffer ∷ []) n PacketLength
+
+back : (r : Refusal) → refusalOf (number r) ≡ r
+unfolding refusalOf
+back PacketLength = refl
+back Version = refl
+back HeaderTruncated = refl
+back PaddingCount = refl
+back UnknownPayloadType = refl
+back ContentsTruncated = refl
+back ReservedCode = refl
+back NoFrameBlocks = refl
+back TooManyRows = refl
+back LengthMismatch = refl
+back SettingsOutOfRange = refl
+back AreaTooShort = refl
+back Unwritable = refl
+back RowOutsideBytes = refl
+back MalformedBuffer = refl
+
+pub same-number : (a b : Refusal) → number a ≡ number b → a ≡ b
+same-number a b h = sym (back a) ∙ ap refusalOf h ∙ back b
+
+pub not-zero {ℓ} : {P : Type ℓ} (r : Refusal) → number r ≡ 0 → P
+not-zero r h = absurd (omega (arith, number-positive r))

@@ -10,6 +10,7 @@ use Rattle.rtp.specs.declared.header.HeaderRead.{HeaderRead}
 use Rattle.rtp.specs.declared.header.Bound.{Bound}
 use Rattle.rtp.specs.Sizes.{minPacket, maxPacket}
 use Rattle.rtp.specs.Numbers.{byteAt, be16, be32}
+use Rattle.rtp.specs.Refusals.{number}
 
 -- the end of the CSRC list (CC entries of four bytes after the fixed header)
 abbrev pub csrcEnd : List ℕ → ℕ
@@ -62,3 +63,15 @@ header s =
     cond (ltb (length s) minPacket) (HeaderRead.Refused PacketLength)
     (cond (ltb maxPacket (length s)) (HeaderRead.Refused PacketLength)
     (cond (eqb (byteAt s 0 / 64) 2) (startedAt s (payloadStart s)) (HeaderRead.Refused Version)))
+
+-- The answer in numbers: the refusal number or 0, and the header's fields, all 0 on refusal
+pub record HeaderNumbers : Type 0 where
+  pub refusal : ℕ
+  pub fields : Header
+
+abbrev pub noFields : Header
+noFields = record { marker = 0; «payload_type» = 0; sequence = 0; timestamp = 0; source = 0; start = 0; end = 0 }
+
+abbrev pub headerNumbers : HeaderRead → HeaderNumbers
+headerNumbers (HeaderRead.Refused r) = record { refusal = number r; fields = noFields }
+headerNumbers (HeaderRead.Header h) = record { refusal = 0; fields = h }

@@ -11,6 +11,7 @@ use Rattle.rtp.specs.declared.redundancy.BlockHeader.{BlockHeader}
 use Rattle.rtp.specs.declared.redundancy.HeadersRead.{HeadersRead}
 use Rattle.rtp.specs.Sizes.{maxPacket}
 use Rattle.rtp.specs.Numbers.{byteAt}
+use Rattle.rtp.specs.Refusals.{number}
 
 -- the block header at the front of s: F, type 7 bits; with F set, offset 14 bits and length 10 bits
 unfoldable pub blockHeader : List ℕ → BlockHeader
@@ -23,6 +24,20 @@ blockHeader s =
       offset = 64 * byteAt s 1 + byteAt s 2 / 4;
       length = 256 * (byteAt s 2 % 4) + byteAt s 3;
     }))))
+
+-- The answer in numbers: the refusal number or 0, then F, the type, the offset and the length. On refusal all are 0, and the last header has neither offset
+-- nor length
+pub record BlockNumbers : Type 0 where
+  pub refusal : ℕ
+  pub follows : ℕ
+  pub «payload_type» : ℕ
+  pub offset : ℕ
+  pub length : ℕ
+
+abbrev pub blockNumbers : BlockHeader → BlockNumbers
+blockNumbers (BlockHeader.Refused r) = record { refusal = number r; follows = 0; «payload_type» = 0; offset = 0; length = 0 }
+blockNumbers (BlockHeader.Primary t) = record { refusal = 0; follows = 0; «payload_type» = t; offset = 0; length = 0 }
+blockNumbers (BlockHeader.Redundant b) = record { refusal = 0; follows = 1; «payload_type» = b .«payload_type»; offset = b .offset; length = b .length }
 
 -- the block headers of a payload: the redundant blocks', then the primary block's type
 pub data Headers : Type 0 where
@@ -61,6 +76,23 @@ unfoldable pub redundantSize : List Redundant → ℕ
 redundantSize [] = 0
 redundantSize (b ∷ bs) = b .length + redundantSize bs
 
+-- The answer in numbers: the refusal number or 0, and the two sizes, 0 on refusal
+pub record HeadersNumbers : Type 0 where
+  pub refusal : ℕ
+  pub size : ℕ
+  pub redundant : ℕ
+
+-- of the code's answer, case by case
+abbrev pub headersReadNumbers : HeadersRead → HeadersNumbers
+headersReadNumbers (HeadersRead.Refused r) = record { refusal = number r; size = 0; redundant = 0 }
+headersReadNumbers (HeadersRead.Headers z) = record { refusal = 0; size = z .size; redundant = z .redundant }
+
+-- of the headers
+unfoldable pub headersNumbers : Headers → HeadersNumbers
+headersNumbers (refused r) = record { refusal = number r; size = 0; redundant = 0 }
+headersNumbers (headersOf bs t) = record { refusal = 0; size = headersSize bs; redundant = redundantSize bs }
+
+-- the code's answer that has them
 unfoldable pub headersAnswer : Headers → HeadersRead
 headersAnswer (refused r) = HeadersRead.Refused r
 headersAnswer (headersOf bs t) = HeadersRead.Headers (record { size = headersSize bs; redundant = redundantSize bs })

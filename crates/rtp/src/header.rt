@@ -7,7 +7,7 @@ ghost use mathlib.Core.Path.{_≡_};
 ghost use Prim.Native.Nat.{_≤_};
 ghost use lib.ListN.{length};
 ghost use Rattle.rtp.specs.Sizes.{minPacket};
-ghost use Rattle.rtp.specs.Header.{payloadStart, payloadEnd, header, fields};
+ghost use Rattle.rtp.specs.Header.{payloadStart, payloadEnd, header, fields, headerNumbers};
 
 // What a header says; the payload is the packet's part from `start` up to `end`.
 pub struct Header {
@@ -94,7 +94,7 @@ pub(crate) fn header_fields(packet: &[u8], start: usize, end: usize) -> Header
 
 // The header of a packet.
 pub fn read_header(packet: &[u8]) -> HeaderRead
-    ensures { λ r. ⌜ r ≡ header (now (packet .entry)) ⌝ }
+    ensures { λ r. ⌜ headerNumbers r ≡ headerNumbers (header (now (packet .entry))) ⌝ }
 {
     if packet.len() < MIN_PACKET {
         return HeaderRead::Refused(Refusal::PacketLength);

@@ -6,7 +6,7 @@ ghost use mathlib.Core.Path.{_≡_};
 ghost use Prim.Native.Nat.{_≤_};
 ghost use lib.ListN.{length};
 ghost use Rattle.rtp.specs.Sizes.{maxPacket};
-ghost use Rattle.rtp.specs.Redundancy.{blockHeader, headers, headersAnswer, redundancyHeaders};
+ghost use Rattle.rtp.specs.Redundancy.{blockHeader, blockNumbers, headers, headersAnswer, redundancyHeaders, headersReadNumbers, headersNumbers};
 
 // The four-byte header of a redundant block.
 pub struct Redundant {
@@ -35,7 +35,7 @@ pub enum HeadersRead {
 
 // The block header at the front of s.
 pub fn read_block_header(s: &[u8]) -> BlockHeader
-    ensures { λ r. ⌜ r ≡ blockHeader (now (s .entry)) ⌝ }
+    ensures { λ r. ⌜ blockNumbers r ≡ blockNumbers (blockHeader (now (s .entry))) ⌝ }
 {
     if s.len() == 0 {
         return BlockHeader::Refused(Refusal::ContentsTruncated);
@@ -80,7 +80,7 @@ pub(crate) fn headers_from(s: &[u8]) -> HeadersRead
 
 // The sizes of the block headers of a redundancy payload.
 pub fn read_headers(s: &[u8]) -> HeadersRead
-    ensures { λ r. ⌜ r ≡ headersAnswer (redundancyHeaders (now (s .entry))) ⌝ }
+    ensures { λ r. ⌜ headersReadNumbers r ≡ headersNumbers (redundancyHeaders (now (s .entry))) ⌝ }
 {
     if MAX_PACKET < s.len() {
         return HeadersRead::Refused(Refusal::PacketLength);

@@ -4,7 +4,7 @@ use native.Mathlib.Omega.{arith}
 use borrow.Author.Tests.{eq-eqb, ne-eqb}
 use Rattle.formats.specs.declared.facts.Format.{Format}
 use Rattle.formats.specs.Formats.{formatOf}
-use Rattle.formats.specs.Frames.{frameIn}
+use Rattle.formats.specs.Frames.{frameIn, codedNumbers}
 use Rattle.formats.specs.Room.{InTable}
 use Rattle.formats.proofs.FormatLaws.{in-table, beyond}
 use borrow.Author.Needs.{needs}
@@ -16,8 +16,8 @@ format-of-requires c κs = search needs
 
 returns : tie.Need-returns
 returns c =
-    sym (beyond (c .before .before .before .args .format) (c .before .before .before .args .code)
-    (omega (arith, ap (λ (f : Format). f .codes) (c .before .before .format-of .ensures), c .if1 .taken)))
+    ap codedNumbers (sym (beyond (c .before .before .before .args .format) (c .before .before .before .args .code)
+    (omega (arith, ap (λ (f : Format). f .codes) (c .before .before .format-of .ensures), c .if1 .taken))))
 
 length-in-requires : tie.Need-length-in-requires
 length-in-requires c κs =

@@ -13,6 +13,7 @@ use Rattle.payload.proofs.PayloadLaws.{answer-none}
 use Rattle.packet.specs.Room.{askedBlock, blocksFrom}
 use Rattle.packet.proofs.AnswerLaws.{addAnswer, thenAnswer, Few}
 use Rattle.packet.proofs.BlockLaws.{from-few, from-refused, block-in, first-few, asked-primary, asked-rest, checked}
+use Rattle.rtp.proofs.NumberLaws.{same-block}
 use borrow.Author.Needs.{needs}
 use Prim.Native.Nat.{ℕ, _+_, _-_, _<_, _≤_}
 use borrow.Fn.Kinds.{In, Out}
@@ -50,7 +51,7 @@ At P t = P (callees t) (check-blocks-at t) check-blocks.Post
 
 -- the block header that was read
 read-at : (t : ℕ) (c : At check-blocks-lts.After-block t) → blockHeader (now (c .before .before .before .before .before .args .headers)) ≡ BlockHeader.Redundant (c .block .given .0 .0)
-read-at t c = sym (c .before .before .read-block-header .ensures) ∙ c .block .given .1
+read-at t c = sym (same-block _ _ (c .before .before .read-block-header .ensures)) ∙ c .block .given .1
 
 block-at : (t : ℕ) (c : At check-blocks-lts.After-block t) → c .block .given .0 .0 .length ≤ length (now (c .before .before .before .before .before .args .s))
 block-at t c = let a = c .before .before .before .before .before .args in block-in (a .settings) (a .done) rowArea 0 0 (now (a .headers)) (now (a .s)) (c .before .before .before .before .before .pre .1) (omega arith) _ (read-at t c)
@@ -152,10 +153,10 @@ check-blocks-add-t30 t c =
     omega (arith, subst (λ (p : PayloadRead). Few (a .done + n) p) (sym (rest-at t (c .before .before .before)) ∙ c .before .rest .given .1) f)
 
 check-blocks-returns : (t : ℕ) → At check-blocks-lts.Need-returns t
-check-blocks-returns t c = let a = c .before .before .before .before .before .before .args in answer-none _ _ (from-refused (a .settings) (a .done) 0 0 (now (a .headers)) (now (a .s)) _ (sym (c .before .before .before .read-block-header .ensures) ∙ c .before .refusal .given .1))
+check-blocks-returns t c = let a = c .before .before .before .before .before .before .args in answer-none _ _ (from-refused (a .settings) (a .done) 0 0 (now (a .headers)) (now (a .s)) _ (sym (same-block _ _ (c .before .before .before .read-block-header .ensures)) ∙ c .before .refusal .given .1))
 
 check-blocks-returns-2 : (t : ℕ) → At check-blocks-lts.Need-returns-2 t
-check-blocks-returns-2 t c = let a = c .before .before .before .before .before .before .before .args in c .check-block .ensures ∙ ap rowsAnswer (asked-primary (a .settings) (a .done) rowArea 0 0 (now (a .headers)) (now (a .s)) (c .before .before .before .before .before .before .before .pre .1) (omega arith) _ (sym (c .before .before .before .before .read-block-header .ensures) ∙ c .before .before .block-type .given .1))
+check-blocks-returns-2 t c = let a = c .before .before .before .before .before .before .before .args in c .check-block .ensures ∙ ap rowsAnswer (asked-primary (a .settings) (a .done) rowArea 0 0 (now (a .headers)) (now (a .s)) (c .before .before .before .before .before .before .before .pre .1) (omega arith) _ (sym (same-block _ _ (c .before .before .before .before .read-block-header .ensures)) ∙ c .before .before .block-type .given .1))
 
 check-blocks-returns-3 : (t : ℕ) → At check-blocks-lts.Need-returns-3 t
 check-blocks-returns-3 t c =

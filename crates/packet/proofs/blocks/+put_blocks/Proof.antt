@@ -14,6 +14,7 @@ use Rattle.payload.specs.declared.reading.PayloadRead.{PayloadRead}
 use Rattle.payload.proofs.PayloadLaws.{words-none}
 use Rattle.packet.specs.Room.{askedBlock}
 use Rattle.packet.proofs.BlockLaws.{from-refused, block-in, first-few, first-taken, asked-primary, room-rest, put-rest}
+use Rattle.rtp.proofs.NumberLaws.{same-block}
 use borrow.Author.Needs.{needs}
 use Prim.Native.Nat.{ℕ, _+_, _-_, _*_, _<_, _≤_}
 use borrow.Fn.Kinds.{In, Out}
@@ -47,7 +48,7 @@ At P t = P (callees t) (put-blocks-at t) put-blocks.Post
 
 -- the block header that was read
 read-at : (t : ℕ) (c : At put-blocks-lts.After-block t) → blockHeader (now (c .before .before .before .before .before .before .args .headers)) ≡ BlockHeader.Redundant (c .block .given .0 .0)
-read-at t c = sym (c .before .before .read-block-header .ensures) ∙ c .block .given .1
+read-at t c = sym (same-block _ _ (c .before .before .read-block-header .ensures)) ∙ c .block .given .1
 
 block-at : (t : ℕ) (c : At put-blocks-lts.After-block t) → c .block .given .0 .0 .length ≤ length (now (c .before .before .before .before .before .before .args .s))
 block-at t c = let a = c .before .before .before .before .before .before .args in block-in (a .settings) (a .done) (length (now (a .rows))) (a .time) (a .at) (now (a .headers)) (now (a .s)) (c .before .before .before .before .before .before .pre .1 .asked) (c .before .before .before .before .before .before .pre .1 .area-fits) _ (read-at t c)
@@ -157,13 +158,13 @@ put-blocks-put-blocks-requires t c κs =
     )
 
 put-blocks-returns : (t : ℕ) → At put-blocks-lts.Need-returns t
-put-blocks-returns t c = let a = c .before .before .before .before .before .before .args in words-none _ _ (now (a .rows)) (from-refused (a .settings) (a .done) (a .time) (a .at) (now (a .headers)) (now (a .s)) _ (sym (c .before .before .read-block-header .ensures) ∙ c .enum-told .given .1))
+put-blocks-returns t c = let a = c .before .before .before .before .before .before .args in words-none _ _ (now (a .rows)) (from-refused (a .settings) (a .done) (a .time) (a .at) (now (a .headers)) (now (a .s)) _ (sym (same-block _ _ (c .before .before .read-block-header .ensures)) ∙ c .enum-told .given .1))
 
 put-blocks-same-length : (t : ℕ) → At put-blocks-lts.Need-same-length t
 put-blocks-same-length t c = search needs
 
 put-blocks-returns-2 : (t : ℕ) → At put-blocks-lts.Need-returns-2 t
-put-blocks-returns-2 t c = let a = c .before .before .before .before .before .before .before .before .before .before .before .args in c .before .before .put-block .ensures .1 ∙ ap (λ (x : Rows). over (rowsWords x) (now (a .rows))) (asked-primary (a .settings) (a .done) (length (now (a .rows))) (a .time) (a .at) (now (a .headers)) (now (a .s)) (c .before .before .before .before .before .before .before .before .before .before .before .pre .1 .asked) (c .before .before .before .before .before .before .before .before .before .before .before .pre .1 .area-fits) _ (sym (c .before .before .before .before .before .before .before .read-block-header .ensures) ∙ c .before .before .before .before .before .block-type .given .1))
+put-blocks-returns-2 t c = let a = c .before .before .before .before .before .before .before .before .before .before .before .args in c .before .before .put-block .ensures .1 ∙ ap (λ (x : Rows). over (rowsWords x) (now (a .rows))) (asked-primary (a .settings) (a .done) (length (now (a .rows))) (a .time) (a .at) (now (a .headers)) (now (a .s)) (c .before .before .before .before .before .before .before .before .before .before .before .pre .1 .asked) (c .before .before .before .before .before .before .before .before .before .before .before .pre .1 .area-fits) _ (sym (same-block _ _ (c .before .before .before .before .before .before .before .read-block-header .ensures)) ∙ c .before .before .before .before .before .block-type .given .1))
 
 put-blocks-same-length-2 : (t : ℕ) → At put-blocks-lts.Need-same-length-2 t
 put-blocks-same-length-2 t c = search needs

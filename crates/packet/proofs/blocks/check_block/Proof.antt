@@ -4,6 +4,7 @@ use Rattle.rtp.specs.Sizes.{rowArea}
 use Rattle.payload.specs.Payloads.{rowsAnswer}
 use Rattle.packet.proofs.AnswerLaws.{gives-empty}
 use Rattle.packet.proofs.BlockLaws.{asked-other, asked-empty, asked-some}
+use Rattle.payload.proofs.NumberLaws.{rows-is}
 use borrow.Author.Needs.{needs}
 use Rattle.packet.proofs.blocks.check_block.Statement.{statement}
 use Rattle.packet.proofs.blocks.check_block.Tie as tie
@@ -15,7 +16,7 @@ check-payload-requires : tie.Need-check-payload-requires
 check-payload-requires c κs = search needs
 
 returns-2 : tie.Need-returns-2
-returns-2 c = let a = c .before .before .before .before .before .args in c .check-payload .ensures ∙ sym (ap rowsAnswer (asked-some (a .settings) (a .done) rowArea 0 (a .block-type) 0 0 (now (a .s)) (c .before .before .if1 .taken) (c .before .if2 .left)))
+returns-2 c = let a = c .before .before .before .before .before .args in rows-is _ _ (c .check-payload .ensures) ∙ sym (ap rowsAnswer (asked-some (a .settings) (a .done) rowArea 0 (a .block-type) 0 0 (now (a .s)) (c .before .before .if1 .taken) (c .before .if2 .left)))
 
 returns-3 : tie.Need-returns-3
 returns-3 c = let a = c .before .before .before .args in gives-empty (now (a .s)) _ (asked-other (a .settings) (a .done) rowArea 0 (a .block-type) 0 0 (now (a .s)) (c .if1 .left)) .0

@@ -4,7 +4,7 @@ use Prim.Native.Nat.{ℕ}
 use lib.ListN.{length}
 use Rattle.payload.specs.Payloads.{askedRows}
 use Rattle.packet.specs.Room.{askedBlock}
-use Rattle.packet.proofs.AnswerLaws.{gives-empty, gives-same}
+use Rattle.packet.proofs.AnswerLaws.{gives-read, gives-empty, gives-same}
 use Rattle.packet.proofs.BlockLaws.{asked-other, asked-empty, asked-some}
 use borrow.Author.Needs.{needs}
 use Rattle.packet.proofs.blocks.put_block.Statement.{statement}
@@ -32,7 +32,7 @@ same-length : tie.Need-same-length
 same-length c = search needs
 
 returns-2 : tie.Need-returns-2
-returns-2 c = gives-same _ (now (c .before .before .before .before .before .before .before .before .before .before .args .rows)) _ _ _ (rows-at (c .before .before)) (c .before .before .read-payload .ensures)
+returns-2 c = gives-same _ (now (c .before .before .before .before .before .before .before .before .before .before .args .rows)) _ _ _ (rows-at (c .before .before)) (gives-read _ _ _ _ (c .before .before .read-payload .ensures))
 
 returns-3 : tie.Need-returns-3
 returns-3 c = let a = c .before .before .before .before .args in gives-empty (now (a .rows)) _ (asked-other (a .settings) (a .done) (length (now (a .rows))) (a .time) (a .block-type) (a .offset) (a .at) (now (a .s)) (c .if1 .left))

@@ -12,13 +12,14 @@ use Rattle.packet.specs.Blocks.{redundantRows}
 use Rattle.packet.specs.Room.{blocksFrom}
 use Rattle.packet.proofs.AnswerLaws.{gives-none, only-refusal}
 use Rattle.packet.proofs.SplitLaws.{split-refused, split-short, split-small, split-blocks, split-answer, split-asked, split-room}
+use Rattle.rtp.proofs.NumberLaws.{headers-is}
 use borrow.Author.Needs.{needs}
 use Rattle.packet.proofs.blocks.read_redundant.Statement.{statement}
 use Rattle.packet.proofs.blocks.read_redundant.Tie as tie
 
 -- the sizes of the block headers that were read
 sizes-at : (c : tie.After-sizes) → headersAnswer (redundancyHeaders (now (c .before .before .before .before .before .args .s))) ≡ HeadersRead.Headers (c .sizes .given .0 .0)
-sizes-at c = sym (c .before .before .read-headers .ensures) ∙ c .sizes .given .1
+sizes-at c = sym (headers-is _ _ (c .before .before .read-headers .ensures)) ∙ c .sizes .given .1
 
 small-at : (c : tie.After-sizes) → Small (length (now (c .before .before .before .before .before .args .s))) (c .sizes .given .0 .0)
 small-at c = let a = c .before .before .before .before .before .args in split-small (a .settings) (a .timestamp) (a .at) (now (a .s)) (c .before .before .before .before .before .pre .2) _ (sizes-at (c)) (λ i. c .before .before .before .before .shared-slice-known .given i .fits)
@@ -90,7 +91,7 @@ put-blocks-requires c κs =
     (split-room (a .settings) (a .timestamp) (a .at) (now (a .s)) (c .before .before .before .before .before .before .before .before .before .before .before .before .before .before .before .pre .2) _ (sizes-at (c .before .before .before .before .before .before .before .before .before .before)) (c .before .before .before .before .before .before .before .if1 .left) (c .before .before .before .before .before .before .before .before .before .before .before .before .before .before .before .pre .0) (small-at (c .before .before .before .before .before .before .before .before .before .before) .within) _ _ (c .before .before .before .before .before .before .before .before .before .before .before .before .before .before .before .pre .1) (sym (checked-at (c .before .before .before .before .before)) ∙ c .before .before .before .count .given .1))
 
 returns-2 : tie.Need-returns-2
-returns-2 c = let a = c .before .before .before .before .before .before .args in gives-none _ (now (a .rows)) _ (split-refused (a .settings) (a .timestamp) (a .at) (now (a .s)) _ (sym (c .before .before .before .read-headers .ensures) ∙ c .before .refusal .given .1))
+returns-2 c = let a = c .before .before .before .before .before .before .args in gives-none _ (now (a .rows)) _ (split-refused (a .settings) (a .timestamp) (a .at) (now (a .s)) _ (sym (headers-is _ _ (c .before .before .before .read-headers .ensures)) ∙ c .before .refusal .given .1))
 
 returns-3 : tie.Need-returns-3
 returns-3 c = let a = c .before .before .before .before .before .before .before .before .before .before .before .before .before .args in gives-none _ (now (a .rows)) _ (only-refusal _ _ (answer-at (c .before .before .before) ∙ c .before .refusal2 .given .1))

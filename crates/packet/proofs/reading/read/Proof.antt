@@ -7,6 +7,7 @@ use Rattle.rtp.specs.Header.{header}
 use Rattle.rtp.specs.declared.header.HeaderRead.{HeaderRead}
 use Rattle.packet.specs.Readings.{payloadIn, typedRows, outcomeOf, reading}
 use Rattle.packet.proofs.ReadingLaws.{reading-out, reading-short, reading-refused, reading-headed, comes-refused, comes-typed}
+use Rattle.rtp.proofs.NumberLaws.{same-header}
 use borrow.Author.Needs.{needs}
 use Rattle.packet.proofs.reading.read.Statement.{statement}
 use Rattle.packet.proofs.reading.read.Tie as tie
@@ -16,7 +17,7 @@ range-at c = sym (c .before .in-range .ensures) ∙ c .if1 .taken
 
 -- the header that was read
 head-at : (c : tie.After-head) → header (now (c .before .before .before .before .before .before .before .before .args .packet)) ≡ HeaderRead.Header (c .head .given .0 .0)
-head-at c = sym (c .before .before .read-header .ensures) ∙ c .head .given .1
+head-at c = sym (same-header _ _ (c .before .before .read-header .ensures)) ∙ c .head .given .1
 
 whole-at : (c : tie.After-head) → let a = c .before .before .before .before .before .before .before .before .args in let h = c .head .given .0 .0 in
     reading (a .settings) (length (now (a .rows))) (now (a .packet)) ≡ outcomeOf h (typedRows (a .settings) h (payloadIn (now (a .packet)) h))
@@ -47,7 +48,7 @@ enum-known-count : tie.Need-enum-known-count
 enum-known-count c = search needs
 
 returns-2 : tie.Need-returns-2
-returns-2 c = let a = c .before .before .before .before .before .before .before .before .before .args in comes-refused _ (now (a .rows)) _ (reading-refused (a .settings) (length (now (a .rows))) (now (a .packet)) (range-at (c .before .before .before .before .before)) (c .before .before .before .before .if2 .left) _ (sym (c .before .before .before .read-header .ensures) ∙ c .before .refusal .given .1))
+returns-2 c = let a = c .before .before .before .before .before .before .before .before .before .args in comes-refused _ (now (a .rows)) _ (reading-refused (a .settings) (length (now (a .rows))) (now (a .packet)) (range-at (c .before .before .before .before .before)) (c .before .before .before .before .if2 .left) _ (sym (same-header _ _ (c .before .before .before .read-header .ensures)) ∙ c .before .refusal .given .1))
 
 same-length : tie.Need-same-length
 same-length c = search needs

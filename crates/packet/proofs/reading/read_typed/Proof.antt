@@ -2,7 +2,7 @@ use denote.Ref.{now}
 use lib.ListN.{length}
 use native.Mathlib.Omega.{arith}
 use Rattle.rtp.proofs.HeaderLaws.{within}
-use Rattle.packet.proofs.AnswerLaws.{gives-none, gives-same}
+use Rattle.packet.proofs.AnswerLaws.{gives-read, gives-none, gives-same}
 use Rattle.packet.proofs.ReadingLaws.{payload-fits, typed-plain, typed-redundant, typed-other}
 use borrow.Author.Needs.{needs}
 use Rattle.packet.proofs.reading.read_typed.Statement.{statement}
@@ -29,7 +29,7 @@ same-length c = search needs
 returns : tie.Need-returns
 returns c =
     let a = c .before .before .before .before .before .before .before .before .before .before .args in
-    gives-same _ (now (a .rows)) _ _ _ (typed-plain (a .settings) (a .head) (now (a .packet)) (c .before .before .before .before .before .before .before .before .before .before .pre .0) (length (now (a .rows))) (c .before .before .before .before .before .before .before .before .before .before .pre .1) (c .before .before .before .before .before .before .before .before .before .before .pre .2) (c .before .before .before .before .before .if1 .taken)) (c .before .before .read-payload .ensures)
+    gives-same _ (now (a .rows)) _ _ _ (typed-plain (a .settings) (a .head) (now (a .packet)) (c .before .before .before .before .before .before .before .before .before .before .pre .0) (length (now (a .rows))) (c .before .before .before .before .before .before .before .before .before .before .pre .1) (c .before .before .before .before .before .before .before .before .before .before .pre .2) (c .before .before .before .before .before .if1 .taken)) (gives-read _ _ _ _ (c .before .before .read-payload .ensures))
 
 sub-read-redundant : tie.Need-sub-read-redundant
 sub-read-redundant c = omega (arith, within _ _ (c .before .before .before .before .before .before .before .before .pre .2))

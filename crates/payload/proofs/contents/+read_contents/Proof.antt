@@ -9,6 +9,7 @@ use Rattle.payload.specs.declared.contents.ContentsRead.{ContentsRead}
 use Rattle.payload.specs.Contents.{entryOf, contents, sizesAnswer}
 use Rattle.payload.proofs.EntryLaws.{Fair, fair}
 use Rattle.payload.proofs.ContentsLaws.{at-refused, at-many, at-last, at-more, ahead, within, Within, Small, shorter}
+use Rattle.payload.proofs.NumberLaws.{same-entry, contents-is, contents-has}
 use lib.ListN.{length, take, drop, length-drop}
 use borrow.Author.Needs.{needs}
 use Prim.Native.Nat.{ℕ, _<_, _*_, _+_, _≤_, _-_}
@@ -46,7 +47,7 @@ At P t = P (callees t) (read-contents-at t) read-contents.Post
 
 -- the entry that was read, and what it says of itself
 read-at : (t : ℕ) (c : At read-contents-lts.After-entry t) → entryOf (c .before .before .before .before .before .args .format) (now (c .before .before .before .before .before .args .s)) ≡ EntryRead.Entry (c .entry .given .0 .0)
-read-at t c = sym (c .before .before .read-entry .ensures ∙ ap (entryOf (c .before .before .before .before .before .args .format)) (part-to-end 0 (now (c .before .before .before .before .before .args .s)))) ∙ c .entry .given .1
+read-at t c = sym (same-entry _ _ (c .before .before .read-entry .ensures) ∙ ap (entryOf (c .before .before .before .before .before .args .format)) (part-to-end 0 (now (c .before .before .before .before .before .args .s)))) ∙ c .entry .given .1
 
 fair-at : (t : ℕ) (c : At read-contents-lts.After-entry t) → Fair (c .before .before .before .before .before .args .format) (now (c .before .before .before .before .before .args .s)) (c .entry .given .0 .0)
 fair-at t c = fair _ _ _ (read-at t c)
@@ -65,7 +66,7 @@ rest-at : (t : ℕ) (c : At read-contents-lts.After-read-contents t)
 rest-at t c =
     let a = c .before .before .before .before .before .before .before .before .before .before .before .before .args in
     let e = c .before .before .before .before .before .before .before .entry .given .0 .0 in
-    c .read-contents .ensures ∙ ap (λ (l : List ℕ). sizesAnswer (a .format) (a .channels) (contents (a .format) (a .channels) (a .rows + e .blocks * a .channels) l)) (part-to-end (e .size) (now (a .s)))
+    contents-is _ _ _ _ (c .read-contents .ensures) ∙ ap (λ (l : List ℕ). sizesAnswer (a .format) (a .channels) (contents (a .format) (a .channels) (a .rows + e .blocks * a .channels) l)) (part-to-end (e .size) (now (a .s)))
 
 whole-at : (t : ℕ) (c : At read-contents-lts.After-read-contents t)
     → let a = c .before .before .before .before .before .before .before .before .before .before .before .before .args in let e = c .before .before .before .before .before .before .before .entry .given .0 .0 in
@@ -110,7 +111,7 @@ read-contents-add-so-far : (t : ℕ) → At read-contents-lts.Need-add-so-far t
 read-contents-add-so-far t c = omega (arith, here-at t (c .before .before), c .before .before .before .before .before .before .before .fits .rows)
 
 read-contents-returns : (t : ℕ) → At read-contents-lts.Need-returns t
-read-contents-returns t c = let a = c .before .before .before .before .before .before .before .before .args in sym (at-many (a .format) (a .channels) (a .rows) (now (a .s)) _ (read-at t (c .before .before .before)) (c .if1 .taken))
+read-contents-returns t c = let a = c .before .before .before .before .before .before .before .before .args in contents-has _ _ _ _ (sym (at-many (a .format) (a .channels) (a .rows) (now (a .s)) _ (read-at t (c .before .before .before)) (c .if1 .taken)))
 
 read-contents-mul-frames : (t : ℕ) → At read-contents-lts.Need-mul-frames t
 read-contents-mul-frames t c =
@@ -157,16 +158,16 @@ read-contents-add-t32 t c =
     omega (arith, w, here-at t (c .before .before .before .before .before .before .before .before .before .before .before .before .before), mul-le-mul-left (e .blocks * a .channels) (fair-at t (c .before .before .before .before .before .before .before .before .before .before .before .before .before) .short))
 
 read-contents-returns-2 : (t : ℕ) → At read-contents-lts.Need-returns-2 t
-read-contents-returns-2 t c = let a = c .before .before .before .before .before .before .args in sym (at-refused (a .format) (a .channels) (a .rows) (now (a .s)) _ (sym (c .before .before .before .read-entry .ensures ∙ ap (entryOf (c .before .before .before .before .before .before .args .format)) (part-to-end 0 (now (c .before .before .before .before .before .before .args .s)))) ∙ c .before .refusal .given .1))
+read-contents-returns-2 t c = let a = c .before .before .before .before .before .before .args in contents-has _ _ _ _ (sym (at-refused (a .format) (a .channels) (a .rows) (now (a .s)) _ (sym (same-entry _ _ (c .before .before .before .read-entry .ensures) ∙ ap (entryOf (c .before .before .before .before .before .before .args .format)) (part-to-end 0 (now (c .before .before .before .before .before .before .args .s)))) ∙ c .before .refusal .given .1)))
 
 read-contents-returns-3 : (t : ℕ) → At read-contents-lts.Need-returns-3 t
-read-contents-returns-3 t c = sym (whole-at t (c .before .before .before) ∙ ap (ahead (c .before .before .before .before .before .before .before .before .before .before .before .before .before .before .before .args .channels) (c .before .before .before .before .before .before .before .before .before .before .entry .given .0 .0)) (c .before .refusal2 .given .1))
+read-contents-returns-3 t c = contents-has _ _ _ _ (sym (whole-at t (c .before .before .before) ∙ ap (ahead (c .before .before .before .before .before .before .before .before .before .before .before .before .before .before .before .args .channels) (c .before .before .before .before .before .before .before .before .before .before .entry .given .0 .0)) (c .before .refusal2 .given .1)))
 
 read-contents-returns-4 : (t : ℕ) → At read-contents-lts.Need-returns-4 t
-read-contents-returns-4 t c = sym (whole-at t (c .before .before .before .before .before .before) ∙ ap (ahead (c .before .before .before .before .before .before .before .before .before .before .before .before .before .before .before .before .before .before .args .channels) (c .before .before .before .before .before .before .before .before .before .before .before .before .before .entry .given .0 .0)) (c .before .before .before .before .rest .given .1))
+read-contents-returns-4 t c = contents-has _ _ _ _ (sym (whole-at t (c .before .before .before .before .before .before) ∙ ap (ahead (c .before .before .before .before .before .before .before .before .before .before .before .before .before .before .before .before .before .before .args .channels) (c .before .before .before .before .before .before .before .before .before .before .before .before .before .entry .given .0 .0)) (c .before .before .before .before .rest .given .1)))
 
 read-contents-returns-5 : (t : ℕ) → At read-contents-lts.Need-returns-5 t
-read-contents-returns-5 t c = let a = c .before .before .before .before .before .before .before .before .before .before .args in sym (at-last (a .format) (a .channels) (a .rows) (now (a .s)) _ (read-at t (c .before .before .before .before .before)) (c .before .before .if1 .left) (c .if2 .left))
+read-contents-returns-5 t c = let a = c .before .before .before .before .before .before .before .before .before .before .args in contents-has _ _ _ _ (sym (at-last (a .format) (a .channels) (a .rows) (now (a .s)) _ (read-at t (c .before .before .before .before .before)) (c .before .before .if1 .left) (c .if2 .left)))
 
 pub +read-contents-spec : {M : Type 1} → statement M
 +read-contents-spec = close μ-read-contents λ t. read-contents-lts.spec (callees t)

@@ -1,10 +1,17 @@
+use mathlib.Core.Path.{_≡_}
 use native.Mathlib.Omega.{arith}
+use Rattle.formats.specs.Frames.{frameOf}
 use Rattle.payload.proofs.EntryLaws.{min-some}
 use Rattle.payload.specs.Contents.{entryOf}
+use Rattle.formats.proofs.NumberLaws.{same-coded}
 use borrow.Author.Tests.{le-ltb, lt-ltb, eq-eqb, ne-eqb}
 use borrow.Author.Needs.{needs}
 use Rattle.payload.proofs.contents.read_entry.Statement.{statement}
 use Rattle.payload.proofs.contents.read_entry.Tie as tie
+
+-- the frame of the code
+coded-at : (c : tie.After-frame-of) → c .frame-of .result ≡ frameOf (c .before .before .before .before .before .before .before .before .before .before .args .format) (c .before .code-in .result)
+coded-at c = same-coded _ _ (c .frame-of .ensures)
 
 min-entry-requires : tie.Need-min-entry-requires
 min-entry-requires c κs = search needs
@@ -43,15 +50,15 @@ enum-known-frame c = search needs
 
 returns-3 : tie.Need-returns-3
 unfolding entryOf
-returns-3 c = simp (← (c .before .before .before .before .before .before .before .before .before .before .before .before .min-entry .ensures), le-ltb _ _ (c .before .before .before .before .before .before .before .before .before .before .before .if1 .left), ← (c .before .before .before .before .before .before .before .before .before .wide .ensures .0), ← (c .before .before .before .before .before .before .before .before .blocks-in .ensures .0), ← (c .before .before .before .before .before .before .before .entry-size .ensures), le-ltb _ _ (c .before .before .before .before .before .before .if2 .left), ← (c .before .before .before .before .before .code-in .ensures .0), ← (c .before .before .before .before .frame-of .ensures), c .before .before .frame .given .1, eq-eqb _ _ (c .if3 .taken))
+returns-3 c = simp (← (c .before .before .before .before .before .before .before .before .before .before .before .before .min-entry .ensures), le-ltb _ _ (c .before .before .before .before .before .before .before .before .before .before .before .if1 .left), ← (c .before .before .before .before .before .before .before .before .before .wide .ensures .0), ← (c .before .before .before .before .before .before .before .before .blocks-in .ensures .0), ← (c .before .before .before .before .before .before .before .entry-size .ensures), le-ltb _ _ (c .before .before .before .before .before .before .if2 .left), ← (c .before .before .before .before .before .code-in .ensures .0), ← (coded-at (c .before .before .before .before)), c .before .before .frame .given .1, eq-eqb _ _ (c .if3 .taken))
 
 returns-4 : tie.Need-returns-4
 unfolding entryOf
-returns-4 c = simp (← (c .before .before .before .before .before .before .before .before .before .before .min-entry .ensures), le-ltb _ _ (c .before .before .before .before .before .before .before .before .before .if1 .left), ← (c .before .before .before .before .before .before .before .wide .ensures .0), ← (c .before .before .before .before .before .before .blocks-in .ensures .0), ← (c .before .before .before .before .before .entry-size .ensures), le-ltb _ _ (c .before .before .before .before .if2 .left), ← (c .before .before .before .code-in .ensures .0), ← (c .before .before .frame-of .ensures), c .enum-told .given .1)
+returns-4 c = simp (← (c .before .before .before .before .before .before .before .before .before .before .min-entry .ensures), le-ltb _ _ (c .before .before .before .before .before .before .before .before .before .if1 .left), ← (c .before .before .before .before .before .before .before .wide .ensures .0), ← (c .before .before .before .before .before .before .blocks-in .ensures .0), ← (c .before .before .before .before .before .entry-size .ensures), le-ltb _ _ (c .before .before .before .before .if2 .left), ← (c .before .before .before .code-in .ensures .0), ← (coded-at (c .before .before)), c .enum-told .given .1)
 
 returns-5 : tie.Need-returns-5
 unfolding entryOf
-returns-5 c = simp (← (c .before .before .before .before .before .before .before .before .before .before .before .before .min-entry .ensures), le-ltb _ _ (c .before .before .before .before .before .before .before .before .before .before .before .if1 .left), ← (c .before .before .before .before .before .before .before .before .before .wide .ensures .0), ← (c .before .before .before .before .before .before .before .before .blocks-in .ensures .0), ← (c .before .before .before .before .before .before .before .entry-size .ensures), le-ltb _ _ (c .before .before .before .before .before .before .if2 .left), ← (c .before .before .before .before .before .code-in .ensures .0), ← (c .before .before .before .before .frame-of .ensures), c .before .before .frame .given .1, ne-eqb _ _ (c .if3 .left))
+returns-5 c = simp (← (c .before .before .before .before .before .before .before .before .before .before .before .before .min-entry .ensures), le-ltb _ _ (c .before .before .before .before .before .before .before .before .before .before .before .if1 .left), ← (c .before .before .before .before .before .before .before .before .before .wide .ensures .0), ← (c .before .before .before .before .before .before .before .before .blocks-in .ensures .0), ← (c .before .before .before .before .before .before .before .entry-size .ensures), le-ltb _ _ (c .before .before .before .before .before .before .if2 .left), ← (c .before .before .before .before .before .code-in .ensures .0), ← (coded-at (c .before .before .before .before)), c .before .before .frame .given .1, ne-eqb _ _ (c .if3 .left))
 
 pub read-entry-spec : {M : Type 1} → statement M
 read-entry-spec =

@@ -9,6 +9,7 @@ use Rattle.payload.specs.Contents.{contents, sizesAnswer}
 use Rattle.payload.specs.declared.contents.ContentsRead.{ContentsRead}
 use Rattle.payload.proofs.ContentsLaws.{Small}
 use Rattle.payload.proofs.PayloadLaws.{pay-refused, pay-part, pay-rows, pay-small, asked-out, asked-long, asked-in, answer-none}
+use Rattle.payload.proofs.NumberLaws.{contents-is, rows-has}
 use borrow.Author.Needs.{needs}
 use Rattle.payload.proofs.reading.check_payload.Statement.{statement}
 use Rattle.payload.proofs.reading.check_payload.Tie as tie
@@ -18,7 +19,7 @@ asked-at : (c : tie.Else2) → let a = c .before .before .before .before .args i
 asked-at c = let a = c .before .before .before .before .args in asked-in (a .asked) (a .done) rowArea 0 0 (now (a .s)) (sym (c .before .before .in-range .ensures) ∙ c .before .if1 .taken) (omega arith) (omega (arith, c .if2 .left))
 
 table-at : (c : tie.After-sizes) → let a = c .before .before .before .before .before .before .before .before .args in sizesAnswer (a .asked .format) (a .asked .channels) (contents (a .asked .format) (a .asked .channels) (a .done) (now (a .s))) ≡ ContentsRead.Contents (c .sizes .given .0 .0)
-table-at c = sym (rw (part-to-end 0 (now (c .before .before .before .before .before .before .before .before .args .s))) at (c .before .before .read-contents .ensures)) ∙ c .sizes .given .1
+table-at c = sym (contents-is _ _ _ _ (rw (part-to-end 0 (now (c .before .before .before .before .before .before .before .before .args .s))) at (c .before .before .read-contents .ensures))) ∙ c .sizes .given .1
 
 small-at : (c : tie.After-sizes) → let a = c .before .before .before .before .before .before .before .before .args in Small (a .done) (length (now (a .s))) (c .sizes .given .0 .0)
 small-at c = let a = c .before .before .before .before .before .before .before .before .args in pay-small (a .asked .format) (a .asked .channels) (a .done) 0 0 (now (a .s)) (c .sizes .given .0 .0) (table-at c)
@@ -27,7 +28,7 @@ in-range-requires : tie.Need-in-range-requires
 in-range-requires c κs = search needs
 
 returns : tie.Need-returns
-returns c = let a = c .before .before .before .before .args in answer-none _ _ (asked-long (a .asked) (a .done) rowArea 0 0 (now (a .s)) (sym (c .before .before .in-range .ensures) ∙ c .before .if1 .taken) (omega arith) (omega (arith, c .if2 .taken)))
+returns c = let a = c .before .before .before .before .args in rows-has _ _ (answer-none _ _ (asked-long (a .asked) (a .done) rowArea 0 0 (now (a .s)) (sym (c .before .before .in-range .ensures) ∙ c .before .if1 .taken) (omega arith) (omega (arith, c .if2 .taken))))
 
 sub-read-contents : tie.Need-sub-read-contents
 sub-read-contents c = search needs
@@ -54,16 +55,16 @@ cast-t20 : tie.Need-cast-t20
 cast-t20 c = omega (arith, small-at (c .before .before .before .before) .few)
 
 returns-2 : tie.Need-returns-2
-returns-2 c = let a = c .before .before .before .before .before .before .before .before .before .args in answer-none _ _ (asked-at (c .before .before .before .before .before) ∙ pay-refused (a .asked .format) (a .asked .channels) (a .done) 0 0 (now (a .s)) _ (sym (rw (part-to-end 0 (now (a .s))) at (c .before .before .before .read-contents .ensures)) ∙ c .before .refusal .given .1))
+returns-2 c = let a = c .before .before .before .before .before .before .before .before .before .args in rows-has _ _ (answer-none _ _ (asked-at (c .before .before .before .before .before) ∙ pay-refused (a .asked .format) (a .asked .channels) (a .done) 0 0 (now (a .s)) _ (sym (contents-is _ _ _ _ (rw (part-to-end 0 (now (a .s))) at (c .before .before .before .read-contents .ensures))) ∙ c .before .refusal .given .1)))
 
 returns-3 : tie.Need-returns-3
-returns-3 c = let a = c .before .before .before .before .before .before .before .before .before .before .before .before .args in sym (ap rowsAnswer (asked-at (c .before .before .before .before .before .before .before .before)) ∙ pay-rows (a .asked .format) (a .asked .channels) (a .done) 0 0 (now (a .s)) _ (table-at (c .before .before .before .before)) (c .before .if3 .taken))
+returns-3 c = let a = c .before .before .before .before .before .before .before .before .before .before .before .before .args in rows-has _ _ (sym (ap rowsAnswer (asked-at (c .before .before .before .before .before .before .before .before)) ∙ pay-rows (a .asked .format) (a .asked .channels) (a .done) 0 0 (now (a .s)) _ (table-at (c .before .before .before .before)) (c .before .if3 .taken)))
 
 returns-4 : tie.Need-returns-4
-returns-4 c = let a = c .before .before .before .before .before .before .before .before .before .before .before .args in answer-none _ _ (asked-at (c .before .before .before .before .before .before .before) ∙ pay-part (a .asked .format) (a .asked .channels) (a .done) 0 0 (now (a .s)) _ (table-at (c .before .before .before)) (c .if3 .left))
+returns-4 c = let a = c .before .before .before .before .before .before .before .before .before .before .before .args in rows-has _ _ (answer-none _ _ (asked-at (c .before .before .before .before .before .before .before) ∙ pay-part (a .asked .format) (a .asked .channels) (a .done) 0 0 (now (a .s)) _ (table-at (c .before .before .before)) (c .if3 .left)))
 
 returns-5 : tie.Need-returns-5
-returns-5 c = let a = c .before .before .before .args in answer-none _ _ (asked-out (a .asked) (a .done) rowArea 0 0 (now (a .s)) (sym (c .before .in-range .ensures) ∙ c .if1 .left))
+returns-5 c = let a = c .before .before .before .args in rows-has _ _ (answer-none _ _ (asked-out (a .asked) (a .done) rowArea 0 0 (now (a .s)) (sym (c .before .in-range .ensures) ∙ c .if1 .left)))
 
 pub check-payload-spec : {M : Type 1} → statement M
 check-payload-spec =

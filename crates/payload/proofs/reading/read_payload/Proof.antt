@@ -4,7 +4,7 @@ use denote.Ref.{now}
 use mathlib.Core.Path.{_≡_, sym, _∙_, ap}
 use native.Mathlib.Omega.{arith}
 use Prim.Native.Nat.{ℕ}
-use Rattle.payload.specs.Payloads.{Rows, payloadRows, rowsAnswer, rowsWords, askedRows}
+use Rattle.payload.specs.Payloads.{Rows, payloadRows, rowsAnswer, payloadNumbers, rowsNumbers, rowsWords, askedRows}
 use Rattle.payload.specs.Contents.{contents, sizesAnswer}
 use Rattle.payload.specs.declared.contents.ContentsRead.{ContentsRead}
 use Rattle.payload.proofs.ContentsLaws.{Small}
@@ -14,19 +14,20 @@ use Rattle.rtp.specs.Areas.{over}
 use Rattle.rtp.specs.declared.refusal.Refusal.{Refusal}
 use Rattle.payload.specs.Payloads.{noRows}
 use Rattle.payload.specs.declared.reading.PayloadRead.{PayloadRead}
+use Rattle.payload.proofs.NumberLaws.{contents-is, rows-has}
 use borrow.Author.Needs.{needs}
 use Rattle.payload.proofs.reading.read_payload.Statement.{statement}
 use Rattle.payload.proofs.reading.read_payload.Tie as tie
 
-both-none : (x : Rows) (r : Refusal) (l : List ℕ) → x ≡ noRows r → (PayloadRead.Refused r ≡ rowsAnswer x) × (l ≡ over (rowsWords x) l)
-both-none x r l h = (answer-none x r h, words-none x r l h)
+both-none : (x : Rows) (r : Refusal) (l : List ℕ) → x ≡ noRows r → (payloadNumbers (PayloadRead.Refused r) ≡ rowsNumbers x) × (l ≡ over (rowsWords x) l)
+both-none x r l h = (rows-has _ x (answer-none x r h), words-none x r l h)
 
 -- the settings are in range, there is room, and the payload is that of the table
 asked-at : (c : tie.Else3) → let a = c .before .before .before .before .before .before .args in askedRows (a .asked) (a .done) (length (now (a .area))) (a .time) (a .at) (now (a .s)) ≡ payloadRows (a .asked .format) (a .asked .channels) (a .done) (a .time) (a .at) (now (a .s))
 asked-at c = let a = c .before .before .before .before .before .before .args in asked-in (a .asked) (a .done) (length (now (a .area))) (a .time) (a .at) (now (a .s)) (sym (c .before .before .before .in-range .ensures) ∙ c .before .before .if1 .taken) (omega (arith, c .before .if2 .left)) (omega (arith, c .if3 .left))
 
 table-at : (c : tie.After-sizes) → let a = c .before .before .before .before .before .before .before .before .before .before .args in sizesAnswer (a .asked .format) (a .asked .channels) (contents (a .asked .format) (a .asked .channels) (a .done) (now (a .s))) ≡ ContentsRead.Contents (c .sizes .given .0 .0)
-table-at c = sym (rw (part-to-end 0 (now (c .before .before .before .before .before .before .before .before .before .before .args .s))) at (c .before .before .read-contents .ensures)) ∙ c .sizes .given .1
+table-at c = sym (contents-is _ _ _ _ (rw (part-to-end 0 (now (c .before .before .before .before .before .before .before .before .before .before .args .s))) at (c .before .before .read-contents .ensures))) ∙ c .sizes .given .1
 
 small-at : (c : tie.After-sizes) → let a = c .before .before .before .before .before .before .before .before .before .before .args in Small (a .done) (length (now (a .s))) (c .sizes .given .0 .0)
 small-at c = let a = c .before .before .before .before .before .before .before .before .before .before .args in pay-small (a .asked .format) (a .asked .channels) (a .done) (a .time) (a .at) (now (a .s)) (c .sizes .given .0 .0) (table-at c)
@@ -94,7 +95,7 @@ cast-t38 : tie.Need-cast-t38
 cast-t38 c = omega (arith, small-at (c .before .before .before .before .before .before .before .before .before .before .before) .few)
 
 returns-3 : tie.Need-returns-3
-returns-3 c = let a = c .before .before .before .before .before .before .before .before .before .before .before .args in both-none _ _ (now (a .area)) (asked-at (c .before .before .before .before .before) ∙ pay-refused (a .asked .format) (a .asked .channels) (a .done) (a .time) (a .at) (now (a .s)) _ (sym (rw (part-to-end 0 (now (a .s))) at (c .before .before .before .read-contents .ensures)) ∙ c .before .refusal .given .1))
+returns-3 c = let a = c .before .before .before .before .before .before .before .before .before .before .before .args in both-none _ _ (now (a .area)) (asked-at (c .before .before .before .before .before) ∙ pay-refused (a .asked .format) (a .asked .channels) (a .done) (a .time) (a .at) (now (a .s)) _ (sym (contents-is _ _ _ _ (rw (part-to-end 0 (now (a .s))) at (c .before .before .before .read-contents .ensures))) ∙ c .before .refusal .given .1))
 
 same-length : tie.Need-same-length
 same-length c = search needs
@@ -102,7 +103,7 @@ same-length c = search needs
 returns-4 : tie.Need-returns-4
 returns-4 c =
     let a = c .before .before .before .before .before .before .before .before .before .before .before .before .before .before .before .before .before .before .before .before .before .args in (
-      sym (ap rowsAnswer (asked-at (c .before .before .before .before .before .before .before .before .before .before .before .before .before .before .before)) ∙ pay-rows (a .asked .format) (a .asked .channels) (a .done) (a .time) (a .at) (now (a .s)) _ (table-at (c .before .before .before .before .before .before .before .before .before .before .before)) (c .before .before .before .before .before .before .before .before .if4 .taken)),
+      rows-has _ _ (sym (ap rowsAnswer (asked-at (c .before .before .before .before .before .before .before .before .before .before .before .before .before .before .before)) ∙ pay-rows (a .asked .format) (a .asked .channels) (a .done) (a .time) (a .at) (now (a .s)) _ (table-at (c .before .before .before .before .before .before .before .before .before .before .before)) (c .before .before .before .before .before .before .before .before .if4 .taken))),
       (rw (part-to-end 0 (now (a .s))) at (c .before .before .before .put-contents .ensures)) ∙ ap (λ (w : List ℕ). over w (now (a .area))) (sym (ap rowsWords (asked-at (c .before .before .before .before .before .before .before .before .before .before .before .before .before .before .before)) ∙ pay-words (a .asked .format) (a .asked .channels) (a .done) (a .time) (a .at) (now (a .s)) _ (table-at (c .before .before .before .before .before .before .before .before .before .before .before)) (c .before .before .before .before .before .before .before .before .if4 .taken))),
     )
 

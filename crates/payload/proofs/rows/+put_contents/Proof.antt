@@ -11,6 +11,7 @@ use Rattle.payload.specs.Room.{GroupRoom, TableRoom}
 use Rattle.payload.proofs.EntryLaws.{fair}
 use Rattle.payload.proofs.ContentsLaws.{shorter}
 use Rattle.payload.proofs.TableLaws.{room-few, room-group, room-rest, put-refused, put-last, put-more}
+use Rattle.payload.proofs.NumberLaws.{same-entry}
 use borrow.Author.Needs.{needs}
 use Prim.Native.Nat.{ℕ, _<_, _*_, _≤_, _+_, _-_}
 use borrow.Fn.Kinds.{In, Out}
@@ -48,7 +49,7 @@ At P t = P (callees t) (put-contents-at t) put-contents.Post
 
 -- the entry that was read, and the room that is there
 read-at : (t : ℕ) (c : At put-contents-lts.After-entry t) → entryOf (c .before .before .before .before .before .before .args .format) (now (c .before .before .before .before .before .before .args .s)) ≡ EntryRead.Entry (c .entry .given .0 .0)
-read-at t c = sym (c .before .before .read-entry .ensures ∙ ap (entryOf (c .before .before .before .before .before .before .args .format)) (part-to-end 0 (now (c .before .before .before .before .before .before .args .s)))) ∙ c .entry .given .1
+read-at t c = sym (same-entry _ _ (c .before .before .read-entry .ensures) ∙ ap (entryOf (c .before .before .before .before .before .before .args .format)) (part-to-end 0 (now (c .before .before .before .before .before .before .args .s)))) ∙ c .entry .given .1
 
 few-at : (t : ℕ) (c : At put-contents-lts.After-entry t) → let a = c .before .before .before .before .before .before .args in a .done + c .entry .given .0 .0 .blocks * a .channels ≤ maxRows
 few-at t c = let a = c .before .before .before .before .before .before .args in room-few (a .format) (a .channels) (a .done) (a .start) (length (now (a .rows))) (now (a .s)) _ (read-at t c) (c .before .before .before .before .before .before .pre .1)
@@ -139,7 +140,7 @@ put-contents-put-contents-requires t c κs =
     )
 
 put-contents-returns : (t : ℕ) → At put-contents-lts.Need-returns t
-put-contents-returns t c = let a = c .before .before .before .before .before .before .args in put-refused (a .format) (a .channels) (a .time) (a .start) (a .done) (now (a .s)) (now (a .rows)) _ (sym (c .before .before .read-entry .ensures ∙ ap (entryOf (c .before .before .before .before .before .before .args .format)) (part-to-end 0 (now (c .before .before .before .before .before .before .args .s)))) ∙ c .enum-told .given .1)
+put-contents-returns t c = let a = c .before .before .before .before .before .before .args in put-refused (a .format) (a .channels) (a .time) (a .start) (a .done) (now (a .s)) (now (a .rows)) _ (sym (same-entry _ _ (c .before .before .read-entry .ensures) ∙ ap (entryOf (c .before .before .before .before .before .before .args .format)) (part-to-end 0 (now (c .before .before .before .before .before .before .args .s)))) ∙ c .enum-told .given .1)
 
 put-contents-same-length : (t : ℕ) → At put-contents-lts.Need-same-length t
 put-contents-same-length t c = search needs

@@ -6,6 +6,7 @@ use Rattle.playout.specs.Pairs.{order, sideOf}
 use native.Mathlib.Nat.{lt-irrefl}
 use native.Mathlib.Omega.{arith}
 use Rattle.reorder.proofs.SearchLaws.{from, side-order, search-none, search-same, search-after}
+use Rattle.playout.proofs.SideLaws.{side-is}
 use borrow.Author.Needs.{needs}
 use Rattle.reorder.proofs.columns.find_place.Statement.{statement}
 use Rattle.reorder.proofs.columns.find_place.Tie as tie
@@ -18,7 +19,7 @@ abbrev μ-loop : tie.MeasureT-loop
 
 -- the side, by the entry's channel
 sided : (c : tie.After-side-of Inv-loop μ-loop) → c .side-of .result ≡ sideOf (from (now (c .before .before .before .before .before .before .args .times)) (now (c .before .before .before .before .before .before .args .tags)) (c .before .before .before .before .before .before .args .time) (c .before .before .before .before .before .before .args .channel) (c .before .before .before .before .before .loop .i - 1))
-sided c = c .side-of .ensures ∙ ap (λ (d : ℕ). sideOf (order (c .before .before .before .before .before .before .args .time) (c .before .before .before .before .before .before .args .channel) (getD (now (c .before .before .before .before .before .before .args .times)) (c .before .before .before .before .before .loop .i - 1) 0) d)) (c .before .before .tag-channel .ensures .0)
+sided c = side-is _ _ (c .side-of .ensures) ∙ ap (λ (d : ℕ). sideOf (order (c .before .before .before .before .before .before .args .time) (c .before .before .before .before .before .before .args .channel) (getD (now (c .before .before .before .before .before .before .args .times)) (c .before .before .before .before .before .loop .i - 1) 0) d)) (c .before .before .tag-channel .ensures .0)
 
 loop-holds : tie.Need-loop-holds Inv-loop μ-loop
 loop-holds c = (search needs, λ l. absurd (lt-irrefl _ l))

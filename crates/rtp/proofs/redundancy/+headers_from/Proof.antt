@@ -8,6 +8,7 @@ use Rattle.rtp.specs.declared.redundancy.HeadersRead.{HeadersRead}
 use Rattle.rtp.specs.Redundancy.{blockHeader, headers, headersAnswer}
 use Rattle.rtp.proofs.AreaLaws.{part-to-end}
 use Rattle.rtp.proofs.RedundancyLaws.{fair, shorter, at-refused, at-primary, at-redundant, ahead, within, Within, Small, bytes-drop}
+use Rattle.rtp.proofs.NumberLaws.{same-block}
 use borrow.Author.Needs.{needs}
 use Prim.Native.Nat.{ℕ, _-_, _<_}
 use borrow.Fn.Kinds.{In, Out}
@@ -45,7 +46,7 @@ At P t = P (callees t) (headers-from-at t) headers-from.Post
 -- the block header that was read
 read-at : (t : ℕ) (c : At headers-from-lts.After-block t)
     → blockHeader (now (c .before .before .before .before .args .s)) ≡ BlockHeader.Redundant (c .block .given .0 .0)
-read-at t c = sym (c .before .before .read-block-header .ensures) ∙ c .block .given .1
+read-at t c = sym (same-block _ _ (c .before .before .read-block-header .ensures)) ∙ c .block .given .1
 
 -- what follows, as the call of itself read it
 rest-at : (t : ℕ) (c : At headers-from-lts.After-headers-from t)
@@ -110,10 +111,10 @@ headers-from-add-t16 t c =
     omega (arith, k, small-at t (c .before .before .before .before), length-drop 4 s, c .before .before .before .before .before .before .before .before .before .before .before .before .before .pre .1)
 
 headers-from-returns : (t : ℕ) → At headers-from-lts.Need-returns t
-headers-from-returns t c = sym (at-refused (now (c .before .before .before .before .before .args .s)) _ (sym (c .before .before .before .read-block-header .ensures) ∙ c .before .refusal .given .1))
+headers-from-returns t c = sym (at-refused (now (c .before .before .before .before .before .args .s)) _ (sym (same-block _ _ (c .before .before .before .read-block-header .ensures)) ∙ c .before .refusal .given .1))
 
 headers-from-returns-2 : (t : ℕ) → At headers-from-lts.Need-returns-2 t
-headers-from-returns-2 t c = sym (at-primary (now (c .before .before .before .before .args .s)) _ (sym (c .before .before .read-block-header .ensures) ∙ c .enum-told .given .1))
+headers-from-returns-2 t c = sym (at-primary (now (c .before .before .before .before .args .s)) _ (sym (same-block _ _ (c .before .before .read-block-header .ensures)) ∙ c .enum-told .given .1))
 
 headers-from-returns-3 : (t : ℕ) → At headers-from-lts.Need-returns-3 t
 headers-from-returns-3 t c = sym (whole-at t (c .before .before .before) ∙ ap (ahead (c .before .before .before .before .before .before .block .given .0 .0)) (c .before .refusal2 .given .1))

@@ -1,11 +1,13 @@
-use Rattle.rtp.specs.Redundancy.{redundancyHeaders, headersAnswer}
+use mathlib.Core.Path.{ap, _∙_}
+use Rattle.rtp.specs.Redundancy.{headers, redundancyHeaders, headersReadNumbers, headersNumbers}
+use Rattle.rtp.proofs.NumberLaws.{answer-numbers}
 use borrow.Author.Tests.{le-ltb, lt-ltb}
 use borrow.Author.Needs.{needs}
 use Rattle.rtp.proofs.redundancy.read_headers.Statement.{statement}
 use Rattle.rtp.proofs.redundancy.read_headers.Tie as tie
 
 returns : tie.Need-returns
-unfolding redundancyHeaders headersAnswer
+unfolding redundancyHeaders headersNumbers
 returns c = simp (lt-ltb _ _ (c .if1 .taken))
 
 headers-from-requires : tie.Need-headers-from-requires
@@ -13,7 +15,7 @@ headers-from-requires c κs = search needs
 
 returns-2 : tie.Need-returns-2
 unfolding redundancyHeaders
-returns-2 c = simp (le-ltb _ _ (c .before .if1 .left), ← (c .headers-from .ensures))
+returns-2 c = rw (le-ltb _ _ (c .before .if1 .left)) (ap headersReadNumbers (c .headers-from .ensures) ∙ answer-numbers (headers _))
 
 pub read-headers-spec : {M : Type 1} → statement M
 read-headers-spec = tie.close (tie.spec returns headers-from-requires returns-2)
