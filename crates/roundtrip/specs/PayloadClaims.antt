@@ -24,7 +24,7 @@ RoundTrip = (st : Settings) (ws bytes : List ℕ) (area : ℕ) (p : List ℕ) �
 
 -- Writing
 
--- p is the list's payload: bytes, at most 2,036 of them, and it reads back to the list
+-- p is the list's payload, which no area changes: bytes, at most 2,036 of them, and it reads back to the list
 pub record PayloadOf (st : Settings) (ws bytes p : List ℕ) : Type 0 where
   pub canonical : encoded st bytes (rowsIn ws) ≡ bytesOf p
   pub made : Bytes p
@@ -47,7 +47,7 @@ pub data Answer (st : Settings) (ws bytes : List ℕ) (area : ℕ) : Type 0 wher
   unwritable : writing st ws bytes area ≡ noBytes Unwritable → Answer st ws bytes area
   too-short : writing st ws bytes area ≡ noBytes AreaTooShort → Answer st ws bytes area
 
--- one of them is given, and each exactly where it is due
+-- one of them is given, and each exactly where it is due; no two are, as `writing` is one value
 pub record Demand2 (st : Settings) (ws bytes : List ℕ) (area : ℕ) : Type 0 where
   pub answers : Answer st ws bytes area
   pub written-exactly : (p : List ℕ) → (writing st ws bytes area ≡ bytesOf p) ↔ (PayloadOf st ws bytes p × (length p ≤ area))
