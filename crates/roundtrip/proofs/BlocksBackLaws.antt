@@ -21,7 +21,7 @@ use Rattle.packet.proofs.AnswerLaws.{then-none}
 use Rattle.packet.proofs.BlockLaws.{block}
 use Rattle.encoder.specs.Lists.{outside, firstTime}
 use Rattle.sender.proofs.WordLaws.{outside-take, outside-drop}
-use Rattle.roundtrip.specs.Claims.{SameFrames}
+use Rattle.roundtrip.specs.ReadingBack.{SameFrames}
 use Rattle.roundtrip.proofs.PlanRowLaws.{Times}
 use Rattle.sender.specs.Parts.{maxOffset, maxBlock, Part}
 use Rattle.sender.specs.Packets.{blockHeaderBytes, headersBytes, blocksBytes}

@@ -13,7 +13,7 @@ use Rattle.payload.specs.Rows.{Row}
 use Rattle.formats.specs.Formats.{formatOf}
 use Rattle.encoder.specs.Plans.{headGap}
 use Rattle.encoder.specs.Bytes.{halves, firstByte, startBytes, gapBytes, entryBytes, tableBytes, frameIn, frames}
-use Rattle.roundtrip.specs.Claims.{Bytes}
+use Rattle.roundtrip.specs.ReadingBack.{Bytes}
 use Rattle.encoder.proofs.EntryLaws.{first-small}
 use Rattle.roundtrip.proofs.EntryBackLaws.{Run, small-gaps}
 use Rattle.roundtrip.proofs.TableBackLaws.{Runs}

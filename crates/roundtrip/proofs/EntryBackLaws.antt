@@ -53,13 +53,13 @@ module _ (format : ℕ) (more : Bool) (class n : ℕ) (h : codeFor format class 
 
 -- Gaps in half bytes
 
-half-later : (x : ℕ) (xs : List ℕ) (k : ℕ) → halfAt (x ∷ xs) (suc (suc k)) ≡ halfAt xs k
+pub half-later : (x : ℕ) (xs : List ℕ) (k : ℕ) → halfAt (x ∷ xs) (suc (suc k)) ≡ halfAt xs k
 half-later x xs k =
     let d : suc (suc k) / 2 ≡ suc (k / 2) = omega arith in
     let m : suc (suc k) % 2 ≡ k % 2 = omega arith in
     rw (d, m)
 
-half-back : (ns rest : List ℕ) (k : ℕ) → ((i : ℕ) → getD ns i 0 < 16) → k < length ns → halfAt (halves ns ++ rest) k ≡ getD ns k 0
+pub half-back : (ns rest : List ℕ) (k : ℕ) → ((i : ℕ) → getD ns i 0 < 16) → k < length ns → halfAt (halves ns ++ rest) k ≡ getD ns k 0
 unfolding halves
 half-back [] rest k h l = absurd (omega arith)
 half-back (a ∷ []) rest zero h l = omega arith
@@ -86,7 +86,7 @@ abbrev pub entryFor : ℕ → Bool → Group → Entry
 entryFor format more g = record { more = more; class = g .class; length = g .length; blocks = length (g .gaps); size = entrySize format (length (g .gaps)) }
 
 module _ (format : ℕ) (more : Bool) (g : Group) (rest : List ℕ) (r : Run format g) where
-  first-back : byteAt (entryBytes format more g ++ rest) 0 ≡ firstByte format more (g .class) (g .length)
+  pub first-back : byteAt (entryBytes format more g ++ rest) 0 ≡ firstByte format more (g .class) (g .length)
   unfolding entryBytes
   first-back = refl
 
@@ -94,7 +94,7 @@ module _ (format : ℕ) (more : Bool) (g : Group) (rest : List ℕ) (r : Run for
   unfolding entryBytes
   blocks-back = by-test (formatOf format .counted) (λ a. rw a) (λ a. rw a (sym (r .alone a)))
 
-  gaps-back : drop (minEntry format) (entryBytes format more g ++ rest) ≡ gapBytes format (g .gaps) ++ rest
+  pub gaps-back : drop (minEntry format) (entryBytes format more g ++ rest) ≡ gapBytes format (g .gaps) ++ rest
   unfolding entryBytes minEntry
   gaps-back = by-test (formatOf format .counted) (λ a. rw a) (λ a. rw a)
 

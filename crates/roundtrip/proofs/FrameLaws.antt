@@ -14,7 +14,7 @@ use Rattle.payload.specs.Rows.{Row}
 use Rattle.encoder.specs.Lists.{outside}
 use Rattle.encoder.specs.Bytes.{frameIn, frames}
 use Rattle.encoder.specs.Room.{lengthsIn}
-use Rattle.roundtrip.specs.Claims.{SameFrames}
+use Rattle.roundtrip.specs.ReadingBack.{SameFrames}
 use Rattle.roundtrip.proofs.TableBlockLaws.{Laid}
 
 -- a row but for its start

@@ -17,3 +17,6 @@ pub mod PayloadBackLaws
 pub mod PartLaws
 pub mod BlocksBackLaws
 pub mod PacketTheorem
+pub mod UnfoldingTheorems
+pub mod MeasureTheorem
+pub mod ZeroBitsTheorem

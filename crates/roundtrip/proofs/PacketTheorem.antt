@@ -22,7 +22,7 @@ use Rattle.encoder.proofs.ListLaws.{length-rows}
 use Rattle.roundtrip.proofs.PlanRowLaws.{Times}
 use Rattle.sender.specs.Parts.{maxRedundant, total, primaryTime, Part, Parts, noParts, partsOf, parts}
 use Rattle.sender.specs.Packets.{Heading, headerBytes, bodyBytes, packetType, redundancyMissing, assembledFrom, assembled, countsFit, sending}
-use Rattle.roundtrip.specs.Claims.{ReadsBack, PacketRoundTrip}
+use Rattle.roundtrip.specs.PacketClaims.{ReadsBack, PacketRoundTrip}
 use Rattle.rtp.proofs.RangeLaws.{Ranged, ranged}
 use Rattle.roundtrip.proofs.HeaderBackLaws.{headOf, header-back, payload-after}
 use Rattle.roundtrip.proofs.PayloadBackLaws.{Back, payload-back}

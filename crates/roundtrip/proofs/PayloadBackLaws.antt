@@ -20,7 +20,7 @@ use Rattle.encoder.specs.Writings.{bytesOf, plannedBytes, encoded}
 use Rattle.payload.proofs.EntryLaws.{size-some}
 use Rattle.encoder.proofs.EntryLaws.{length-table as length-table-bytes}
 use Rattle.encoder.proofs.FrameBytesLaws.{length-frames}
-use Rattle.roundtrip.specs.Claims.{SameFrames}
+use Rattle.roundtrip.specs.ReadingBack.{SameFrames}
 use Rattle.roundtrip.proofs.TableBackLaws.{Runs, table-back}
 use Rattle.roundtrip.proofs.TableBlockLaws.{blocksIn, table-blocks, Laid, laid-blocks}
 use Rattle.roundtrip.proofs.FrameLaws.{length-plains, laid-same}

@@ -1,16 +1,16 @@
--- Demand 2 of writing: what is written reads back, and 13 is given exactly where no payload reads to the list.
+-- Demand 2 of writing: what is written reads back, and each answer is given exactly where it is due.
 use mathlib.Core.Path.{_≡_, refl, ap, sym, _∙_, subst}
 use mathlib.Core.List.{List, [], _∷_, _++_, append-nil}
 use mathlib.Core.Bool.{true, false}
-use Prim.Native.Nat.{ℕ, suc, _+_, _≤_}
+use Prim.Native.Nat.{ℕ, suc, _+_, _≤_, _<_}
 use native.Mathlib.Omega.{arith}
 use lib.ListN.{length}
 use lib.Dec.{ltb, eqb}
-use borrow.Author.Tests.{eqb-true}
+use borrow.Author.Tests.{lt-ltb, le-ltb, ltb-true, ltb-false, eqb-true}
 use Rattle.rtp.specs.Sizes.{maxRows}
 use Rattle.rtp.specs.Ranges.{inRange}
 use Rattle.rtp.specs.declared.settings.Settings.{Settings}
-use Rattle.rtp.specs.declared.refusal.Refusal.the-variants.{Unwritable}
+use Rattle.rtp.specs.declared.refusal.Refusal.the-variants.{Unwritable, AreaTooShort}
 use Rattle.rtp.proofs.TestLaws.{by-test}
 use Rattle.formats.specs.Formats.{stepOf}
 use Rattle.payload.specs.Contents.{Group, Contents, refused, groups, contents, rowCount, sizeIn, framesIn, sizesAnswer}
@@ -25,7 +25,8 @@ use Rattle.encoder.specs.Writings.{noBytes, bytesOf, plannedBytes, encoded, roo
 use Rattle.encoder.proofs.ListLaws.{length-rows}
 use Rattle.encoder.proofs.PayloadLaws.{listed, length-bytes}
 use Rattle.encoder.proofs.WritingLaws.{in-range-some}
-use Rattle.roundtrip.specs.Claims.{Bytes, Words, SameFrames, ReadsTo, RoundTrip, Unreadable, Exactness}
+use Rattle.roundtrip.specs.ReadingBack.{Bytes, Words, SameFrames, ReadsTo}
+use Rattle.roundtrip.specs.PayloadClaims.{RoundTrip, PayloadOf, Longer, Unreadable, Answer, written, unwritable, too-short, Writing}
 use Rattle.roundtrip.proofs.ByteLaws.{bytes-append, bytes-table, bytes-frames}
 use Rattle.roundtrip.proofs.FrameLaws.{plains, same-plains}
 use Rattle.roundtrip.proofs.PlanRowLaws.{Times}
@@ -101,10 +102,12 @@ success st ws bytes area p h =
 pub round-trip : RoundTrip
 round-trip st ws bytes area p words h =
     let w = success st ws bytes area p h in
-    subst (λ (q : List ℕ). (length q ≤ maxPayload) × ReadsTo st q bytes ws) (w .same)
-    (written-length st ws bytes words (w .range) (w .inside) (w .table) (w .is), written-reads st ws bytes words (w .range) (w .inside) (w .table) (w .is) (w .all))
+    let l = written-length st ws bytes words (w .range) (w .inside) (w .table) (w .is) in (
+      omega (arith, ap (λ (q : List ℕ). length q) (w .same)),
+      subst (λ (q : List ℕ). ReadsTo st q bytes ws) (w .same) (written-reads st ws bytes words (w .range) (w .inside) (w .table) (w .is) (w .all)),
+    )
 
--- Exactness
+-- A payload that reads to a list
 
 -- the table of a payload that reads to rows
 record Parsed (format ch time : ℕ) (p : List ℕ) (rows : List Row) : Type 0 where
@@ -140,32 +143,114 @@ readable-plan st ws bytes p words range bs l r =
     table-plan (st .format) (st .channels) (0 + sizeIn (st .format) (k .table)) (rowsIn ws) (k .table) (in-range-some st range) (times ws words) (v .0) (v .1)
     (few-rows (st .format) (st .channels) p (k .table) (k .is)) (omega (arith, k .size)) (sym (same-plains p bytes (r .rows) (rowsIn ws) (r .same)) ∙ ap plains (sym (k .same)))
 
-module _ (st : Settings) (ws bytes : List ℕ) (area : ℕ) (words : Words ws) (range : inRange st ≡ true) (inside : outside (length bytes) (rowsIn ws) ≡ false) where
-  -- where there is a plan, 13 is not given
-  plan-written : Plan (st .format) (st .channels) (rowsIn ws) → whole ws ≡ true → writing st ws bytes area ≡ noBytes Unwritable → ⊥
-  unfolding writing encoded
-  plan-written k w h =
-      let q = tableBytes (st .format) (k .table) ++ frames bytes (rowsIn ws) in
-      let e : roomFor area (bytesOf q) ≡ noBytes Unwritable = rw (range, inside, w, k .is) at h in
-      by-test (ltb area (length q))
-      (λ t. let y = rw t at e in let z : _≡_ {A = ℕ} 0 1 = cc in absurd (omega arith))
-      (λ t. let y = rw t at e in let z : _≡_ {A = ℕ} 0 1 = cc in absurd (omega arith))
+-- Writing
 
-  -- where there is none, it is
-  unplanned : Bytes bytes → Unreadable st ws bytes → writing st ws bytes area ≡ noBytes Unwritable
-  unfolding writing encoded
-  unplanned bs u =
-      by-test (whole ws)
-      (λ w. rw (range, inside, w) (go w (plan (st .format) (st .channels) (rowsIn ws)) refl (only-plan (st .format) (st .channels) (rowsIn ws))))
-      (λ w. rw (range, inside, w))
+-- room for a payload
+
+no-room : (area : ℕ) (p : List ℕ) → area < length p → roomFor area (bytesOf p) ≡ noBytes AreaTooShort
+no-room area p l = rw (lt-ltb area (length p) l)
+
+some-room : (area : ℕ) (p : List ℕ) → length p ≤ area → roomFor area (bytesOf p) ≡ bytesOf p
+some-room area p l = rw (le-ltb area (length p) l)
+
+data Room (area : ℕ) (p : List ℕ) : Type 0 where
+  lacking : area < length p → roomFor area (bytesOf p) ≡ noBytes AreaTooShort → Room area p
+  there : length p ≤ area → roomFor area (bytesOf p) ≡ bytesOf p → Room area p
+
+room : (area : ℕ) (p : List ℕ) → Room area p
+room area p =
+    by-test (ltb area (length p))
+    (λ t. let l = ltb-true area (length p) t in lacking l (no-room area p l))
+    (λ t. let l = ltb-false area (length p) t in there l (some-room area p l))
+
+-- a list has a payload, or writing it is 13
+data Due (st : Settings) (ws bytes : List ℕ) (area : ℕ) : Type 0 where
+  none : writing st ws bytes area ≡ noBytes Unwritable → Due st ws bytes area
+  some : (p : List ℕ) → PayloadOf st ws bytes p → writing st ws bytes area ≡ roomFor area (bytesOf p) → Due st ws bytes area
+
+module _ (st : Settings) (ws bytes : List ℕ) (area : ℕ) (words : Words ws) (bs : Bytes bytes) (range : inRange st ≡ true) (inside : outside (length bytes) (rowsIn ws) ≡ false) where
+  writing-room : whole ws ≡ true → writing st ws bytes area ≡ roomFor area (encoded st bytes (rowsIn ws))
+  unfolding writing
+  writing-room w = rw (range, inside, w)
+
+  writing-cut : whole ws ≡ false → writing st ws bytes area ≡ noBytes Unwritable
+  unfolding writing
+  writing-cut w = rw (range, inside, w)
+
+  planned-encoded : (x : Contents) → plan (st .format) (st .channels) (rowsIn ws) ≡ x → encoded st bytes (rowsIn ws) ≡ plannedBytes (st .format) bytes (rowsIn ws) x
+  unfolding encoded
+  planned-encoded x e = ap (plannedBytes (st .format) bytes (rowsIn ws)) e
+
+  due : Due st ws bytes area
+  due = by-test (whole ws) (λ w. go w (plan (st .format) (st .channels) (rowsIn ws)) refl (only-plan (st .format) (st .channels) (rowsIn ws))) (λ w. none (writing-cut w))
     where
-      go : whole ws ≡ true → (x : Contents) → plan (st .format) (st .channels) (rowsIn ws) ≡ x → Only (plan (st .format) (st .channels) (rowsIn ws))
-          → roomFor area (plannedBytes (st .format) bytes (rowsIn ws) x) ≡ noBytes Unwritable
-      go w (refused q) e o = ap noBytes (subst Only e o)
+      go : whole ws ≡ true → (x : Contents) → plan (st .format) (st .channels) (rowsIn ws) ≡ x → Only (plan (st .format) (st .channels) (rowsIn ws)) → Due st ws bytes area
+      go w (refused q) e o = none (writing-room w ∙ ap (roomFor area) (planned-encoded (refused q) e) ∙ ap noBytes (subst Only e o))
       go w (groups gs) e o =
-          absurd (u (tableBytes (st .format) gs ++ frames bytes (rowsIn ws)) (written-bytes st ws bytes words range inside gs e bs)
-          (written-length st ws bytes words range inside gs e) (written-reads st ws bytes words range inside gs e w))
+          some (tableBytes (st .format) gs ++ frames bytes (rowsIn ws)) (record {
+            canonical = planned-encoded (groups gs) e;
+            made = written-bytes st ws bytes words range inside gs e bs;
+            short = written-length st ws bytes words range inside gs e;
+            reads = written-reads st ws bytes words range inside gs e w;
+          }) (writing-room w ∙ ap (roomFor area) (planned-encoded (groups gs) e))
 
-pub exactness : Exactness
-exactness st ws bytes area words bs range inside =
-    (λ h p ps l r. plan-written st ws bytes area words range inside (readable-plan st ws bytes p words range ps l r) (r .whole-rows) h, unplanned st ws bytes area words range inside bs)
+  -- one of the three
+  answer : Due st ws bytes area → Answer st ws bytes area
+  answer (none h) = unwritable h
+  answer (some p k h) = by-room (room area p)
+    where
+      by-room : Room area p → Answer st ws bytes area
+      by-room (lacking l e) = too-short (h ∙ e)
+      by-room (there l e) = written p (h ∙ e)
+
+  -- the payload, where there is room for it
+  to-payload : (p : List ℕ) → Due st ws bytes area → writing st ws bytes area ≡ bytesOf p → PayloadOf st ws bytes p × (length p ≤ area)
+  to-payload p (none h) e = let k : noBytes Unwritable ≡ bytesOf p = sym h ∙ e in let z : _≡_ {A = ℕ} 0 1 = cc in absurd (omega arith)
+  to-payload p (some q k h) e = by-room (room area q)
+    where
+      by-room : Room area q → PayloadOf st ws bytes p × (length p ≤ area)
+      by-room (lacking l r) = let y : noBytes AreaTooShort ≡ bytesOf p = sym r ∙ sym h ∙ e in let z : _≡_ {A = ℕ} 0 1 = cc in absurd (omega arith)
+      by-room (there l r) =
+          let y : bytesOf q ≡ bytesOf p = sym r ∙ sym h ∙ e in
+          let same : q ≡ p = cc in
+          subst (λ (t : List ℕ). PayloadOf st ws bytes t × (length t ≤ area)) same (k, l)
+
+  from-payload : (p : List ℕ) → PayloadOf st ws bytes p × (length p ≤ area) → writing st ws bytes area ≡ bytesOf p
+  from-payload p h = writing-room (h .0 .reads .whole-rows) ∙ ap (roomFor area) (h .0 .canonical) ∙ some-room area p (h .1)
+
+  -- 13, where no bytes read to the list
+  to-unreadable : writing st ws bytes area ≡ noBytes Unwritable → Unreadable st ws bytes
+  to-unreadable h p ps l r =
+      let k = readable-plan st ws bytes p words range ps (omega (arith, l)) r in
+      let q = tableBytes (st .format) (k .table) ++ frames bytes (rowsIn ws) in
+      by-room q (sym h ∙ writing-room (r .whole-rows) ∙ ap (roomFor area) (planned-encoded (groups (k .table)) (k .is))) (room area q)
+    where
+      by-room : (q : List ℕ) → noBytes Unwritable ≡ roomFor area (bytesOf q) → Room area q → ⊥
+      by-room q e (lacking l r) = let y : noBytes Unwritable ≡ noBytes AreaTooShort = e ∙ r in let z : _≡_ {A = ℕ} 0 1 = cc in absurd (omega arith)
+      by-room q e (there l r) = let y : noBytes Unwritable ≡ bytesOf q = e ∙ r in let z : _≡_ {A = ℕ} 0 1 = cc in absurd (omega arith)
+
+  from-unreadable : Due st ws bytes area → Unreadable st ws bytes → writing st ws bytes area ≡ noBytes Unwritable
+  from-unreadable (none h) u = h
+  from-unreadable (some p k h) u = absurd (u p (k .made) (omega (arith, k .short)) (k .reads))
+
+  -- 12, where the area is shorter than the payload
+  to-longer : Due st ws bytes area → writing st ws bytes area ≡ noBytes AreaTooShort → Longer st ws bytes area
+  to-longer (none h) e = let k : noBytes Unwritable ≡ noBytes AreaTooShort = sym h ∙ e in let z : _≡_ {A = ℕ} 0 1 = cc in absurd (omega arith)
+  to-longer (some p k h) e = by-room (room area p)
+    where
+      by-room : Room area p → Longer st ws bytes area
+      by-room (lacking l r) = record { payload = p; of-list = k; longer = omega (arith, l) }
+      by-room (there l r) = let y : bytesOf p ≡ noBytes AreaTooShort = sym r ∙ sym h ∙ e in let z : _≡_ {A = ℕ} 0 1 = cc in absurd (omega arith)
+
+  from-longer : Longer st ws bytes area → writing st ws bytes area ≡ noBytes AreaTooShort
+  from-longer h = writing-room (h .of-list .reads .whole-rows) ∙ ap (roomFor area) (h .of-list .canonical) ∙ no-room area (h .payload) (omega (arith, h .longer))
+
+pub demand-2 : Writing
+demand-2 st ws bytes area words bs range inside =
+    let d = due st ws bytes area words bs range inside in
+    record {
+      answers = answer st ws bytes area words bs range inside d;
+      written-exactly = λ p. (to-payload st ws bytes area words bs range inside p d, from-payload st ws bytes area words bs range inside p);
+      unwritable-exactly = (to-unreadable st ws bytes area words bs range inside, from-unreadable st ws bytes area words bs range inside d);
+      too-short-exactly = (to-longer st ws bytes area words bs range inside d, from-longer st ws bytes area words bs range inside);
+    }

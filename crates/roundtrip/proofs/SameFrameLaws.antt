@@ -13,7 +13,7 @@ use Rattle.rtp.proofs.AreaLaws.{part-size}
 use Rattle.payload.specs.Rows.{Row}
 use Rattle.encoder.specs.Lists.{outside}
 use Rattle.encoder.specs.Bytes.{frameIn}
-use Rattle.roundtrip.specs.Claims.{SameFrames}
+use Rattle.roundtrip.specs.ReadingBack.{SameFrames}
 
 pub same-length : (p bytes : List ℕ) (qs rs : List Row) → SameFrames p bytes qs rs → length qs ≡ length rs
 same-length p bytes [] [] h = refl

@@ -1,0 +1,110 @@
+-- In the payload of a list reserved and padding bits, and every DIS1, are 0.
+use mathlib.Core.Path.{_≡_, refl, ap, sym, _∙_, subst}
+use mathlib.Core.List.{List, [], _∷_, _++_, append-assoc}
+use mathlib.Core.Bool.{Bool, true, false}
+use Prim.Native.Nat.{ℕ, _+_, _*_, _%_, _≤_}
+use native.Mathlib.Omega.{arith}
+use lib.ListN.{length, drop}
+use lib.Seq.{drop-drop, drop-at}
+use Rattle.rtp.specs.Numbers.{byteAt}
+use Rattle.rtp.specs.declared.settings.Settings.{Settings}
+use Rattle.formats.specs.Formats.{formatOf}
+use Rattle.formats.specs.Codes.{codeFor}
+use Rattle.formats.proofs.FormatLaws.{each}
+use Rattle.payload.specs.Contents.{minEntry, entrySize, Group, Contents, refused, groups, halfAt, contents, sizeIn}
+use Rattle.payload.specs.Rows.{Row}
+use Rattle.encoder.specs.Lists.{rowsIn}
+use Rattle.encoder.specs.Plans.{headGap, plan}
+use Rattle.encoder.specs.Bytes.{halves, flag, firstByte, entryBytes, tableBytes, frames}
+use Rattle.encoder.specs.Writings.{bytesOf, plannedBytes, encoded}
+use Rattle.encoder.proofs.EntryLaws.{length-entry}
+use Rattle.encoder.proofs.WritingLaws.{in-range-some}
+use Rattle.roundtrip.specs.PayloadClaims.{Zeros, ZeroBits}
+use Rattle.roundtrip.proofs.EntryBackLaws.{Run, half-later, half-back, first-back, gaps-back, small-gaps}
+use Rattle.roundtrip.proofs.TableBackLaws.{Runs, table-back}
+use Rattle.roundtrip.proofs.PlanTableLaws.{Tabled, plan-table}
+use Rattle.roundtrip.proofs.PayloadTheorems.{times}
+
+-- past the first entry of a table that goes on
+past-entry : (format : ℕ) (b : Group) (before gs : List Group) (rest : List ℕ) → 1 ≤ length gs
+    → drop (entrySize format (length (b .gaps)) + sizeIn format before) (tableBytes format (b ∷ gs) ++ rest) ≡ drop (sizeIn format before) (tableBytes format gs ++ rest)
+unfolding tableBytes
+past-entry format b before [] rest l = absurd (omega arith)
+past-entry format b before (g ∷ gs) rest l =
+    let n = entrySize format (length (b .gaps)) in
+    let s = tableBytes format (g ∷ gs) ++ rest in
+    sym (drop-drop (sizeIn format before) n ((entryBytes format true b ++ tableBytes format (g ∷ gs)) ++ rest))
+    ∙ ap (drop (sizeIn format before)) (ap (drop n) (append-assoc (entryBytes format true b) (tableBytes format (g ∷ gs)) rest) ∙ drop-at (entryBytes format true b) s n (length-entry format true b))
+
+-- One entry
+
+reserved-zero : (more : Bool) (format code : ℕ) → (flag more + formatOf format .unit * code) % formatOf format .unit ≡ 0
+reserved-zero true format code = each (λ f. (128 + f .unit * code) % f .unit ≡ 0) (λ b. omega arith) (omega arith) (omega arith) format
+reserved-zero false format code = each (λ f. (0 + f .unit * code) % f .unit ≡ 0) (λ b. omega arith) (omega arith) (omega arith) format
+
+padding-zero : (ns rest : List ℕ) → length ns % 2 ≡ 1 → halfAt (halves ns ++ rest) (length ns) ≡ 0
+unfolding halves
+padding-zero [] rest h = absurd (omega arith)
+padding-zero (a ∷ []) rest h = omega arith
+padding-zero (a ∷ b ∷ ns) rest h = half-later (16 * a + b) (halves ns ++ rest) (length ns) ∙ padding-zero ns rest (omega arith)
+
+module _ (format : ℕ) (more : Bool) (g : Group) (rest : List ℕ) (r : Run format g) (f : headGap g ≡ 0) where
+  first-reserved : byteAt (entryBytes format more g ++ rest) 0 % formatOf format .unit ≡ 0
+  unfolding firstByte
+  first-reserved = rw (first-back format more g rest r) (reserved-zero more format (codeFor format (g .class) (g .length)))
+
+  displacements : formatOf format .displaced ≡ true → drop (minEntry format) (entryBytes format more g ++ rest) ≡ halves (g .gaps) ++ rest
+  displacements d = rw d at (gaps-back format more g rest r)
+
+  entry-zeros : Zeros format (length (g .gaps)) (entryBytes format more g ++ rest)
+  entry-zeros = record {
+    reserved = first-reserved;
+    first = λ d. ap (λ (s : List ℕ). halfAt s 0) (displacements d) ∙ half-back (g .gaps) rest 0 (small-gaps format more g rest r f) (omega (arith, r .some)) ∙ f;
+    padding = λ d o. ap (λ (s : List ℕ). halfAt s (length (g .gaps))) (displacements d) ∙ padding-zero (g .gaps) rest (omega (arith, o));
+  }
+
+-- The entry g of a table
+
+table-zeros : (format : ℕ) (before : List Group) (g : Group) (after : List Group) (rest : List ℕ) → Runs format (before ++ g ∷ after)
+    → Zeros format (length (g .gaps)) (drop (sizeIn format before) (tableBytes format (before ++ g ∷ after) ++ rest))
+unfolding sizeIn tableBytes
+table-zeros format [] g [] rest v = entry-zeros format false g rest (v .0) (v .1)
+table-zeros format [] g (h ∷ hs) rest v =
+    rw append-assoc (entry-zeros format true g (tableBytes format (h ∷ hs) ++ rest) (v .0) (v .1))
+table-zeros format (b ∷ []) g after rest v =
+    subst (Zeros format (length (g .gaps))) (sym (past-entry format b [] (g ∷ after) rest (omega arith))) (table-zeros format [] g after rest (v .2))
+table-zeros format (b ∷ c ∷ before) g after rest v =
+    subst (Zeros format (length (g .gaps))) (sym (past-entry format b (c ∷ before) (c ∷ before ++ g ∷ after) rest (omega arith))) (table-zeros format (c ∷ before) g after rest (v .2))
+
+-- what stands behind the payload of a list
+record Planned (st : Settings) (bytes : List ℕ) (rs : List Row) (p : List ℕ) : Type 0 where
+  table : List Group
+  is : plan (st .format) (st .channels) rs ≡ groups table
+  same : tableBytes (st .format) table ++ frames bytes rs ≡ p
+
+planned : (st : Settings) (bytes : List ℕ) (rs : List Row) (p : List ℕ) → encoded st bytes rs ≡ bytesOf p → Planned st bytes rs p
+unfolding encoded
+planned st bytes rs p h = go (plan (st .format) (st .channels) rs) refl h
+  where
+    go : (x : Contents) → plan (st .format) (st .channels) rs ≡ x → plannedBytes (st .format) bytes rs x ≡ bytesOf p → Planned st bytes rs p
+    go (refused q) e k = let z : _≡_ {A = ℕ} 0 1 = cc in absurd (omega arith)
+    go (groups gs) e k = let y : tableBytes (st .format) gs ++ frames bytes rs ≡ p = cc in record { table = gs; is = e; same = y }
+
+-- a table as it is read is the table written
+table-same : (format ch : ℕ) (rs : List Row) (gs hs : List Group) (rest : List ℕ) → Tabled format ch rs gs
+    → contents format ch 0 (tableBytes format gs ++ rest) ≡ groups hs → gs ≡ hs
+table-same format ch rs [] hs rest v h = absurd (omega (arith, v .some))
+table-same format ch rs (g ∷ gs) hs rest v h =
+    let e : groups (g ∷ gs) ≡ groups hs = sym (table-back format ch 0 g gs rest (v .runs) (omega (arith, v .few))) ∙ h in
+    cc
+
+pub zero-bits : ZeroBits
+zero-bits st ws bytes p words range h before g after k =
+    let w = planned st bytes (rowsIn ws) p h in
+    let v = plan-table (st .format) (st .channels) (rowsIn ws) (w .table) (in-range-some st range) (times ws words) (w .is) in
+    let rest = frames bytes (rowsIn ws) in
+    let e = table-same (st .format) (st .channels) (rowsIn ws) (w .table) (before ++ g ∷ after) rest v
+    (ap (contents (st .format) (st .channels) 0) (w .same) ∙ k) in
+    subst (λ (q : List ℕ). Zeros (st .format) (length (g .gaps)) (drop (sizeIn (st .format) before) q))
+    (ap (λ (gs : List Group). tableBytes (st .format) gs ++ rest) (sym e) ∙ w .same)
+    (table-zeros (st .format) before g after rest (subst (Runs (st .format)) e (v .runs)))

@@ -1,0 +1,31 @@
+-- Demand 2 of packets, as a claim: a packet that is written reads back.
+use Prim.Native.Nat.{ℕ, _/_, _≤_, _<_, _^_}
+use mathlib.Core.Path.{_≡_}
+use mathlib.Core.List.{List}
+use Rattle.rtp.specs.Sizes.{rowArea}
+use Rattle.rtp.specs.declared.settings.Settings.{Settings}
+use Rattle.rtp.specs.declared.header.Header.{Header}
+use Rattle.payload.specs.Rows.{Row}
+use Rattle.packet.specs.Readings.{readAs, reading}
+use Rattle.encoder.specs.Lists.{rowsIn}
+use Rattle.encoder.specs.Writings.{bytesOf}
+use Rattle.sender.specs.Parts.{primaryTime}
+use Rattle.sender.specs.Packets.{Heading, markerBit, sending}
+use Rattle.roundtrip.specs.ReadingBack.{Words, SameFrames}
+
+-- reading the packet p gives the lists' rows in order, starts aside, and the marker, sequence, timestamp and source given
+pub record ReadsBack (st : Settings) (h : Heading) (counts ws bytes p : List ℕ) (area : ℕ) : Type 0 where
+  pub head : Header
+  pub rows : List Row
+  pub read : reading st area p ≡ readAs head rows
+  pub same : SameFrames p bytes rows (rowsIn ws)
+  pub marker : head .marker ≡ markerBit (h .marker) / 128
+  pub sequence : head .sequence ≡ h .sequence
+  pub timestamp : head .timestamp ≡ primaryTime counts (rowsIn ws)
+  pub source : head .source ≡ h .source
+
+-- Round trip of packets, under the same settings, into any row area of 512 words or more
+abbrev pub PacketRoundTrip : Type 0
+PacketRoundTrip = (st : Settings) (h : Heading) (counts ws bytes : List ℕ) (area rows : ℕ) (p : List ℕ)
+    → Words ws → h .sequence < 2 ^ 16 → h .source < 2 ^ 32 → rowArea ≤ rows
+    → sending st h counts ws bytes area ≡ bytesOf p → ReadsBack st h counts ws bytes p rows

@@ -1,0 +1,90 @@
+-- Demand 2 of writing, as claims: "Writing a frame list gives a plain payload that reads back to it, and is refused exactly if no plain payload
+-- within 2,036 bytes does, or the lent area is too short."
+use Prim.Native.Nat.{ℕ, _%_, _≤_, _<_}
+use mathlib.Core.Path.{_≡_}
+use mathlib.Core.Logic.{_↔_}
+use mathlib.Core.List.{List, _∷_, _++_}
+use mathlib.Core.Bool.{true, false}
+use lib.ListN.{length, drop}
+use Rattle.rtp.specs.Numbers.{byteAt}
+use Rattle.rtp.specs.Ranges.{inRange}
+use Rattle.rtp.specs.declared.settings.Settings.{Settings}
+use Rattle.rtp.specs.declared.refusal.Refusal.the-variants.{Unwritable, AreaTooShort}
+use Rattle.formats.specs.Formats.{formatOf}
+use Rattle.payload.specs.Contents.{minEntry, Group, groups, halfAt, contents, sizeIn}
+use Rattle.encoder.specs.Lists.{rowsIn, outside}
+use Rattle.encoder.specs.Plans.{maxPayload}
+use Rattle.encoder.specs.Writings.{noBytes, bytesOf, encoded, writing, encodedNumbers, measured}
+use Rattle.roundtrip.specs.ReadingBack.{Bytes, Words, ReadsTo}
+
+-- Round trip: whatever is written is a payload of at most 2,036 bytes that reads back to the list
+abbrev pub RoundTrip : Type 0
+RoundTrip = (st : Settings) (ws bytes : List ℕ) (area : ℕ) (p : List ℕ) → Words ws
+    → writing st ws bytes area ≡ bytesOf p → (length p ≤ maxPayload) × ReadsTo st p bytes ws
+
+-- Writing
+
+-- p is the list's payload, which no area changes: bytes, at most 2,036 of them, and it reads back to the list
+pub record PayloadOf (st : Settings) (ws bytes p : List ℕ) : Type 0 where
+  pub canonical : encoded st bytes (rowsIn ws) ≡ bytesOf p
+  pub made : Bytes p
+  pub short : length p ≤ maxPayload
+  pub reads : ReadsTo st p bytes ws
+
+-- the list has a payload, and the area is shorter
+pub record Longer (st : Settings) (ws bytes : List ℕ) (area : ℕ) : Type 0 where
+  pub payload : List ℕ
+  pub of-list : PayloadOf st ws bytes payload
+  pub longer : area < length payload
+
+-- no bytes of at most 2,036 are a plain payload that reads to the list
+abbrev pub Unreadable : Settings → List ℕ → List ℕ → Type 0
+Unreadable st ws bytes = (p : List ℕ) → Bytes p → length p ≤ maxPayload → ReadsTo st p bytes ws → ⊥
+
+-- the three answers: the payload, 13 and 12
+pub data Answer (st : Settings) (ws bytes : List ℕ) (area : ℕ) : Type 0 where
+  written : (p : List ℕ) → writing st ws bytes area ≡ bytesOf p → Answer st ws bytes area
+  unwritable : writing st ws bytes area ≡ noBytes Unwritable → Answer st ws bytes area
+  too-short : writing st ws bytes area ≡ noBytes AreaTooShort → Answer st ws bytes area
+
+-- one of them is given, and each exactly where it is due; no two are, as `writing` is one value
+pub record Demand2 (st : Settings) (ws bytes : List ℕ) (area : ℕ) : Type 0 where
+  pub answers : Answer st ws bytes area
+  pub written-exactly : (p : List ℕ) → (writing st ws bytes area ≡ bytesOf p) ↔ (PayloadOf st ws bytes p × (length p ≤ area))
+  pub unwritable-exactly : (writing st ws bytes area ≡ noBytes Unwritable) ↔ Unreadable st ws bytes
+  pub too-short-exactly : (writing st ws bytes area ≡ noBytes AreaTooShort) ↔ Longer st ws bytes area
+
+-- Writing: under settings in range and with every row inside its bytes (else it is 11 or 14, by the definition of `writing`)
+abbrev pub Writing : Type 0
+Writing = (st : Settings) (ws bytes : List ℕ) (area : ℕ) → Words ws → Bytes bytes → inRange st ≡ true → outside (length bytes) (rowsIn ws) ≡ false
+    → Demand2 st ws bytes area
+
+-- Measuring
+
+-- measuring answers what writing does where the area is no shorter than the count measured, and writing gives 12 exactly where it is
+pub record Measures (st : Settings) (ws bytes : List ℕ) (area : ℕ) : Type 0 where
+  pub enough : measured st ws .count ≤ area → encodedNumbers (writing st ws bytes area) ≡ measured st ws
+  pub too-short : (writing st ws bytes area ≡ noBytes AreaTooShort) ↔ (area < measured st ws .count)
+
+-- whatever the settings; that every row lies inside its bytes is not asked by measuring
+abbrev pub Measuring : Type 0
+Measuring = (st : Settings) (ws bytes : List ℕ) (area : ℕ) → outside (length bytes) (rowsIn ws) ≡ false → Measures st ws bytes area
+
+-- Bits that are 0
+
+-- the first displacement, DIS1, of the entry at the front of s: the high half of the byte after the entry's code and count
+abbrev pub firstDisplacement : ℕ → List ℕ → ℕ
+firstDisplacement format s = halfAt (drop (minEntry format) s) 0
+
+-- the entry of n frame-blocks at the front of s: reserved bits are 0, and with displacements DIS1 and the padding bits after an odd number of them
+pub record Zeros (format n : ℕ) (s : List ℕ) : Type 0 where
+  pub reserved : byteAt s 0 % formatOf format .unit ≡ 0
+  pub first : formatOf format .displaced ≡ true → firstDisplacement format s ≡ 0
+  pub padding : formatOf format .displaced ≡ true → n % 2 ≡ 1 → halfAt (drop (minEntry format) s) n ≡ 0
+
+-- in the payload of a list, which `write_payload` gives alone and `write_packet` as a block, these bits are 0 in each entry g of the table as it is read,
+-- whatever the entries before and after it
+abbrev pub ZeroBits : Type 0
+ZeroBits = (st : Settings) (ws bytes p : List ℕ) → Words ws → inRange st ≡ true → encoded st bytes (rowsIn ws) ≡ bytesOf p
+    → (before : List Group) (g : Group) (after : List Group) → contents (st .format) (st .channels) 0 p ≡ groups (before ++ g ∷ after)
+    → Zeros (st .format) (length (g .gaps)) (drop (sizeIn (st .format) before) p)

@@ -1,0 +1,41 @@
+-- What it is to read back to a frame list.
+use Prim.Native.Nat.{ℕ, _<_, _^_}
+use mathlib.Core.Path.{_≡_}
+use mathlib.Core.List.{List, [], _∷_}
+use mathlib.Core.Bool.{true}
+use lib.ListN.{getD}
+use Rattle.rtp.specs.declared.settings.Settings.{Settings}
+use Rattle.payload.specs.Rows.{Row}
+use Rattle.payload.specs.Payloads.{rowsOf, payloadRows}
+use Rattle.encoder.specs.Lists.{rowsIn, firstTime, whole}
+use Rattle.encoder.specs.Bytes.{frameIn}
+
+-- each element is a byte
+abbrev pub Bytes : List ℕ → Type 0
+Bytes s = (i : ℕ) → getD s i 0 < 256
+
+-- each element is a 32-bit word
+abbrev pub Words : List ℕ → Type 0
+Words ws = (i : ℕ) → getD ws i 0 < 2 ^ 32
+
+-- a row q of the payload p is the row r of the list: the same time, class, channel, length and frame bytes; starts may differ
+pub record SameFrame (p bytes : List ℕ) (q r : Row) : Type 0 where
+  pub time : q .time ≡ r .time
+  pub class : q .class ≡ r .class
+  pub channel : q .channel ≡ r .channel
+  pub length : q .length ≡ r .length
+  pub frame : frameIn p q ≡ frameIn bytes r
+
+-- row by row
+abbrev pub SameFrames : List ℕ → List ℕ → List Row → List Row → Type 0
+SameFrames p bytes [] [] = Unit {0}
+SameFrames p bytes [] (r ∷ rs) = ⊥
+SameFrames p bytes (q ∷ qs) [] = ⊥
+SameFrames p bytes (q ∷ qs) (r ∷ rs) = SameFrame p bytes q r × SameFrames p bytes qs rs
+
+-- p is a plain payload that reads to the frame list in the words ws
+pub record ReadsTo (st : Settings) (p bytes ws : List ℕ) : Type 0 where
+  pub whole-rows : whole ws ≡ true
+  pub rows : List Row
+  pub read : payloadRows (st .format) (st .channels) 0 (firstTime (rowsIn ws)) 0 p ≡ rowsOf rows
+  pub same : SameFrames p bytes rows (rowsIn ws)
