@@ -7,3 +7,7 @@ pub mod PremiseTheorem
 pub mod CountTheorem
 pub mod WellFormedTheorem
 pub mod CheckedTableProof
+pub mod MarkLaws
+pub mod WellFormedFactsTheorem
+pub mod KeptTheorem
+pub mod VerdictTheorem

@@ -1,3 +1,5 @@
 pub mod Runs
 pub mod Claims
+pub mod WellFormedClaims
+pub mod VerdictClaims
 pub mod CheckedTable
