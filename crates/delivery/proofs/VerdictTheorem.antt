@@ -8,22 +8,20 @@ use mathlib.Core.Option.{Option, some, Option·none-ne-some as none≢some, Opti
 use native.Mathlib.Omega.{arith}
 use borrow.Author.Tests.{eq-eqb, ne-eqb, eqb-true}
 use lib.Dec.{eqb}
+use Rattle.rtp.specs.declared.settings.Settings.{Settings}
+use Rattle.rtp.proofs.RangeLaws.{few-channels}
 use Rattle.rtp.proofs.TestLaws.{by-test, not-both}
 use Rattle.playout.specs.Pairs.{half, ahead, after, order}
 use Rattle.playout.specs.Copies.{Copy}
-use Rattle.playout.specs.Entries.{Entry, entryOf, sideOfEntry, findAt, findBy}
+use Rattle.playout.specs.Entries.{Entry, Held, entryOf, sideOfEntry, findAt, findBy}
 use Rattle.playout.specs.Verdicts.{fits, isFar}
 use Rattle.playout.proofs.InsertionLaws.{Cmp, cmp, compare-is, Asc, find-mem}
 use Rattle.playout.proofs.WrapLaws.{Near, place, order-place, order-after}
 use Rattle.playout.proofs.HeldLaws.{Sorted, rising-sorted, entryPlace, fits-base}
 use Rattle.playout.proofs.PlayoutLaws.{fits-stretch}
-use Rattle.reorder.specs.declared.buffer.Buffer.{Buffer}
-use Rattle.reorder.specs.Arrays.{Machine}
-use Rattle.reorder.specs.Layout.{decode}
-use Rattle.reorder.specs.WellFormed.{wellFormed}
-use Rattle.reorder.proofs.WellFormedLaws.{facts, times-word}
-use Rattle.delivery.specs.VerdictClaims.{StretchWith, FarExactly, OfPair, HeldExactly}
-use Rattle.delivery.proofs.WellFormedFactsTheorem.{drawn-flag, first-stretch}
+use Rattle.reorder.proofs.ModelLaws.{Facts, fine-exactly}
+use Rattle.delivery.specs.VerdictClaims.{StretchWith, Holds, FarExactly, OfPair, HeldExactly}
+use Rattle.delivery.proofs.WellFormedFactsTheorem.{to-stretch}
 
 -- Held
 
@@ -70,54 +68,52 @@ find-member b lb (x ∷ es) near asc e u (there m) =
     let o : sideOfEntry e x ≡ Ordering·gt = order-after b lb u (near x (here refl)) (asc .0 e m) in
     rw o (find-member b lb es (λ y n. near y (there n)) (asc .1) e u m)
 
-module _ (b : Buffer) (m : Machine b) (w : wellFormed b ≡ true) where
-  abbrev es : List Entry
-  es = decode b .entries
+module _ (st : Settings) (h : Held) (H : Holds st h) where
+  held-facts : Facts st h
+  held-facts = fine-exactly st h (omega (arith, few-channels st (H .range))) .0 (H .well-formed)
 
   -- sorted from every time that the entries are less than half the range ahead of
-  sorted : (base : ℕ) → base < 2 ^ 32 → ((e : Entry) → List·Memᴰ e es → ahead (e .time) base < half) → Sorted base es
+  sorted : (base : ℕ) → base < 2 ^ 32 → ((e : Entry) → List·Memᴰ e (h .entries) → ahead (e .time) base < half) → Sorted base (h .entries)
   sorted base lb near =
-      rising-sorted base lb es (λ e i. record { word = times-word b m w e i; octet = facts b m w .each e i .octet; near = near e i }) (facts b m w .rising)
+      rising-sorted base lb (h .entries) (λ e i. record { word = H .words e i; octet = held-facts .each e i .octet; near = near e i }) (held-facts .rising)
 
-  pub held-exactly : (c : Copy) (e : Entry) → (findBy (sideOfEntry (entryOf c 0)) es ≡ some e → List·Memᴰ e es × OfPair c e)
-      × (List·Memᴰ e es × OfPair c e → findBy (sideOfEntry (entryOf c 0)) es ≡ some e)
-  unfolding entryOf
-  held-exactly c e = (
-    λ q.
-        let o = order-same (c .time) (c .channel) (e .time) (e .channel) (find-same (sideOfEntry (entryOf c 0)) es e q) in
-        (find-mem (sideOfEntry (entryOf c 0)) es e q, (sym (o .0), sym (o .1))),
-    λ p.
-        let s = first-stretch b m w in
+  module _ (c : Copy) (e : Entry) where
+    found : findBy (sideOfEntry (entryOf c 0)) (h .entries) ≡ some e → List·Memᴰ e (h .entries) × OfPair c e
+    unfolding entryOf
+    found q =
+        let o = order-same (c .time) (c .channel) (e .time) (e .channel) (find-same (sideOfEntry (entryOf c 0)) (h .entries) e q) in
+        (find-mem (sideOfEntry (entryOf c 0)) (h .entries) e q, (sym (o .0), sym (o .1)))
+
+    finds : List·Memᴰ e (h .entries) × OfPair c e → findBy (sideOfEntry (entryOf c 0)) (h .entries) ≡ some e
+    unfolding entryOf
+    finds p =
+        let s = to-stretch (h .entries) (H .words) (held-facts .stretch) in
         let T = sorted (s .base) (s .word) (s .within) in
-        subst (λ (x : ℕ). findBy (λ (y : Entry). order x (c .channel) (y .time) (y .channel)) es ≡ some e) (p .1 .0)
-        (subst (λ (x : ℕ). findBy (λ (y : Entry). order (e .time) x (y .time) (y .channel)) es ≡ some e) (p .1 .1)
-        (find-member (s .base) (s .word) es (T .near) (T .asc) e (T .near e (p .0)) (p .0))),
-  )
+        subst (λ (x : ℕ). findBy (λ (y : Entry). order x (c .channel) (y .time) (y .channel)) (h .entries) ≡ some e) (p .1 .0)
+        (subst (λ (x : ℕ). findBy (λ (y : Entry). order (e .time) x (y .time) (y .channel)) (h .entries) ≡ some e) (p .1 .1)
+        (find-member (s .base) (s .word) (h .entries) (T .near) (T .asc) e (T .near e (p .0)) (p .0)))
 
   -- Far
 
   module _ (c : Copy) (word : c .time < 2 ^ 32) where
-    no-stretch : isFar (decode b) c ≡ true → (b .drawn ≡ 0) × (StretchWith es (c .time) → ⊥)
+    no-stretch : isFar h c ≡ true → (h .drawn ≡ false) × (StretchWith (h .entries) (c .time) → ⊥)
     no-stretch f =
-        by-test (eqb (b .drawn) 1)
+        by-test (h .drawn)
         (λ d. not-both false (rw d at f) refl)
-        (λ d. (
-          drawn-flag b w d,
-          λ s.
-              let fit = fits-stretch (s .base) (s .word) (c .time) 0 es (record { word = word; octet = omega arith; near = s .this }) (sorted (s .base) (s .word) (s .held)) in
-              not-both {P = ⊥} false (rw (d, fit) at f) refl,
-        ))
+        (λ d. (d, λ s.
+        let fit = fits-stretch (s .base) (s .word) (c .time) 0 (h .entries) (record { word = word; octet = omega arith; near = s .this }) (sorted (s .base) (s .word) (s .held)) in
+        not-both {P = ⊥} false (rw (d, fit) at f) refl))
 
-    far : (b .drawn ≡ 0) × (StretchWith es (c .time) → ⊥) → isFar (decode b) c ≡ true
+    far : (h .drawn ≡ false) × (StretchWith (h .entries) (c .time) → ⊥) → isFar h c ≡ true
     far p =
-        by-test (fits (c .time) es)
+        by-test (fits (c .time) (h .entries))
         (λ q.
-        let k = fits-base (c .time) es word (times-word b m w) (facts b m w .stretch) q in
+        let k = fits-base (c .time) (h .entries) word (H .words) (held-facts .stretch) q in
         absurd (p .1 (record { base = k .0; word = k .1; held = k .3; this = k .2 })))
-        (λ q. ap (λ (n : ℕ). cond (eqb n 1) false (not (fits (c .time) es))) (p .0) ∙ ap not q)
+        (λ q. ap (λ (d : Bool). cond d false (not (fits (c .time) (h .entries)))) (p .0) ∙ ap not q)
 
 pub far-exactly : FarExactly
-far-exactly b m w c word = (no-stretch b m w c word, far b m w c word)
+far-exactly st h H c word = (no-stretch st h H c word, far st h H c word)
 
-pub pair-held : HeldExactly
-pair-held b m w c e = held-exactly b m w c e
+pub held-exactly : HeldExactly
+held-exactly st h H c e = (found st h H c e, finds st h H c e)

@@ -53,7 +53,7 @@ of-distinct : (es : List Entry) → SlotsDistinct es → Differ slotOf es
 of-distinct [] d = tt
 of-distinct (e ∷ es) d = (d .0, of-distinct es (d .1))
 
-to-stretch : (es : List Entry) → ((e : Entry) → List·Memᴰ e es → e .time < 2 ^ 32) → Stretch es → EntriesWithinStretch es
+pub to-stretch : (es : List Entry) → ((e : Entry) → List·Memᴰ e es → e .time < 2 ^ 32) → Stretch es → EntriesWithinStretch es
 to-stretch [] w s = record { base = 0; word = omega arith; within = λ e m. absurd (nowhere m) }
 to-stretch (e ∷ es) w s = record { base = e .time; word = w e (here refl); within = s }
 
@@ -115,15 +115,6 @@ not-drawn : (d : ℕ) → (d ≡ 0) ⊎ (d ≡ 1) → eqb d 1 ≡ false → d �
 not-drawn d (inl e) h = e
 not-drawn d (inr e) h = not-both (eqb d 1) (eq-eqb d 1 e) h
 
--- the flag of a well-formed buffer, and a stretch that its entries lie in
-
-pub drawn-flag : (b : Buffer) → wellFormed b ≡ true → eqb (b .drawn) 1 ≡ false → b .drawn ≡ 0
-unfolding wellFormed
-drawn-flag b w d = not-drawn (b .drawn) (flag-of (b .drawn) (both (both (both w .0) .0) .0)) d
-
-pub first-stretch : (b : Buffer) → Machine b → wellFormed b ≡ true → EntriesWithinStretch (decode b .entries)
-first-stretch b m w = to-stretch (decode b .entries) (times-word b m w) (facts b m w .stretch)
-
 module _ (b : Buffer) (t : Typed b) where
   abbrev es : List Entry
   es = decode b .entries
@@ -161,7 +152,7 @@ module _ (b : Buffer) (t : Typed b) where
         let p = both (q .0) in
         record {
           ascending = to-ascending es (F .rising);
-          stretch = first-stretch b m w;
+          stretch = to-stretch es (times-word b m w) (F .stretch);
           distinct = to-distinct es (F .slot-facts .differ);
           slots-in = F .slot-facts .within;
           marked = λ s l. subst (λ (ws : List ℕ). markOf ws s ≡ 1 ↔ HasSlot es s) (words-held b m w) (words-exactly es (own-distinct es (F .slot-facts)) s l);
