@@ -100,9 +100,12 @@ module _ (st : Settings) (h : Held) (H : Holds st h) where
     no-stretch f =
         by-test (h .drawn)
         (λ d. not-both false (rw d at f) refl)
-        (λ d. (d, λ s.
-        let fit = fits-stretch (s .base) (s .word) (c .time) 0 (h .entries) (record { word = word; octet = omega arith; near = s .this }) (sorted (s .base) (s .word) (s .held)) in
-        not-both {P = ⊥} false (rw (d, fit) at f) refl))
+        (λ d. (
+          d,
+          λ s.
+              let fit = fits-stretch (s .base) (s .word) (c .time) 0 (h .entries) (record { word = word; octet = omega arith; near = s .this }) (sorted (s .base) (s .word) (s .held)) in
+              not-both {P = ⊥} false (rw (d, fit) at f) refl,
+        ))
 
     far : (h .drawn ≡ false) × (StretchWith (h .entries) (c .time) → ⊥) → isFar h c ≡ true
     far p =
