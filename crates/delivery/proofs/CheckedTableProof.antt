@@ -1,6 +1,6 @@
 -- Document 01's checked table, lines 8 to 10, computed on the definitions. Frames are any bytes: a list of known length is computed with as the list of its places.
 use mathlib.Core.Path.{_≡_, refl, ap, _∙_, subst}
-use mathlib.Core.List.{List, [], _∷_, _++_}
+use mathlib.Core.List.{List, [], _∷_}
 use mathlib.Core.Bool.{true}
 use Prim.Native.Nat.{ℕ, zero, suc, _≤_}
 use native.Mathlib.Omega.{arith}
@@ -35,7 +35,7 @@ use Rattle.reorder.specs.Rows.{copiesOf}
 use Rattle.reorder.specs.Calls.{newCall, OfferOutcome, offerCall}
 use Rattle.reorder.proofs.CallLaws.{offerRead, offer-reads}
 use Rattle.reorder.proofs.WellFormedLaws.{fresh-formed}
-use Rattle.delivery.specs.CheckedTable.{mono, stereo, packet80, packet120, holding, afterZero, entry, Bytes, OfferLines, WholeTable}
+use Rattle.delivery.specs.CheckedTable.{mono, stereo, holding, afterZero, entry, Bytes, OfferLines, WholeTable}
 
 -- the list of n places
 abbrev places : ℕ → (ℕ → ℕ) → List ℕ
@@ -93,14 +93,14 @@ module _ (rows store : List ℕ) (a : rowArea ≤ length rows) (s : storeSize �
   offer-lines : OfferLines rows store
   unfolding newCall over inRange maxChannels payloadStart payloadEnd fields header formatOf g719Length lengthIn frameIn minEntry gapsSize entrySize tableEntry gapAt gapsFrom meaning contentsBy contents sizeIn framesIn timeAfter groupRows tableRows blockRows payload placedRows payloadRows typedRows copiesOf ahead after order greater rank betterFrame view entryOf put findBy slotUsed lowest freeSlot placed stored allWithin fits judgeHeld judge tally judgeAll ones weight wordAt padTo entriesFrom
   offer-lines = record {
-    first-80 = any-bytes 80 _ (λ v. offer-is (newCall mono .buffer) (packet80 0 (places 80 v)) rows store mono-range (fresh-formed mono) a s _ refl);
-    first-120 = any-bytes 120 _ (λ v. offer-is (newCall mono .buffer) (packet120 0 (places 120 v)) rows store mono-range (fresh-formed mono) a s _ refl);
-    new-ahead = any-bytes 80 _ (λ v. offer-is (holding mono (entry 0 0 80 0 ∷ [])) (packet80 2147483647 (places 80 v)) rows store mono-range (holding-formed .0) a s _ refl);
-    far-ahead = any-bytes 80 _ (λ v. offer-is (holding mono (entry 0 0 80 0 ∷ [])) (packet80 2147483648 (places 80 v)) rows store mono-range (holding-formed .0) a s _ refl);
-    same-late = any-bytes 80 _ (λ v. any-bytes 80 _ (λ w. offer-is (afterZero stereo []) (packet80 0 (places 80 v ++ places 80 w)) rows store stereo-range after-formed a s _ refl));
-    half-late = any-bytes 80 _ (λ v. any-bytes 80 _ (λ w. offer-is (afterZero stereo []) (packet80 2147483648 (places 80 v ++ places 80 w)) rows store stereo-range after-formed a s _ refl));
-    longer-better = any-bytes 80 _ (λ v. any-bytes 120 _ (λ w. offer-is (holding mono (entry 0 0 80 0 ∷ [])) (packet120 0 (places 120 w)) rows (over (places 80 v) store) mono-range (holding-formed .0) a (over-room 80 v store (omega arith) s) _ refl));
-    shorter-repeated = any-bytes 120 _ (λ v. any-bytes 80 _ (λ w. offer-is (holding mono (entry 0 0 120 0 ∷ [])) (packet80 0 (places 80 w)) rows (over (places 120 v) store) mono-range (holding-formed .1) a (over-room 120 v store (omega arith) s) _ refl));
+    first-80 = any-bytes 80 _ (λ v. offer-is _ _ rows store mono-range (fresh-formed mono) a s _ refl);
+    first-120 = any-bytes 120 _ (λ v. offer-is _ _ rows store mono-range (fresh-formed mono) a s _ refl);
+    new-ahead = any-bytes 80 _ (λ v. offer-is _ _ rows store mono-range (holding-formed .0) a s _ refl);
+    far-ahead = any-bytes 80 _ (λ v. offer-is _ _ rows store mono-range (holding-formed .0) a s _ refl);
+    same-late = any-bytes 80 _ (λ v. any-bytes 80 _ (λ w. offer-is _ _ rows store stereo-range after-formed a s _ refl));
+    half-late = any-bytes 80 _ (λ v. any-bytes 80 _ (λ w. offer-is _ _ rows store stereo-range after-formed a s _ refl));
+    longer-better = any-bytes 80 _ (λ v. any-bytes 120 _ (λ w. offer-is _ _ rows (over (places 80 v) store) mono-range (holding-formed .0) a (over-room 80 v store (omega arith) s) _ refl));
+    shorter-repeated = any-bytes 120 _ (λ v. any-bytes 80 _ (λ w. offer-is _ _ rows (over (places 120 v) store) mono-range (holding-formed .1) a (over-room 120 v store (omega arith) s) _ refl));
   }
 
 pub whole-table : WholeTable

@@ -1,5 +1,5 @@
 -- A draw takes the earliest frame and frees its slot: the proof of the claim.
-use Prim.Native.Nat.{ℕ, zero, suc, _+_, _≤_, _<_}
+use Prim.Native.Nat.{ℕ, zero, suc, _+_, _≤_}
 use mathlib.Core.Path.{_≡_, refl, sym, ap, _∙_, subst}
 use mathlib.Core.List.{List, _∷_}
 use mathlib.Core.Bool.{true}
@@ -13,11 +13,11 @@ use Rattle.playout.specs.Sizes.{slots, slotSize, storeSize}
 use Rattle.playout.specs.Entries.{Entry, Held}
 use Rattle.playout.proofs.HeldLaws.{drawnFirst}
 use Rattle.reorder.specs.declared.buffer.Buffer.{Buffer}
-use Rattle.reorder.specs.Bits.{markOf, wordsOf, lowestFrom, lowestFree}
+use Rattle.reorder.specs.Bits.{markOf, wordsOf, lowestFrom}
 use Rattle.reorder.specs.Arrays.{Machine}
 use Rattle.reorder.specs.Layout.{decode}
 use Rattle.reorder.specs.WellFormed.{wellFormed}
-use Rattle.reorder.specs.Calls.{DrawOutcome, drawCall}
+use Rattle.reorder.specs.Calls.{drawCall}
 use Rattle.reorder.proofs.WordLaws.{slotsOf, Distinct, count-here, count-else, distinct-tail, mark-count, own-distinct}
 use Rattle.reorder.proofs.CallLaws.{drawFirst, draw-goes}
 use Rattle.reorder.proofs.StateLaws.{Good, draw-good}

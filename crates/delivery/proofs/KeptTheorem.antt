@@ -9,7 +9,6 @@ use lib.ListN.{length}
 use lib.Dec.{ltb}
 use Rattle.rtp.specs.Sizes.{rowArea}
 use Rattle.rtp.specs.Ranges.{inRange}
-use Rattle.rtp.specs.Refusals.{number}
 use Rattle.rtp.specs.declared.refusal.Refusal.{Refusal}
 use Rattle.rtp.specs.declared.refusal.Refusal.the-variants.{SettingsOutOfRange, MalformedBuffer, AreaTooShort}
 use Rattle.rtp.proofs.TestLaws.{by-test}
@@ -19,19 +18,18 @@ use Rattle.playout.specs.declared.verdict.Verdict.{Verdict}
 use Rattle.playout.specs.declared.verdict.Verdict.the-variants.{Late, Far, Repeated, Better, NoRoom, Inserted}
 use Rattle.playout.specs.Sizes.{slotSize, storeSize}
 use Rattle.playout.specs.Copies.{Copy}
-use Rattle.playout.specs.Entries.{Entry, Held}
-use Rattle.playout.specs.Verdicts.{Judged, judge, Counts, noCounts, counted, Judgement, tally, judgeAll}
+use Rattle.playout.specs.Entries.{Held}
+use Rattle.playout.specs.Verdicts.{judge, Counts, noCounts, counted, Judgement, tally, judgeAll}
 use Rattle.playout.proofs.JudgeLaws.{judge-cases}
 use Rattle.reorder.specs.declared.buffer.Buffer.{Buffer}
-use Rattle.reorder.specs.Bits.{heldIn}
 use Rattle.reorder.specs.Arrays.{Machine}
 use Rattle.reorder.specs.Layout.{encode, entriesFrom, decode}
 use Rattle.reorder.specs.WellFormed.{wellFormed}
 use Rattle.reorder.specs.Rows.{copiesOf}
-use Rattle.reorder.specs.Calls.{OfferOutcome, offerRefused, offerCall, DrawOutcome, drawRefused, drawCall, noFrame}
+use Rattle.reorder.specs.Calls.{OfferOutcome, offerRefused, offerCall, DrawOutcome, drawRefused, drawCall}
 use Rattle.reorder.proofs.CallLaws.{offerRead, offer-out, offer-malformed, offer-rows, offer-store, offer-reads, drawFirst, draw-out, draw-malformed, draw-store, draw-area, draw-goes}
 use Rattle.reorder.proofs.WellFormedLaws.{encode-decode}
-use Rattle.delivery.specs.WellFormedClaims.{ChangesNothing}
+use Rattle.delivery.specs.WellFormedClaims.{LeftByOffer, Empty, LeftByDraw, ChangesNothing}
 
 -- Verdicts that keep what is held and stored
 
@@ -78,22 +76,19 @@ judgeAll-kept (c ∷ cs) h s n p q =
 -- Offers
 
 module _ (b : Buffer) (m : Machine b) (packet rows store : List ℕ) where
-  abbrev Leaves : OfferOutcome → Type 0
-  Leaves r = r .answer .better ≡ 0 → r .answer .inserted ≡ 0 → (r .buffer ≡ b) × (r .store ≡ store)
+  went : (r : OfferOutcome) → offerCall b packet rows store ≡ r → LeftByOffer b store r → LeftByOffer b store (offerCall b packet rows store)
+  went r e p = subst (LeftByOffer b store) (sym e) p
 
-  went : (r : OfferOutcome) → offerCall b packet rows store ≡ r → Leaves r → Leaves (offerCall b packet rows store)
-  went r e p = subst Leaves (sym e) p
-
-  refusing : (q : Refusal) → Leaves (offerRefused q b rows store)
+  refusing : (q : Refusal) → LeftByOffer b store (offerRefused q b rows store)
   refusing q x y = (refl, refl)
 
-  read-leaves : wellFormed b ≡ true → (o : Outcome) → Leaves (offerRead b packet rows store o)
+  read-leaves : wellFormed b ≡ true → (o : Outcome) → LeftByOffer b store (offerRead b packet rows store o)
   read-leaves w (unread q) x y = (refl, refl)
   read-leaves w (readAs head rs) x y =
       let k = judgeAll-kept (copiesOf packet rs) (decode b) store noCounts x y in
       (ap (encode (b .settings)) (k .0) ∙ encode-decode b m w, k .1)
 
-  offer-leaves : Leaves (offerCall b packet rows store)
+  offer-leaves : LeftByOffer b store (offerCall b packet rows store)
   offer-leaves =
       by-test (inRange (b .settings))
       (λ r. by-test (wellFormed b)
@@ -109,21 +104,18 @@ module _ (b : Buffer) (m : Machine b) (packet rows store : List ℕ) where
 
 -- Draws
 
-module _ (b : Buffer) (store area : List ℕ) (none : heldIn (b .occupied) ≡ 0) where
-  abbrev Stays : DrawOutcome → Type 0
-  Stays r = (r .buffer ≡ b) × (r .area ≡ area) × (r .answer .refusal ≡ 0 → r .answer ≡ noFrame 0 1)
+module _ (b : Buffer) (none : Empty b) (store area : List ℕ) where
+  drew : (r : DrawOutcome) → drawCall b store area ≡ r → LeftByDraw b area r → LeftByDraw b area (drawCall b store area)
+  drew r e p = subst (LeftByDraw b area) (sym e) p
 
-  drew : (r : DrawOutcome) → drawCall b store area ≡ r → Stays r → Stays (drawCall b store area)
-  drew r e p = subst Stays (sym e) p
-
-  stopping : (q : Refusal) → Stays (drawRefused q b area)
+  stopping : (q : Refusal) → LeftByDraw b area (drawRefused q b area)
   stopping q = (refl, refl, λ z. absurd (omega (arith, number-positive q)))
 
   no-entries : decode b .entries ≡ []
   unfolding entriesFrom
   no-entries = ap (λ (n : ℕ). entriesFrom b n 0) none
 
-  draw-leaves : Stays (drawCall b store area)
+  draw-leaves : LeftByDraw b area (drawCall b store area)
   draw-leaves =
       by-test (inRange (b .settings))
       (λ r. by-test (wellFormed b)

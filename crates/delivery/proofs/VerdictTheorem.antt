@@ -1,12 +1,11 @@
 -- Far and held are what they say: the proofs of the claims.
-use Prim.Native.Nat.{ℕ, zero, suc, _^_, _<_, compare, Ordering, Ordering·lt, Ordering·eq, Ordering·gt}
+use Prim.Native.Nat.{ℕ, _^_, _<_, compare, Ordering, Ordering·lt, Ordering·eq, Ordering·gt}
 use mathlib.Core.Path.{_≡_, refl, sym, ap, _∙_, subst}
-use mathlib.Core.Logic.{_⊎_, inl, inr}
-use mathlib.Core.List.{List, [], _∷_, List·Memᴰ, List·Memᴰ·head as here, List·Memᴰ·tail as there, List·Memᴰ·not-nil as nowhere}
+use mathlib.Core.List.{List, [], _∷_, List·Memᴰ, List·Memᴰ·head as here, List·Memᴰ·tail as there}
 use mathlib.Core.Bool.{Bool, true, false, cond, not}
-use mathlib.Core.Option.{Option, some, Option·none-ne-some as none≢some, Option·some-injective}
+use mathlib.Core.Option.{some, Option·none-ne-some as none≢some, Option·some-injective}
 use native.Mathlib.Omega.{arith}
-use borrow.Author.Tests.{eq-eqb, ne-eqb, eqb-true}
+use borrow.Author.Tests.{eqb-true}
 use lib.Dec.{eqb}
 use Rattle.rtp.specs.declared.settings.Settings.{Settings}
 use Rattle.rtp.proofs.RangeLaws.{few-channels}
@@ -16,7 +15,7 @@ use Rattle.playout.specs.Copies.{Copy}
 use Rattle.playout.specs.Entries.{Entry, Held, entryOf, sideOfEntry, findAt, findBy}
 use Rattle.playout.specs.Verdicts.{fits, isFar}
 use Rattle.playout.proofs.InsertionLaws.{Cmp, cmp, compare-is, Asc, find-mem}
-use Rattle.playout.proofs.WrapLaws.{Near, place, order-place, order-after}
+use Rattle.playout.proofs.WrapLaws.{Near, order-place, order-after}
 use Rattle.playout.proofs.HeldLaws.{Sorted, rising-sorted, entryPlace, fits-base}
 use Rattle.playout.proofs.PlayoutLaws.{fits-stretch}
 use Rattle.reorder.proofs.ModelLaws.{Facts, fine-exactly}

@@ -1,31 +1,30 @@
 -- A buffer is well-formed exactly if the plain facts hold, and it is then the encoding of what it holds: the proofs of the claims.
-use Prim.Native.Nat.{ℕ, zero, suc, _^_, _≤_, _<_, Ordering·gt}
-use mathlib.Core.Path.{_≡_, refl, sym, ap, _∙_, subst}
+use Prim.Native.Nat.{ℕ, zero, suc, _^_, _≤_, _<_}
+use mathlib.Core.Path.{_≡_, refl, ap, subst}
 use mathlib.Core.Logic.{_↔_, _⊎_, inl, inr, ⊎-elim}
 use mathlib.Core.List.{List, [], _∷_, List·Memᴰ, List·Memᴰ·head as here, List·Memᴰ·tail as there, List·Memᴰ·not-nil as nowhere}
-use mathlib.Core.Bool.{Bool, true, false}
+use mathlib.Core.Bool.{true, false}
 use native.Mathlib.Omega.{arith}
-use borrow.Author.Tests.{eq-eqb, ne-eqb, lt-ltb, ltb-true, eqb-true, eqb-false}
+use borrow.Author.Tests.{eq-eqb, ne-eqb, lt-ltb, ltb-true, eqb-true}
 use lib.ListN.{length, getD, drop}
-use lib.Dec.{eqb, ltb}
-use Rattle.rtp.proofs.TestLaws.{by-test, not-both, both as in-turn, and-then, either}
+use lib.Dec.{eqb}
+use Rattle.rtp.proofs.TestLaws.{not-both, both as in-turn, and-then, either}
 use Rattle.rtp.proofs.RangeLaws.{few-channels}
 use Rattle.formats.specs.Frames.{noData, sound, sid}
 use Rattle.formats.specs.Codes.{noCode, codeFor}
 use Rattle.formats.proofs.CodeLaws.{code-back, code-below, code-some}
 use Rattle.playout.specs.Sizes.{slots}
-use Rattle.playout.specs.Entries.{Entry, sideOfEntry}
-use Rattle.playout.proofs.InsertionLaws.{Chain}
+use Rattle.playout.specs.Entries.{Entry}
 use Rattle.playout.proofs.DistinctLaws.{Differ}
-use Rattle.playout.proofs.HeldLaws.{Rising, Stretch, Sorted, rising-sorted, sorted-stretch}
+use Rattle.playout.proofs.HeldLaws.{Rising, Stretch, rising-sorted, sorted-stretch}
 use Rattle.reorder.specs.declared.buffer.Buffer.{Buffer}
-use Rattle.reorder.specs.Bits.{markOf, heldIn, wordsOf}
+use Rattle.reorder.specs.Bits.{markOf, heldIn}
 use Rattle.reorder.specs.Columns.{zeros}
 use Rattle.reorder.specs.Arrays.{Machine}
-use Rattle.reorder.specs.Layout.{entryAt, entriesFrom, decode, isFlag, unusedZero, marksKept, laidOut}
-use Rattle.reorder.specs.Model.{allowed, fine}
+use Rattle.reorder.specs.Layout.{entryAt, entriesFrom, decode, isFlag, unusedZero}
+use Rattle.reorder.specs.Model.{allowed}
 use Rattle.reorder.specs.WellFormed.{wellFormed}
-use Rattle.reorder.proofs.WordLaws.{slotOf, slotsOf, SlotFacts, own-distinct, own-few}
+use Rattle.reorder.proofs.WordLaws.{slotOf, SlotFacts, own-distinct, own-few}
 use Rattle.reorder.proofs.LayoutLaws.{by-flag, Octets, decode-encode}
 use Rattle.reorder.proofs.AllowedLaws.{allowed-frame}
 use Rattle.reorder.proofs.ModelLaws.{both, and, Facts, facts-fine, fine-exactly}
@@ -159,7 +158,7 @@ module _ (b : Buffer) (t : Typed b) where
           frames = λ e i. to-frame (b .settings .format) (e .class) (e .length) (F .each e i .frame);
           channels = λ e i. F .each e i .channel;
           last-channel = λ d. F .last-channel (eq-eqb (b .drawn) 1 d);
-          unused = λ i l h. (zeros-at (heldIn (b .occupied)) (b .times) (p .0) i l, zeros-at (heldIn (b .occupied)) (b .tags) (p .1) i l, zeros-at (heldIn (b .occupied)) (b .lengths) (q .1) i l, zeros-at (heldIn (b .occupied)) (b .slots) (r .1) i l);
+          unused = λ i l h. (zeros-at (heldIn (b .occupied)) (b .times) (p .0) i (omega arith), zeros-at (heldIn (b .occupied)) (b .tags) (p .1) i (omega arith), zeros-at (heldIn (b .occupied)) (b .lengths) (q .1) i (omega arith), zeros-at (heldIn (b .occupied)) (b .slots) (r .1) i (omega arith));
           after-last = λ d e i. F .after-last (eq-eqb (b .drawn) 1 d) e i;
           no-last = λ d. F .no-last (ap (λ (x : ℕ). eqb x 1) d);
           flag = flag-of (b .drawn) (tests .flag);
@@ -189,10 +188,10 @@ module _ (b : Buffer) (t : Typed b) where
     unfolding wellFormed
     from-facts =
         and (and (and (is-flag (b .drawn) (S .flag))
-        (and (and (and (unused-column (b .times) (m .times .0) (λ i l h. S .unused i l h .0))
-        (unused-column (b .tags) (m .tags .0) (λ i l h. S .unused i l h .1)))
-        (unused-column (b .lengths) (m .lengths .0) (λ i l h. S .unused i l h .2)))
-        (unused-column (b .slots) (m .slots-column .0) (λ i l h. S .unused i l h .3))))
+        (and (and (and (unused-column (b .times) (m .times .0) (λ i l h. S .unused i (omega arith) h .0))
+        (unused-column (b .tags) (m .tags .0) (λ i l h. S .unused i (omega arith) h .1)))
+        (unused-column (b .lengths) (m .lengths .0) (λ i l h. S .unused i (omega arith) h .2)))
+        (unused-column (b .slots) (m .slots-column .0) (λ i l h. S .unused i (omega arith) h .3))))
         (marks-same es (own-distinct es own) (b .occupied) (t .marks) (S .marked)))
         (facts-fine (b .settings) (decode b) of-facts)
 

@@ -19,7 +19,7 @@ use Rattle.reorder.specs.Arrays.{Machine}
 use Rattle.reorder.specs.Layout.{encode, decode}
 use Rattle.reorder.specs.Model.{fine}
 use Rattle.reorder.specs.WellFormed.{wellFormed}
-use Rattle.reorder.specs.Calls.{noFrame, offerCall, drawCall}
+use Rattle.reorder.specs.Calls.{OfferOutcome, offerCall, noFrame, DrawOutcome, drawCall}
 
 -- what the type of the struct says of its arrays and words
 pub record Typed (b : Buffer) : Type 0 where
@@ -96,10 +96,19 @@ pub record UndoEachOther : Type 0 where
 
 -- Calls that change nothing
 
+-- an offer that answers no copy as better or new leaves the buffer and the store as they stood
+abbrev pub LeftByOffer : Buffer → List ℕ → OfferOutcome → Type 0
+LeftByOffer b store r = r .answer .better ≡ 0 → r .answer .inserted ≡ 0 → (r .buffer ≡ b) × (r .store ≡ store)
+
+-- no slot is marked
+abbrev pub Empty : Buffer → Type 0
+Empty b = heldIn (b .occupied) ≡ 0
+
+-- a draw leaves the buffer and the area as they stood; if it is not refused, it says that the buffer is empty and answers zeros
+abbrev pub LeftByDraw : Buffer → List ℕ → DrawOutcome → Type 0
+LeftByDraw b area r = (r .buffer ≡ b) × (r .area ≡ area) × (r .answer .refusal ≡ 0 → r .answer ≡ noFrame 0 1)
+
 pub record ChangesNothing : Type 0 where
-  -- an offer that answers no copy as better or new (each was late, far, repeated or without room, or the call was refused) leaves the buffer and the store as they stood
-  pub offer-leaves : (b : Buffer) → Machine b → (packet rows store : List ℕ)
-      → let r = offerCall b packet rows store in r .answer .better ≡ 0 → r .answer .inserted ≡ 0 → (r .buffer ≡ b) × (r .store ≡ store)
-  -- a draw from an empty buffer leaves the buffer and the area as they stood; if it is not refused, it says that the buffer is empty and answers zeros
-  pub draw-leaves : (b : Buffer) (store area : List ℕ) → heldIn (b .occupied) ≡ 0
-      → let r = drawCall b store area in (r .buffer ≡ b) × (r .area ≡ area) × (r .answer .refusal ≡ 0 → r .answer ≡ noFrame 0 1)
+  -- so if each copy of a packet is late, far, repeated or without room, or the offer is refused, nothing changes
+  pub offer-leaves : (b : Buffer) → Machine b → (packet rows store : List ℕ) → LeftByOffer b store (offerCall b packet rows store)
+  pub draw-leaves : (b : Buffer) → Empty b → (store area : List ℕ) → LeftByDraw b area (drawCall b store area)
