@@ -31,7 +31,7 @@ few-among : (n : ℕ) (a b : List Copy) → ((x : Copy) → List·Memᴰ x b →
 few-among n a b f few ds own d = few ds (λ x m. f x (own x m)) d
 
 none-played : Playout [] []
-none-played = record { ascending = tt; copies = λ d m. m; all = λ x m. absurd (nowhere m); best = λ d x m n. absurd (nowhere m) }
+none-played = record { once = tt; ascending = tt; copies = λ d m. m; all = λ x m. absurd (nowhere m); best = λ d x m n. absurd (nowhere m) }
 
 module _ (st : Settings) (range : inRange st ≡ true) where
   -- the copies held after packets, with a store

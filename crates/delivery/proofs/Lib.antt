@@ -2,8 +2,13 @@ pub mod StepLaws
 pub mod RunLaws
 pub mod AcceptedLaws
 pub mod DrawLaws
+pub mod MarkLaws
 pub mod DemandTheorem
 pub mod PremiseTheorem
 pub mod CountTheorem
 pub mod WellFormedTheorem
+pub mod WellFormedFactsTheorem
+pub mod KeptTheorem
+pub mod VerdictTheorem
+pub mod DrawTheorem
 pub mod CheckedTableProof

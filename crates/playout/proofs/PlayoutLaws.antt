@@ -89,7 +89,7 @@ module _ (b : ℕ) (lb : b < 2 ^ 32) where
   Best P l = Bests (copyPlace b) better ranks P l
 
   -- a copy in the stretch of the entries fits
-  fits-stretch : (t c : ℕ) (es : List Entry) → Near b t c → Sorted b es → fits t es ≡ true
+  pub fits-stretch : (t c : ℕ) (es : List Entry) → Near b t c → Sorted b es → fits t es ≡ true
   unfolding fits
   fits-stretch t c [] N S = refl
   fits-stretch t c (e ∷ es) N S = go (compare (place b t c) (entryPlace b e)) (cmp (place b t c) (entryPlace b e))
@@ -205,6 +205,7 @@ module _ (b : ℕ) (lb : b < 2 ^ 32) (accepted : List Copy) (ok : (x : Copy) →
 
   pub to-playout : (ds : List Copy) → Best b lb (λ x. List·Memᴰ x accepted) ds → Playout accepted ds
   to-playout ds B = record {
+    once = distinct b lb ds (B .asc);
     ascending = to-ascending ds (asc-chain side (copyPlace b) ds (agree ds (B .from)) (B .asc));
     copies = B .from;
     all = λ x m. let t = B .top x m in (t .0, t .1, same-place b lb (near-copy b (t .0) (ok (t .0) (B .from (t .0) (t .1)))) (near-copy b x (ok x m)) (t .2));
@@ -242,6 +243,7 @@ module _ (s : List ℕ) (cs : List Copy) (l : storeSize ≤ length s) (F : Frame
 -- the same copies, in whatever order and however often, have the same playout list
 pub playout-like : (a b l : List Copy) → ((x : Copy) → List·Memᴰ x a → List·Memᴰ x b) → ((x : Copy) → List·Memᴰ x b → List·Memᴰ x a) → Playout a l → Playout b l
 playout-like a b l f g D = record {
+  once = D .once;
   ascending = D .ascending;
   copies = λ d m. f d (D .copies d m);
   all = λ x m. D .all x (g x m);

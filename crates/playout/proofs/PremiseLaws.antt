@@ -133,7 +133,7 @@ module _ (s : List ℕ) (cs : List Copy) (l : storeSize ≤ length s) (F : Frame
       let k =
       settled-all cs [] fresh s noCounts (fresh-facts s l) refl (omega arith) (λ x o. F x (⊎-elim (λ (m : List·Memᴰ x cs). m) (λ m. absurd (nowhere m)) o))
       (record { base = 0; word = omega arith; within = λ x m. absurd (nowhere m) })
-      (record { ascending = tt; copies = λ d m. m; all = λ x m. absurd (nowhere m); best = λ d x m n. absurd (nowhere m) })
+      (record { once = tt; ascending = tt; copies = λ d m. m; all = λ x m. absurd (nowhere m); best = λ d x m n. absurd (nowhere m) })
       (f, r) in
       let back : (x : Copy) → List·Memᴰ x cs → List·Memᴰ x (reverseAux cs []) = λ x m. in-reverse x cs [] (inl m) in
       (record { base = k .0 .base; word = k .0 .word; within = λ x m. k .0 .within x (back x m) }, λ ds sub D. k .1 ds (λ d m. back d (sub d m)) D)

@@ -16,8 +16,17 @@ Ascending (d ∷ e ∷ ds) = (side e d ≡ Ordering·gt) × Ascending (e ∷ ds)
 abbrev pub SamePair : Copy → Copy → Type 0
 SamePair a b = (a .time ≡ b .time) × (a .channel ≡ b .channel)
 
+-- no two of one pair
+abbrev pub Apart : Copy → List Copy → Type 0
+Apart d ds = (e : Copy) → List·Memᴰ e ds → SamePair d e → ⊥
+
+abbrev pub Distinct : List Copy → Type 0
+Distinct [] = Unit {0}
+Distinct (d ∷ ds) = Apart d ds × Distinct ds
+
 -- the playout list, document 01's draw list: each pair accepted once, each after the one before, with a copy accepted that no other copy of the pair is better than
 pub record Playout (accepted ds : List Copy) : Type 0 where
+  pub once : Distinct ds
   pub ascending : Ascending ds
   pub copies : (d : Copy) → List·Memᴰ d ds → List·Memᴰ d accepted
   pub all : (x : Copy) → List·Memᴰ x accepted → (d : Copy) × List·Memᴰ d ds × SamePair d x
@@ -28,13 +37,6 @@ pub record WithinStretch (accepted : List Copy) : Type 0 where
   pub base : ℕ
   pub word : base < 2 ^ 32
   pub within : (x : Copy) → List·Memᴰ x accepted → ahead (x .time) base < half
-
-abbrev pub Apart : Copy → List Copy → Type 0
-Apart d ds = (e : Copy) → List·Memᴰ e ds → SamePair d e → ⊥
-
-abbrev pub Distinct : List Copy → Type 0
-Distinct [] = Unit {0}
-Distinct (d ∷ ds) = Apart d ds × Distinct ds
 
 -- no more than n distinct pairs: copies accepted of pairwise different pairs are at most n
 abbrev pub AtMost : ℕ → List Copy → Type 0
