@@ -4,10 +4,10 @@ use mathlib.Core.Path.{_≡_}
 use mathlib.Core.List.{List, [], _∷_}
 use mathlib.Core.Bool.{false, cond}
 use lib.ListN.{length, getD, drop}
-use lib.Dec.{eqb}
+use lib.Dec.{leb}
 use Rattle.rtp.specs.Sizes.{maxRows, maxFrame, rowWidth}
 use Rattle.payload.specs.Contents.{Group, Contents, refused, groups, minEntry, entrySize, sizeIn, framesIn}
-use Rattle.formats.specs.Formats.{stepOf}
+use Rattle.formats.specs.Formats.{stepOf, maxGap}
 use Rattle.payload.specs.Rows.{Row}
 use Rattle.encoder.specs.declared.lists.RowWords.{RowWords}
 use Rattle.encoder.specs.declared.plans.Plan.{Plan}
@@ -58,7 +58,7 @@ attachPlan format ch r gap (Planned.Table p) =
       table = entrySize format (p .blocks + 1) + (p .table - entrySize format (p .blocks));
       frames = ch * r .length + p .frames;
     }))
-    (cond (eqb (p .gap) 0)
+    (cond (leb (p .gap) (maxGap format))
     (Planned.Table (record {
       class = r .class;
       length = r .length;
