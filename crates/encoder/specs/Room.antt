@@ -158,14 +158,14 @@ pub record EntryRoom (format width blocks previous : ℕ) (ws : List ℕ) (area 
   pub few : blocks < 256
   pub room : entrySize format blocks ≤ area
 
--- a table's first frame-block follows directly
-abbrev pub Direct : List Group → Type 0
-Direct [] = Unit {0}
-Direct (g ∷ gs) = headGap g ≡ 0
+-- a table's first frame-block is no further apart from the one before than an entry can say
+abbrev pub Near : ℕ → List Group → Type 0
+Near format [] = Unit {0}
+Near format (g ∷ gs) = headGap g ≤ maxGap format
 
 abbrev pub PlanRoom : ℕ → ℕ → Contents → Type 0
 PlanRoom format area (refused q) = ⊥
-PlanRoom format area (groups gs) = Direct gs × (sizeIn format gs ≤ area)
+PlanRoom format area (groups gs) = Near format gs × (sizeIn format gs ≤ area)
 
 pub record TableRoom (format ch previous : ℕ) (ws : List ℕ) (area : ℕ) : Type 0 where
   pub some : 0 < ch
