@@ -71,10 +71,10 @@ max-gap-requires c κs = search needs
 
 -- the gap to the next run, against the most that an entry can say
 near-at : (c : tie.Then2) → c .before .before .before .before .before .before .before .rest .given .0 .0 .gap ≤ maxGap (c .before .before .before .before .before .before .before .before .before .before .args .format)
-near-at c = rw (c .before .before .max-gap .ensures) at (c .if2 .taken)
+near-at c = omega (arith, c .before .before .max-gap .ensures, c .if2 .taken)
 
 apart-at : (c : tie.Else2) → maxGap (c .before .before .before .before .before .before .before .before .before .before .args .format) < c .before .before .before .before .before .before .before .rest .given .0 .0 .gap
-apart-at c = rw (c .before .before .max-gap .ensures) at (c .if2 .left)
+apart-at c = omega (arith, c .before .before .max-gap .ensures, c .if2 .left)
 
 entry-size-requires-4 : tie.Need-entry-size-requires-4
 entry-size-requires-4 c κs = search needs
