@@ -7,12 +7,12 @@ use native.Mathlib.Omega.{arith}
 use native.Mathlib.Nat.{zero-add, zero-mul, suc-mul, one-mul}
 use lib.ListN.{length, getD, drop, length-drop}
 use lib.Seq.{drop-drop, drop-nil}
-use lib.Dec.{ltb, eqb}
+use lib.Dec.{ltb, leb, eqb}
 use borrow.Author.Tests.{ltb-true, ltb-false, eqb-true, eqb-false, eq-eqb, ne-eqb}
 use Rattle.rtp.specs.Sizes.{rowWidth}
 use Rattle.rtp.specs.declared.refusal.Refusal.{Refusal}
 use Rattle.rtp.proofs.TestLaws.{by-test, not-both}
-use Rattle.formats.specs.Formats.{stepOf}
+use Rattle.formats.specs.Formats.{stepOf, maxGap}
 use Rattle.payload.specs.Contents.{Group, Contents, refused, groups, framesIn}
 use Rattle.payload.specs.Rows.{Row}
 use Rattle.formats.specs.Codes.{noCode, codeFor}
@@ -154,7 +154,7 @@ frames-attach format ch r gap [] gs h = sym (ap (framesOf ch) h) ∙ rw one-mul
 frames-attach format ch r gap (g ∷ hs) gs h =
     by-test (joins format r g)
     (λ a. sym (ap (framesOf ch) (rw a at h)) ∙ rw (joins-true format r g a .length, frames-more (length (g .gaps)) ch (g .length)) (omega arith))
-    (λ a. by-test (eqb (headGap g) 0) (λ b. sym (ap (framesOf ch) (rw (a, b) at h)) ∙ rw one-mul) (λ b. absurd (no-plan (rw (a, b) at h))))
+    (λ a. by-test (leb (headGap g) (maxGap format)) (λ b. sym (ap (framesOf ch) (rw (a, b) at h)) ∙ rw one-mul) (λ b. absurd (no-plan (rw (a, b) at h))))
 
 -- what is left of a frame-block at channel c, in bytes
 abbrev blockLeft : ℕ → ℕ → ℕ → ℕ

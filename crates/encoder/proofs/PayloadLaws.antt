@@ -6,7 +6,7 @@ use Prim.Native.Nat.{ℕ, _+_, _-_, _*_, _/_, _%_, _^_, _≤_, _<_}
 use native.Mathlib.Omega.{arith}
 use native.Mathlib.Nat.{zero-div}
 use lib.ListN.{length, getD, take, drop, length-append}
-use lib.Dec.{ltb, eqb}
+use lib.Dec.{ltb, leb, eqb}
 use borrow.Author.Tests.{ltb-true, ltb-false}
 use borrow.Rule.Slice.PartMut.{putMid}
 use Rattle.rtp.specs.Sizes.{rowWidth, maxRows}
@@ -16,14 +16,14 @@ use Rattle.rtp.specs.declared.refusal.Refusal.{Refusal}
 use Rattle.rtp.specs.declared.refusal.Refusal.the-variants.{Unwritable}
 use Rattle.rtp.proofs.TestLaws.{by-test}
 use Rattle.rtp.proofs.AreaLaws.{over-part}
-use Rattle.formats.specs.Formats.{stepOf}
+use Rattle.formats.specs.Formats.{stepOf, maxGap}
 use Rattle.payload.specs.Contents.{Group, Contents, refused, groups, sizeIn, framesIn}
 use Rattle.payload.specs.Rows.{Row}
 use Rattle.encoder.specs.Lists.{rowsIn, outside}
 use Rattle.encoder.specs.Plans.{maxPayload, gapBetween, headGap, joins, attach, follows, nextChannel, planFrom, stepBefore, fitting, plan}
 use Rattle.encoder.specs.Bytes.{tableBytes, frames}
 use Rattle.encoder.specs.Writings.{plannedBytes, encodedBytes}
-use Rattle.encoder.specs.Room.{rowAs, wordsAt, FramesRoom, timed, Direct, PlanRoom, TableRoom, planBytes, WholePlan, PayloadRoom}
+use Rattle.encoder.specs.Room.{rowAs, wordsAt, FramesRoom, timed, Near, PlanRoom, TableRoom, planBytes, WholePlan, PayloadRoom}
 use Rattle.encoder.proofs.ListLaws.{rows-none, rows-more, length-rows}
 use Rattle.encoder.proofs.BlockLaws.{no-plan, plan-time, frames-all}
 use Rattle.encoder.proofs.RunLaws.{first-gap}
@@ -40,7 +40,7 @@ plain-attach : (format : ℕ) (r : Row) (gap : ℕ) (x : Contents) → Plain x �
 plain-attach format r gap (refused q) h = h
 plain-attach format r gap (groups []) h = tt
 plain-attach format r gap (groups (g ∷ gs)) h =
-    by-test (joins format r g) (λ a. rw a tt) (λ a. by-test (eqb (headGap g) 0) (λ b. rw (a, b) tt) (λ b. rw (a, b) refl))
+    by-test (joins format r g) (λ a. rw a tt) (λ a. by-test (leb (headGap g) (maxGap format)) (λ b. rw (a, b) tt) (λ b. rw (a, b) refl))
 
 plain-from : (format ch c : ℕ) (p : Row) (rs : List Row) → Plain (planFrom format ch c p rs)
 unfolding planFrom
@@ -110,9 +110,9 @@ gap-none step time =
     let e : (x + 2 ^ 32 - x) % 2 ^ 32 ≡ 0 = omega arith in
     ap (λ (n : ℕ). n / step) e ∙ zero-div step
 
-pub list-direct : (format ch : ℕ) (ws : List ℕ) (gs : List Group) → 0 < ch → planFrom format ch 0 (stepBefore format (rowAs (wordsAt ws 0))) (rowsIn ws) ≡ groups gs → Direct gs
-list-direct format ch ws [] l h = tt
-list-direct format ch ws (g ∷ gs) l h = first-gap format ch (stepBefore format (rowAs (wordsAt ws 0))) ws g gs l h ∙ gap-none (stepOf format) (getD ws 0 0)
+pub list-near : (format ch : ℕ) (ws : List ℕ) (gs : List Group) → 0 < ch → planFrom format ch 0 (stepBefore format (rowAs (wordsAt ws 0))) (rowsIn ws) ≡ groups gs → Near format gs
+list-near format ch ws [] l h = tt
+list-near format ch ws (g ∷ gs) l h = omega (arith, first-gap format ch (stepBefore format (rowAs (wordsAt ws 0))) ws g gs l h ∙ gap-none (stepOf format) (getD ws 0 0))
 
 -- the bytes are as many as the plan says
 pub length-bytes : (format ch : ℕ) (ws bytes : List ℕ) (gs : List Group) → 0 < ch → outside (length bytes) (rowsIn ws) ≡ false → plan format ch (rowsIn ws) ≡ groups gs
@@ -155,7 +155,7 @@ module _ (format ch table : ℕ) (ws bytes : List ℕ) (area : ℕ) (r : Payload
     some = r .some;
     channels = r .channels;
     few = in-list .few;
-    planned = subst (λ (x : Contents). PlanRoom format area x) (sym from-before) (list-direct format ch ws (it .table-groups) (r .some) (in-list .planned), omega (arith, it .size, it .fits));
+    planned = subst (λ (x : Contents). PlanRoom format area x) (sym from-before) (list-near format ch ws (it .table-groups) (r .some) (in-list .planned), omega (arith, it .size, it .fits));
   }
 
   pub frames-room : FramesRoom (length bytes) (rowsIn ws) (area - table)

@@ -6,7 +6,7 @@ use Prim.Native.Nat.{ℕ, suc, _+_, _-_, _*_, _/_, _≤_, _<_}
 use native.Mathlib.Omega.{arith}
 use native.Mathlib.Nat.{mul-le-mul-left, mul-le-mul-right, suc-mul, one-mul, add-mul, add-zero}
 use lib.ListN.{length, getD, drop}
-use lib.Dec.{ltb, eqb}
+use lib.Dec.{ltb, leb, eqb}
 use native.Mathlib.Numerals.{add-one}
 use borrow.Author.Tests.{lt-ltb, le-ltb, ltb-true, leb-true, eqb-true, eqb-false, eq-eqb, ne-eqb}
 use Rattle.rtp.specs.Sizes.{maxRows, maxFrame, rowWidth}
@@ -71,7 +71,7 @@ answer-attach format ch r gap (groups (g ∷ gs)) =
     let f : suc n * ch * g .length + framesIn ch gs ≡ ch * r .length + (n * ch * g .length + framesIn ch gs) =
     rw (joins-true format r g a .length, frames-more n ch (g .length)) (omega arith) in
     rw (a, t, f, add-one n))
-    (λ a. by-test (eqb (headGap g) 0) (λ b. rw (a, b, one-mul ch)) (λ b. rw (a, b)))
+    (λ a. by-test (leb (headGap g) (maxGap format)) (λ b. rw (a, b, one-mul ch)) (λ b. rw (a, b)))
 
 -- Bounds
 
@@ -97,7 +97,7 @@ small-attach format ch n r gap (Planned.Table p) l s =
       tabled = omega (arith, size-next format (p .blocks), s .entry, s .tabled);
       framed = rw suc-mul (omega (arith, mul-le-mul-left ch l, s .framed));
     }))
-    (λ a. by-test (eqb (p .gap) 0)
+    (λ a. by-test (leb (p .gap) (maxGap format))
     (λ b. rw (a, b) (record {
       few = omega arith;
       entry = omega arith;

@@ -7,25 +7,25 @@ use native.Mathlib.Omega.{arith}
 use native.Mathlib.Nat.{mul-one, mul-suc, le-mul-of-pos-right}
 use lib.ListN.{length, getD, drop, length-drop}
 use lib.Seq.{drop-drop, getD-drop}
-use lib.Dec.{ltb, eqb}
-use borrow.Author.Tests.{ltb-true, ltb-false, eqb-true}
+use lib.Dec.{ltb, leb, eqb}
+use borrow.Author.Tests.{ltb-true, ltb-false, leb-true}
 use Rattle.rtp.specs.Sizes.{rowWidth}
 use Rattle.rtp.proofs.TestLaws.{by-test}
-use Rattle.formats.specs.Formats.{stepOf}
+use Rattle.formats.specs.Formats.{stepOf, maxGap}
 use Rattle.payload.specs.Contents.{Group, Contents, refused, groups}
 use Rattle.payload.specs.Rows.{Row}
 use Rattle.formats.specs.Codes.{noCode, codeFor}
 use Rattle.formats.proofs.FormatLaws.{gap-small}
 use Rattle.encoder.specs.Lists.{rowsIn}
 use Rattle.encoder.specs.Plans.{joinsRun, gapBetween, headGap, single, joins, attach, planFrom}
-use Rattle.encoder.specs.Room.{rowAs, wordsAt, timed, joined, Accepted, blockGaps, runGroup, Halves, Direct}
+use Rattle.encoder.specs.Room.{rowAs, wordsAt, timed, joined, Accepted, blockGaps, runGroup, Halves, Near}
 use Rattle.encoder.proofs.ListLaws.{rows-none}
 use Rattle.encoder.proofs.PlanLaws.{joins-true}
 use Rattle.encoder.proofs.BlockLaws.{no-plan, plan-time, starts-code, Block, block-step}
 
 -- The two ways in which a frame-block makes the plan of those after it a longer one
 data Attached (format : ℕ) (r : Row) (gap : ℕ) (hs : List Group) (g : Group) (gs : List Group) : Type 0 where
-  alone : g ≡ single r gap → gs ≡ hs → Direct hs → joined format r (groups hs) ≡ 0 → Attached format r gap hs g gs
+  alone : g ≡ single r gap → gs ≡ hs → Near format hs → joined format r (groups hs) ≡ 0 → Attached format r gap hs g gs
   together : (h : Group) → hs ≡ h ∷ gs → joins format r h ≡ true → g ≡ record { class = h .class; length = h .length; gaps = gap ∷ h .gaps } → Attached format r gap hs g gs
 
 attached : (format : ℕ) (r : Row) (gap : ℕ) (hs : List Group) (g : Group) (gs : List Group) → attach format r gap (groups hs) ≡ groups (g ∷ gs) → Attached format r gap hs g gs
@@ -35,10 +35,10 @@ attached format r gap (h ∷ hs) g gs e =
     (λ a.
     let x : groups (record { class = h .class; length = h .length; gaps = gap ∷ h .gaps } ∷ hs) ≡ groups (g ∷ gs) = rw a at e in
     together h (cc) a (cc))
-    (λ a. by-test (eqb (headGap h) 0)
+    (λ a. by-test (leb (headGap h) (maxGap format))
     (λ b.
     let x : groups (single r gap ∷ h ∷ hs) ≡ groups (g ∷ gs) = rw (a, b) at e in
-    alone (cc) (cc) (eqb-true (headGap h) 0 b) (rw a))
+    alone (cc) (cc) (leb-true (headGap h) (maxGap format) b) (rw a))
     (λ b. absurd (no-plan (rw (a, b) at e))))
 
 pub attached-some : (format : ℕ) (r : Row) (gap : ℕ) (hs : List Group) → attach format r gap (groups hs) ≡ groups [] → ⊥
@@ -46,7 +46,7 @@ attached-some format r gap [] e = let z : _≡_ {A = ℕ} 0 1 = cc in absurd (om
 attached-some format r gap (h ∷ hs) e =
     by-test (joins format r h)
     (λ a. no-more (rw a at e))
-    (λ a. by-test (eqb (headGap h) 0) (λ b. no-more (rw (a, b) at e)) (λ b. no-plan (rw (a, b) at e)))
+    (λ a. by-test (leb (headGap h) (maxGap format)) (λ b. no-more (rw (a, b) at e)) (λ b. no-plan (rw (a, b) at e)))
   where
     no-more : {g : Group} {gs : List Group} → groups (g ∷ gs) ≡ groups [] → ⊥
     no-more e = let z : _≡_ {A = ℕ} 0 1 = cc in absurd (omega arith)
@@ -82,10 +82,10 @@ pub record Run (format ch : ℕ) (p : Row) (ws : List ℕ) (n : ℕ) (g : Group)
   pub coded : codeFor format (rowAs (wordsAt ws 0) .class) (rowAs (wordsAt ws 0) .length) < noCode
   pub near : headGap g < 16 → Halves (g .gaps)
   pub rest : planFrom format ch 0 (timed (getD ws (rowWidth * ch * n - rowWidth * ch) 0)) (rowsIn (drop (rowWidth * ch * n) ws)) ≡ groups gs
-  pub direct : Direct gs
+  pub follows : Near format gs
 
 module _ (format ch : ℕ) (p : Row) (ws : List ℕ) (g : Group) (gs : List Group) (b : Block format ch p ws (g ∷ gs)) where
-  run-alone : g ≡ single (rowAs (wordsAt ws 0)) (gapBetween (stepOf format) (p .time) (getD ws 0 0)) → gs ≡ b .rest → Direct (b .rest) → Run format ch p ws 1 g gs
+  run-alone : g ≡ single (rowAs (wordsAt ws 0)) (gapBetween (stepOf format) (p .time) (getD ws 0 0)) → gs ≡ b .rest → Near format (b .rest) → Run format ch p ws 1 g gs
   unfolding blockGaps
   run-alone x y d =
       let w : rowWidth * ch * 1 ≡ rowWidth * ch = mul-one (rowWidth * ch) in
@@ -99,7 +99,7 @@ module _ (format ch : ℕ) (p : Row) (ws : List ℕ) (g : Group) (gs : List Grou
         rest = ap (λ (k : ℕ). planFrom format ch 0 (timed (getD ws (k - rowWidth * ch) 0)) (rowsIn (drop k ws))) w
             ∙ ap (λ (k : ℕ). planFrom format ch 0 (timed (getD ws k 0)) (rowsIn (drop (rowWidth * ch) ws))) z
             ∙ plan-time format ch (timed (getD ws 0 0)) (rowAs (wordsAt ws 0)) (rowsIn (drop (rowWidth * ch) ws)) refl ∙ b .planned ∙ ap groups (sym y);
-        direct = subst (λ (k : List Group). Direct k) (sym y) d;
+        follows = subst (λ (k : List Group). Near format k) (sym y) d;
       }
 
   run-together : (m : ℕ) (h : Group) → joins format (rowAs (wordsAt ws 0)) h ≡ true
@@ -120,7 +120,7 @@ module _ (format ch : ℕ) (p : Row) (ws : List ℕ) (g : Group) (gs : List Grou
             ∙ ap (λ (k : ℕ). planFrom format ch 0 (timed k) (rowsIn (drop (rowWidth * ch * suc m) ws))) (sym (getD-drop (rowWidth * ch) ws (rowWidth * ch * m - rowWidth * ch) 0))
             ∙ ap (λ (k : List ℕ). planFrom format ch 0 (timed (getD (drop (rowWidth * ch) ws) (rowWidth * ch * m - rowWidth * ch) 0)) (rowsIn k)) (ap (λ (k : ℕ). drop k ws) w ∙ sym (drop-drop (rowWidth * ch * m) (rowWidth * ch) ws))
             ∙ i .rest;
-        direct = i .direct;
+        follows = i .follows;
       }
 
 pub run : (n format ch : ℕ) (p : Row) (ws : List ℕ) (g : Group) (gs : List Group) → 0 < ch → length (g .gaps) ≡ n → planFrom format ch 0 p (rowsIn ws) ≡ groups (g ∷ gs) → Run format ch p ws n g gs

@@ -16,6 +16,7 @@ use Rattle.rtp.proofs.AreaLaws.{over-none, over-part}
 use Rattle.formats.specs.Formats.{stepOf}
 use Rattle.payload.specs.Contents.{Group, Contents, refused, groups, entrySize, sizeIn}
 use Rattle.payload.specs.Rows.{Row}
+use Rattle.formats.proofs.FormatLaws.{gap-small}
 use Rattle.encoder.specs.Lists.{rowsIn}
 use Rattle.encoder.specs.Plans.{planFrom}
 use Rattle.encoder.specs.Bytes.{entryBytes, tableBytes}
@@ -70,7 +71,7 @@ module _ (format ch p : ℕ) (ws : List ℕ) (area : ℕ) (r : TableRoom format 
             coded = u .coded;
             wide = omega (arith, r .some);
             words = u .enough;
-            small = subst (λ (k : Group). Halves (k .gaps)) (u .group) (u .near (omega (arith, q .0)));
+            small = subst (λ (k : Group). Halves (k .gaps)) (u .group) (u .near (omega (arith, q .0, gap-small format)));
             few = omega (arith, w, u .enough, r .few);
             room = omega (arith, s);
           };
@@ -80,7 +81,7 @@ module _ (format ch p : ℕ) (ws : List ℕ) (area : ℕ) (r : TableRoom format 
             some = r .some;
             channels = r .channels;
             few = omega (arith, r .few, length-drop (rowWidth * ch * n) ws);
-            planned = subst (λ (k : Contents). PlanRoom format (area - entrySize format n) k) (sym (u .rest)) (u .direct, omega (arith, s));
+            planned = subst (λ (k : Contents). PlanRoom format (area - entrySize format n) k) (sym (u .rest)) (u .follows, omega (arith, s));
           };
         }
 

@@ -1,4 +1,4 @@
--- The bytes of a plan and its frames. Reserved and padding bits, and every DIS1, are 0.
+-- The bytes of a plan and its frames. Reserved and padding bits are 0, and so is the first entry's DIS1, since a plan's first gap is.
 use Prim.Native.Nat.{ℕ, _+_, _*_}
 use mathlib.Core.List.{List, [], _∷_, _++_}
 use mathlib.Core.Bool.{Bool, true, false, cond}
@@ -29,7 +29,7 @@ startBytes format more class n blocks = firstByte format more class n ∷ cond (
 abbrev pub gapBytes : ℕ → List ℕ → List ℕ
 gapBytes format gaps = cond (formatOf format .displaced) (halves gaps) []
 
--- an entry's bytes; a plan's first gap in a group is 0, and so is its DIS1
+-- an entry's bytes; a group's first gap is its DIS1
 unfoldable pub entryBytes : ℕ → Bool → Group → List ℕ
 entryBytes format more g = startBytes format more (g .class) (g .length) (length (g .gaps)) ++ gapBytes format (g .gaps)
 

@@ -58,13 +58,14 @@ joinsRun format r class n gap =
 abbrev pub joins : ℕ → Row → Group → Bool
 joins format r g = joinsRun format r (g .class) (g .length) (headGap g)
 
--- a frame-block before a table: it joins the first run, or is a run of its own, which the next run must follow directly
+-- a frame-block before a table: it joins the first run, or is a run of its own, which the next run follows no further apart than an entry can say: directly,
+-- where entries have no displacements (document 02, P5: a later entry's DIS1 says the gap)
 abbrev pub attach : ℕ → Row → ℕ → Contents → Contents
 attach format r gap (refused q) = refused q
 attach format r gap (groups []) = groups (single r gap ∷ [])
 attach format r gap (groups (g ∷ gs)) =
     cond (joins format r g) (groups (record { class = g .class; length = g .length; gaps = gap ∷ g .gaps } ∷ gs))
-    (cond (eqb (headGap g) 0) (groups (single r gap ∷ g ∷ gs)) (refused Unwritable))
+    (cond (leb (headGap g) (maxGap format)) (groups (single r gap ∷ g ∷ gs)) (refused Unwritable))
 
 -- the plan of the rows from channel c on, after the row p
 unfoldable pub planFrom : ℕ → ℕ → ℕ → Row → List Row → Contents

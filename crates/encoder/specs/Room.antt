@@ -4,10 +4,10 @@ use mathlib.Core.Path.{_≡_}
 use mathlib.Core.List.{List, [], _∷_}
 use mathlib.Core.Bool.{false, cond}
 use lib.ListN.{length, getD, drop}
-use lib.Dec.{eqb}
+use lib.Dec.{leb}
 use Rattle.rtp.specs.Sizes.{maxRows, maxFrame, rowWidth}
 use Rattle.payload.specs.Contents.{Group, Contents, refused, groups, minEntry, entrySize, sizeIn, framesIn}
-use Rattle.formats.specs.Formats.{stepOf}
+use Rattle.formats.specs.Formats.{stepOf, maxGap}
 use Rattle.payload.specs.Rows.{Row}
 use Rattle.encoder.specs.declared.lists.RowWords.{RowWords}
 use Rattle.encoder.specs.declared.plans.Plan.{Plan}
@@ -58,7 +58,7 @@ attachPlan format ch r gap (Planned.Table p) =
       table = entrySize format (p .blocks + 1) + (p .table - entrySize format (p .blocks));
       frames = ch * r .length + p .frames;
     }))
-    (cond (eqb (p .gap) 0)
+    (cond (leb (p .gap) (maxGap format))
     (Planned.Table (record {
       class = r .class;
       length = r .length;
@@ -158,14 +158,14 @@ pub record EntryRoom (format width blocks previous : ℕ) (ws : List ℕ) (area 
   pub few : blocks < 256
   pub room : entrySize format blocks ≤ area
 
--- a table's first frame-block follows directly
-abbrev pub Direct : List Group → Type 0
-Direct [] = Unit {0}
-Direct (g ∷ gs) = headGap g ≡ 0
+-- a table's first frame-block is no further apart from the one before than an entry can say
+abbrev pub Near : ℕ → List Group → Type 0
+Near format [] = Unit {0}
+Near format (g ∷ gs) = headGap g ≤ maxGap format
 
 abbrev pub PlanRoom : ℕ → ℕ → Contents → Type 0
 PlanRoom format area (refused q) = ⊥
-PlanRoom format area (groups gs) = Direct gs × (sizeIn format gs ≤ area)
+PlanRoom format area (groups gs) = Near format gs × (sizeIn format gs ≤ area)
 
 pub record TableRoom (format ch previous : ℕ) (ws : List ℕ) (area : ℕ) : Type 0 where
   pub some : 0 < ch

@@ -165,7 +165,7 @@ fn attach_block(format: u8, channels: u32, row: RowWords, gap: u32, rest: Planne
                     frames: all,
                 });
             }
-            if plan.gap == 0 {
+            if plan.gap <= max_gap(format) {
                 return Planned::Table(Plan {
                     class,
                     length,

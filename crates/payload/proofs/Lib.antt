@@ -3,6 +3,7 @@ pub mod ContentsLaws
 pub mod RowLaws
 pub mod GroupLaws
 pub mod TableLaws
+pub mod FirstLaws
 pub mod PayloadLaws
 pub mod RowFactLaws
 pub mod NumberLaws

@@ -1,5 +1,5 @@
 -- Laws of a payload, from what reading its table answered.
-use mathlib.Core.Path.{_≡_, refl, ap, sym, subst}
+use mathlib.Core.Path.{_≡_, refl, ap, sym, subst, _∙_}
 use mathlib.Core.List.{List, [], _∷_}
 use mathlib.Core.Bool.{true, false}
 use Prim.Native.Nat.{ℕ, _+_, _-_, _*_, _≤_, _<_}
@@ -17,12 +17,13 @@ use Rattle.payload.specs.declared.contents.Sizes.{Sizes}
 use Rattle.payload.specs.declared.contents.ContentsRead.{ContentsRead}
 use Rattle.payload.specs.declared.reading.PayloadRead.{PayloadRead}
 use Rattle.formats.specs.Frames.{stepOf}
-use Rattle.payload.specs.Contents.{Group, Contents, refused, groups, contents, rowCount, sizeIn, sizesAnswer}
+use Rattle.payload.specs.Contents.{Group, Contents, refused, groups, contents, passFirst, rowCount, sizeIn, sizesAnswer}
 use Rattle.payload.specs.Rows.{tableRows, timeAfter}
 use Rattle.payload.specs.Payloads.{exact, payload, Rows, noRows, placedRows, payloadRows, rowsWords, rowsAnswer, askedRows}
 use Rattle.payload.specs.Room.{TableRoom, contentsWords}
 use Rattle.payload.proofs.ContentsLaws.{Small, Within, within}
 use Rattle.payload.proofs.GroupLaws.{length-group}
+use Rattle.payload.proofs.FirstLaws.{sizes-passed}
 
 -- as many rows as the table says
 pub length-table : (step ch time start : ℕ) (gs : List Group) → length (tableRows step ch time start gs) ≡ rowCount ch gs
@@ -61,20 +62,23 @@ is format ch n time at t (groups gs) h = subst (λ (x : Sizes). Is format ch n t
 module _ (format ch done time at : ℕ) (s : List ℕ) where
   pub pay-refused : (r : Refusal) → sizesAnswer format ch (contents format ch done s) ≡ ContentsRead.Refused r → payloadRows format ch done time at s ≡ noRows r
   unfolding payloadRows payload placedRows
-  pay-refused r h = rw (exact-refused format ch (length s) r (contents format ch done s) h)
+  pay-refused r h = rw (exact-refused format ch (length s) r (passFirst (contents format ch done s)) (sizes-passed format ch (contents format ch done s) ∙ h))
 
   module _ (t : Sizes) (h : sizesAnswer format ch (contents format ch done s) ≡ ContentsRead.Contents t) where
+    passed : sizesAnswer format ch (passFirst (contents format ch done s)) ≡ ContentsRead.Contents t
+    passed = sizes-passed format ch (contents format ch done s) ∙ h
+
     pub pay-part : (t .size + t .frames ≡ length s → ⊥) → payloadRows format ch done time at s ≡ noRows LengthMismatch
     unfolding payloadRows payload placedRows
-    pay-part f = rw (is format ch (length s) time at t (contents format ch done s) h .part f)
+    pay-part f = rw (is format ch (length s) time at t (passFirst (contents format ch done s)) passed .part f)
 
     pub pay-rows : t .size + t .frames ≡ length s → rowsAnswer (payloadRows format ch done time at s) ≡ PayloadRead.Rows (t .rows)
     unfolding payloadRows payload
-    pay-rows f = let i = is format ch (length s) time at t (contents format ch done s) h in rw (i .whole f) (i .rows)
+    pay-rows f = let i = is format ch (length s) time at t (passFirst (contents format ch done s)) passed in rw (i .whole f) (i .rows)
 
-    pub pay-words : t .size + t .frames ≡ length s → rowsWords (payloadRows format ch done time at s) ≡ contentsWords format ch time (at + t .size) (contents format ch done s)
+    pub pay-words : t .size + t .frames ≡ length s → rowsWords (payloadRows format ch done time at s) ≡ contentsWords format ch time (at + t .size) (passFirst (contents format ch done s))
     unfolding payloadRows payload
-    pay-words f = let i = is format ch (length s) time at t (contents format ch done s) h in rw (i .whole f) (i .words)
+    pay-words f = let i = is format ch (length s) time at t (passFirst (contents format ch done s)) passed in rw (i .whole f) (i .words)
 
     pub pay-small : Small done (length s) t
     pay-small = subst (λ (r : ContentsRead). Within done (length s) r) h (within format ch done s)

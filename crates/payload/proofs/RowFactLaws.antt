@@ -1,5 +1,5 @@
 -- What every row of a payload is like.
-use mathlib.Core.Path.{_≡_, refl, subst}
+use mathlib.Core.Path.{_≡_, refl, sym, subst}
 use mathlib.Core.List.{List, [], _∷_, _++_}
 use mathlib.Core.Bool.{Bool}
 use Prim.Native.Nat.{ℕ, zero, suc, _+_, _*_, _^_, _≤_, _<_}
@@ -14,15 +14,17 @@ use Rattle.rtp.proofs.TestLaws.{by-test}
 use Rattle.formats.specs.declared.frames.Coded.{Coded}
 use Rattle.payload.specs.declared.contents.Entry.{Entry}
 use Rattle.payload.specs.declared.contents.EntryRead.{EntryRead}
+use Rattle.payload.specs.declared.contents.ContentsRead.{ContentsRead}
 use Rattle.formats.specs.Formats.{formatOf}
 use Rattle.formats.specs.Frames.{frameOf, stepOf}
 use Rattle.formats.specs.Codes.{noCode, codeFor}
-use Rattle.payload.specs.Contents.{minEntry, codeIn, blocksIn, entrySize, codedEntry, entryOf, Group, Contents, refused, groups, meaning, prepend, contentsStep, contents, sizeIn, framesIn, sizesAnswer}
+use Rattle.payload.specs.Contents.{minEntry, codeIn, blocksIn, entrySize, codedEntry, entryOf, Group, Contents, refused, groups, meaning, prepend, contentsStep, contents, passFirst, sizeIn, framesIn, sizesAnswer}
 use Rattle.payload.specs.Rows.{Row, placed, nextPlace, timeAfter, blockRows, groupRows, tableRows}
 use Rattle.payload.specs.Payloads.{exact, payload, Rows, noRows, rowsOf, placedRows, payloadRows}
 use Rattle.formats.proofs.CodeLaws.{code-some}
 use Rattle.payload.proofs.EntryLaws.{code-in}
 use Rattle.payload.proofs.ContentsLaws.{contents-step, shorter, Within, within}
+use Rattle.payload.proofs.FirstLaws.{sizes-passed}
 use Rattle.payload.proofs.PayloadLaws.{length-table}
 
 -- a row that was read: its frame is one of the format, its channel one of ch, its time a word, and its bytes lie within n
@@ -68,6 +70,12 @@ entry-coded format s =
 coded-more : (format : ℕ) (g : Group) (p : Contents) → codeFor format (g .class) (g .length) < noCode → CodedIn format p → CodedIn format (prepend g p)
 coded-more format g (refused r) h k = tt
 coded-more format g (groups gs) h k = (h, k)
+
+-- the first entry's DIS1 has no part in it
+coded-passed : (format : ℕ) (p : Contents) → CodedIn format p → CodedIn format (passFirst p)
+coded-passed format (refused r) h = tt
+coded-passed format (groups []) h = tt
+coded-passed format (groups (g ∷ gs)) h = h
 
 coded-step : (format ch rows : ℕ) (s : List ℕ) → ((n : ℕ) (t : List ℕ) → length t < length s → CodedIn format (contents format ch n t))
     → (r : EntryRead) → entryOf format s ≡ r → CodedIn format (contentsStep format ch rows s (λ n t. contents format ch n t) r)
@@ -136,4 +144,6 @@ placed-fine format ch n done time at size (groups gs) e h w =
 pub payload-fine : (format ch n done time at : ℕ) (s : List ℕ) → at + length s ≤ n → FineRows format ch n done (payloadRows format ch done time at s)
 unfolding payloadRows payload
 payload-fine format ch n done time at s e =
-    placed-fine format ch n done time at (length s) (contents format ch done s) e (coded-by (suc (length s)) format ch done s (omega arith)) (within format ch done s)
+    let p = contents format ch done s in
+    placed-fine format ch n done time at (length s) (passFirst p) e (coded-passed format p (coded-by (suc (length s)) format ch done s (omega arith)))
+    (subst (λ (x : ContentsRead). Within done (length s) x) (sym (sizes-passed format ch p)) (within format ch done s))

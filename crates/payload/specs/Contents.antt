@@ -79,9 +79,9 @@ pub data Contents : Type 0 where
 abbrev pub halfAt : List ℕ → ℕ → ℕ
 halfAt s k = cond (eqb (k % 2) 0) (byteAt s (k / 2) / 16) (byteAt s (k / 2) % 16)
 
--- the frame-blocks left out before frame-block k of the entry at the front of s: the displacement; the first one, DIS1, is passed over
+-- the frame-blocks left out before frame-block k of the entry at the front of s: the displacement
 unfoldable pub gapAt : ℕ → List ℕ → ℕ → ℕ
-gapAt format s k = cond (eqb k 0) 0 (cond (formatOf format .displaced) (halfAt (drop (minEntry format) s) k) 0)
+gapAt format s k = cond (formatOf format .displaced) (halfAt (drop (minEntry format) s) k) 0
 
 -- the gaps of n frame-blocks from k on
 unfoldable pub gapsFrom : ℕ → List ℕ → ℕ → ℕ → List ℕ
@@ -111,6 +111,18 @@ contentsBy (suc f) format ch rows s = contentsStep format ch rows s (λ r t. con
 -- the table at the front of s, after `rows` rows of the same packet; an entry with F set is followed by another
 unfoldable pub contents : ℕ → ℕ → ℕ → List ℕ → Contents
 contents format ch rows s = contentsBy (suc (length s)) format ch rows s
+
+-- Document 02, P5: only the first entry's DIS1 is passed over, so that the payload's first frame-block stands at the payload's time. In a later entry it
+-- counts the frame-blocks between the previous group's last and this group's first
+
+abbrev pub direct : List ℕ → List ℕ
+direct [] = []
+direct (gap ∷ gaps) = 0 ∷ gaps
+
+abbrev pub passFirst : Contents → Contents
+passFirst (refused r) = refused r
+passFirst (groups []) = groups []
+passFirst (groups (g ∷ gs)) = groups (record { class = g .class; length = g .length; gaps = direct (g .gaps) } ∷ gs)
 
 -- the table's rows, its bytes and the bytes of the frames that follow
 unfoldable pub rowCount : ℕ → List Group → ℕ

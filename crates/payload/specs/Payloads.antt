@@ -12,7 +12,7 @@ use Rattle.rtp.specs.declared.refusal.Refusal.{Refusal}
 use Rattle.rtp.specs.declared.refusal.Refusal.the-variants.{PacketLength, LengthMismatch, SettingsOutOfRange, AreaTooShort}
 use Rattle.payload.specs.declared.reading.PayloadRead.{PayloadRead}
 use Rattle.formats.specs.Frames.{stepOf}
-use Rattle.payload.specs.Contents.{Contents, refused, groups, contents, sizeIn, framesIn}
+use Rattle.payload.specs.Contents.{Contents, refused, groups, contents, passFirst, sizeIn, framesIn}
 use Rattle.payload.specs.Rows.{Row, words, tableRows}
 
 -- a table and just the frames that it tells of, in n bytes
@@ -22,7 +22,7 @@ exact format ch n (groups gs) = cond (eqb (sizeIn format gs + framesIn ch gs) n)
 
 -- the payload s after `rows` rows of the same packet
 unfoldable pub payload : ℕ → ℕ → ℕ → List ℕ → Contents
-payload format ch rows s = exact format ch (length s) (contents format ch rows s)
+payload format ch rows s = exact format ch (length s) (passFirst (contents format ch rows s))
 
 -- rows, or why there are none
 pub data Rows : Type 0 where

@@ -5,7 +5,8 @@ use lib.ListN.{length}
 use Rattle.rtp.specs.Sizes.{rowWidth}
 use Rattle.payload.specs.declared.contents.ContentsRead.{ContentsRead}
 use Rattle.formats.specs.Frames.{stepOf, maxClass}
-use Rattle.payload.specs.Contents.{entrySize, Contents, refused, groups}
+use Rattle.rtp.specs.Time.{difference}
+use Rattle.payload.specs.Contents.{entrySize, gapAt, Contents, refused, groups}
 use Rattle.payload.specs.Rows.{words, tableRows}
 
 pub record RowRoom (channel class start size area : ℕ) : Type 0 where
@@ -36,3 +37,7 @@ TableRoom ch start area (ContentsRead.Contents t) = (rowWidth * t .rows ≤ area
 unfoldable pub contentsWords : ℕ → ℕ → ℕ → ℕ → Contents → List ℕ
 contentsWords format ch time start (refused r) = []
 contentsWords format ch time start (groups gs) = words (tableRows (stepOf format) ch time start gs)
+
+-- the time from which the rows of a payload at `time` are counted with every displacement, its first entry's DIS1 included: that one is passed over
+abbrev pub originOf : ℕ → ℕ → List ℕ → ℕ
+originOf format time s = difference time (gapAt format s 0 * stepOf format)

@@ -57,7 +57,7 @@ groupRows step ch time class start len [] = []
 groupRows step ch time class start len (g ∷ gs) =
     blockRows ch 0 (placed step time g) class start len ++ groupRows step ch (nextPlace step time g) class (start + ch * len) len gs
 
--- a table's groups, one after another: a later group's first frame-block follows the last directly
+-- a table's groups, one after another
 unfoldable pub tableRows : ℕ → ℕ → ℕ → ℕ → List Group → List Row
 tableRows step ch time start [] = []
 tableRows step ch time start (g ∷ gs) =

@@ -147,9 +147,6 @@ pub(crate) fn gap(format: u8, s: &[u8], k: usize) -> u32
     requires { ⌜ entrySize format (k + 1) ≤ length (now s) ⌝ }
     ensures { λ r. ⌜ (r ≡ gapAt format (now (s .entry)) k) × (r < 16) ⌝ }
 {
-    if k == 0 {
-        return 0;
-    }
     if facts::format_of(format).displaced {
         let pair = s[min_entry(format) + k / 2] as u32;
         if k % 2 == 0 { pair / 16 } else { pair % 16 }

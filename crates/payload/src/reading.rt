@@ -73,7 +73,7 @@ pub fn read_payload(
                         asked.format,
                         asked.channels as usize,
                         done as usize,
-                        time,
+                        rows::origin(asked.format, time, s),
                         (at as usize) + sizes.size,
                     );
                     PayloadRead::Rows(sizes.rows as u32)

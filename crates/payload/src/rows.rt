@@ -4,14 +4,15 @@ use crate::contents::EntryRead;
 use formats::frames;
 use formats::tagging;
 use rtp::sizes::ROW_WIDTH;
+use rtp::time;
 ghost use mathlib.Core.Path.{_≡_};
-ghost use Prim.Native.Nat.{_*_};
+ghost use Prim.Native.Nat.{_*_, _≤_, _<_};
 ghost use lib.ListN.{length};
 ghost use Rattle.rtp.specs.Areas.{over};
 ghost use Rattle.formats.specs.Frames.{stepOf};
-ghost use Rattle.payload.specs.Contents.{gapsFrom, contents, sizesAnswer};
+ghost use Rattle.payload.specs.Contents.{entrySize, gapAt, gapsFrom, contents, sizesAnswer};
 ghost use Rattle.payload.specs.Rows.{rowWords, words, blockRows, groupRows, timeAfter};
-ghost use Rattle.payload.specs.Room.{RowRoom, BlockRoom, GroupRoom, TableRoom, contentsWords};
+ghost use Rattle.payload.specs.Room.{RowRoom, BlockRoom, GroupRoom, TableRoom, contentsWords, originOf};
 
 // A row at the front of the area.
 fn put_row(rows: &mut [u32], time: u32, class: usize, channel: usize, start: usize, size: usize)
@@ -94,7 +95,16 @@ fn put_group(
     )
 }
 
-// The rows of the table at the front of s, where `done` rows came before it, its first frame-block stands at `time` and its
+// The time from which the rows of a payload at `time` are counted: its first entry's DIS1 is passed over.
+pub(crate) fn origin(format: u8, time: u32, s: &[u8]) -> u32
+    requires { ⌜ entrySize format 1 ≤ length (now s) ⌝ }
+    ensures { λ r. ⌜ (r ≡ originOf format time (now (s .entry))) × (gapAt format (now (s .entry)) 0 < 16) ⌝ }
+{
+    let skipped = contents::gap(format, s, 0) * frames::step_of(format);
+    time::difference(time, skipped)
+}
+
+// The rows of the table at the front of s, where `done` rows came before it, its frame-blocks are counted from `time` and its
 // frames start at `start`.
 pub(crate) fn put_contents(
     rows: &mut [u32],

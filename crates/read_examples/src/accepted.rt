@@ -54,7 +54,7 @@ pub(crate) fn few_blocks() {
     example::redundant(b"no block with bytes", mono, b"\x61", 13);
 }
 
-// Reserved bits, padding bits and each entry's first displacement set.
+// Reserved bits, padding bits and the first entry's DIS1 set; a later entry's DIS1 says the gap before it.
 pub(crate) fn ignored_bits() {
     let mono = example::agreed(1, 1);
     let interleaved = example::agreed(2, 1);

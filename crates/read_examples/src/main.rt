@@ -2,6 +2,7 @@
 // sequence, timestamp and source, and a line for each row with its time, class, channel, start and length.
 mod accepted;
 mod example;
+mod groups;
 mod refused;
 mod tables;
 
@@ -16,6 +17,9 @@ fn main() {
     accepted::few_blocks();
     accepted::ignored_bits();
     accepted::times();
+    groups::two();
+    groups::more();
+    groups::in_a_block();
     refused::lengths_and_version();
     refused::headers();
     refused::padding();

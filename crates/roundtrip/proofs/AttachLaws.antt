@@ -5,8 +5,8 @@ use mathlib.Core.Bool.{true}
 use Prim.Native.Nat.{ℕ, zero, suc, _≤_, _<_}
 use native.Mathlib.Omega.{arith}
 use lib.ListN.{length, getD}
-use lib.Dec.{eqb}
-use borrow.Author.Tests.{le-leb, eq-eqb, eqb-true}
+use lib.Dec.{leb}
+use borrow.Author.Tests.{le-leb, eq-eqb, leb-true}
 use Rattle.rtp.proofs.TestLaws.{by-test, not-both}
 use Rattle.formats.specs.Formats.{formatOf, maxGap}
 use Rattle.payload.specs.Contents.{Group, groups}
@@ -65,10 +65,10 @@ attached format r gap (g ∷ gs) new h =
       runs = λ c l. (longer-run format r gap g j (l .0), l .1);
       first = refl;
     }))
-    (λ a. by-test (eqb (headGap g) 0)
+    (λ a. by-test (leb (headGap g) (maxGap format))
     (λ b. subst (Attached format r gap (g ∷ gs)) (same-groups _ new (rw (a, b) at h)) (record {
       blocks = refl;
-      runs = λ c l. (alone-run format r gap c, (l .0, eqb-true (headGap g) 0 b, l .1));
+      runs = λ c l. (alone-run format r gap c, (l .0, leb-true (headGap g) (maxGap format) b, l .1));
       first = refl;
     }))
     (λ b. let k = rw (a, b) at h in let z : _≡_ {A = ℕ} 0 1 = cc in absurd (omega arith)))

@@ -10,7 +10,7 @@ use Rattle.rtp.specs.Sizes.{maxRows}
 use Rattle.rtp.proofs.RedundancyLaws.{bytes-drop}
 use Rattle.payload.specs.Contents.{Group, rowCount}
 use Rattle.payload.specs.Rows.{Row}
-use Rattle.formats.specs.Formats.{formatOf}
+use Rattle.formats.specs.Formats.{formatOf, maxGap}
 use Rattle.encoder.specs.Plans.{headGap}
 use Rattle.encoder.specs.Bytes.{halves, firstByte, startBytes, gapBytes, entryBytes, tableBytes, frameIn, frames}
 use Rattle.roundtrip.specs.ReadingBack.{Bytes}
@@ -44,7 +44,7 @@ bytes-either : (t : Bool) (a b : List ℕ) → (t ≡ true → Bytes a) → (t �
 bytes-either true a b h k = h refl
 bytes-either false a b h k = k refl
 
-bytes-entry : (format : ℕ) (more : Bool) (g : Group) → Run format g → headGap g ≡ 0 → length (g .gaps) < 256 → Bytes (entryBytes format more g)
+bytes-entry : (format : ℕ) (more : Bool) (g : Group) → Run format g → headGap g ≤ maxGap format → length (g .gaps) < 256 → Bytes (entryBytes format more g)
 unfolding entryBytes
 bytes-entry format more g r f few =
     bytes-append (startBytes format more (g .class) (g .length) (length (g .gaps))) (gapBytes format (g .gaps))

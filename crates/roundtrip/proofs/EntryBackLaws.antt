@@ -116,22 +116,23 @@ module _ (format : ℕ) (more : Bool) (g : Group) (rest : List ℕ) (r : Run for
         ne-eqb (length (g .gaps)) 0 none,
       )
 
-  module _ (f : headGap g ≡ 0) where
+  module _ (f : headGap g ≤ maxGap format) where
+    near : (i : ℕ) → getD (g .gaps) i 0 ≤ maxGap format
+    near zero = f
+    near (suc i) = r .near i
+
     pub small-gaps : (i : ℕ) → getD (g .gaps) i 0 < 16
-    small-gaps zero = omega arith
-    small-gaps (suc i) = omega (arith, r .near i, gap-small format)
+    small-gaps i = omega (arith, near i, gap-small format)
 
     gap-back : (i : ℕ) → i < length (g .gaps) → gapAt format (entryBytes format more g ++ rest) (0 + i) ≡ getD (g .gaps) i 0
     unfolding gapAt maxGap
-    gap-back zero h = sym f
-    gap-back (suc i) h =
-        let later : suc i ≡ 0 → ⊥ = omega arith in
-        rw (zero-add, ne-eqb (suc i) 0 later, gaps-back)
+    gap-back i h =
+        rw (zero-add, gaps-back)
         (by-test (formatOf format .displaced)
-        (λ b. rw b (half-back (g .gaps) rest (suc i) small-gaps h))
-        (λ b. let n : getD (g .gaps) (suc i) 0 ≤ 0 = rw b at (r .near i) in rw b (omega arith)))
+        (λ b. rw b (half-back (g .gaps) rest i small-gaps h))
+        (λ b. let n : getD (g .gaps) i 0 ≤ 0 = rw b at (near i) in rw b (omega arith)))
 
-pub meaning-back : (format : ℕ) (more : Bool) (g : Group) (rest : List ℕ) → Run format g → headGap g ≡ 0
+pub meaning-back : (format : ℕ) (more : Bool) (g : Group) (rest : List ℕ) → Run format g → headGap g ≤ maxGap format
     → meaning format (entryBytes format more g ++ rest) (entryFor format more g) ≡ g
 unfolding meaning
 meaning-back format more g rest r f =

@@ -24,6 +24,7 @@ use Rattle.roundtrip.specs.ReadingBack.{SameFrames}
 use Rattle.roundtrip.proofs.TableBackLaws.{Runs, table-back}
 use Rattle.roundtrip.proofs.TableBlockLaws.{blocksIn, table-blocks, Laid, laid-blocks}
 use Rattle.roundtrip.proofs.FrameLaws.{length-plains, laid-same}
+use Rattle.roundtrip.proofs.ReadLaws.{pass-none}
 use Rattle.roundtrip.proofs.PlanRowLaws.{Times}
 use Rattle.roundtrip.proofs.PlanTableLaws.{Tabled, plan-table, frames-same}
 use Rattle.roundtrip.proofs.SameFrameLaws.{same-longer}
@@ -70,7 +71,7 @@ module _ (format ch : ℕ) (bytes : List ℕ) (rs : List Row) (gs : List Group) 
 
   planned-read : (done at : ℕ) → done + length rs ≤ maxRows → payloadRows format ch done (firstTime rs) at Planned ≡ rowsOf (PlannedRows at)
   unfolding payloadRows payload placedRows
-  planned-read done at h = rw (planned-contents done h, eq-eqb (sizeIn format gs + framesIn ch gs) (length Planned) (sym planned-length))
+  planned-read done at h = rw (planned-contents done h, pass-none gs (v .first), eq-eqb (sizeIn format gs + framesIn ch gs) (length Planned) (sym planned-length))
 
   planned-laid : (at : ℕ) → Laid (at + sizeIn format gs) (PlannedRows at)
   planned-laid at =

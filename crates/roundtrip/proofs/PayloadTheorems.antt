@@ -13,10 +13,11 @@ use Rattle.rtp.specs.declared.settings.Settings.{Settings}
 use Rattle.rtp.specs.declared.refusal.Refusal.the-variants.{Unwritable, AreaTooShort}
 use Rattle.rtp.proofs.TestLaws.{by-test}
 use Rattle.formats.specs.Formats.{stepOf}
-use Rattle.payload.specs.Contents.{Group, Contents, refused, groups, contents, rowCount, sizeIn, framesIn, sizesAnswer}
+use Rattle.payload.specs.Contents.{Group, Contents, refused, groups, contents, passFirst, rowCount, sizeIn, framesIn, sizesAnswer}
 use Rattle.payload.specs.Rows.{Row, tableRows}
 use Rattle.payload.specs.Payloads.{exact, payload, rowsOf, placedRows, payloadRows}
-use Rattle.payload.proofs.ContentsLaws.{Small, within}
+use Rattle.payload.proofs.ContentsLaws.{Small, Within, within}
+use Rattle.payload.proofs.FirstLaws.{sizes-passed}
 use Rattle.payload.specs.Rows.{rowsIn}
 use Rattle.encoder.specs.Lists.{firstTime, whole, outside}
 use Rattle.encoder.specs.Plans.{maxPayload, plan}
@@ -32,7 +33,7 @@ use Rattle.roundtrip.proofs.FrameLaws.{plains, same-plains}
 use Rattle.roundtrip.proofs.PlanRowLaws.{Times}
 use Rattle.roundtrip.proofs.PlanTableLaws.{Only, only-plan, plan-table, Plan, table-plan}
 use Rattle.roundtrip.proofs.PayloadBackLaws.{payload-back}
-use Rattle.roundtrip.proofs.ReadLaws.{read-runs}
+use Rattle.roundtrip.proofs.ReadLaws.{read-passed}
 
 -- A list's times
 
@@ -112,34 +113,37 @@ round-trip st ws bytes area p words h =
 -- the table of a payload that reads to rows
 record Parsed (format ch time : ℕ) (p : List ℕ) (rows : List Row) : Type 0 where
   table : List Group
-  is : contents format ch 0 p ≡ groups table
+  is : passFirst (contents format ch 0 p) ≡ groups table
   size : sizeIn format table + framesIn ch table ≡ length p
   same : tableRows (stepOf format) ch time (0 + sizeIn format table) table ≡ rows
 
 parsed : (format ch time : ℕ) (p : List ℕ) (rows : List Row) → payloadRows format ch 0 time 0 p ≡ rowsOf rows → Parsed format ch time p rows
 unfolding payloadRows payload placedRows
-parsed format ch time p rows h = go (contents format ch 0 p) refl h
+parsed format ch time p rows h = go (passFirst (contents format ch 0 p)) refl h
   where
     same-rows : (a b : List Row) → rowsOf a ≡ rowsOf b → a ≡ b
     same-rows a b e = cc
 
-    go : (x : Contents) → contents format ch 0 p ≡ x → placedRows format ch time 0 (exact format ch (length p) x) ≡ rowsOf rows → Parsed format ch time p rows
+    go : (x : Contents) → passFirst (contents format ch 0 p) ≡ x → placedRows format ch time 0 (exact format ch (length p) x) ≡ rowsOf rows → Parsed format ch time p rows
     go (refused q) e k = let z : _≡_ {A = ℕ} 0 1 = cc in absurd (omega arith)
     go (groups gs) e k =
         by-test (eqb (sizeIn format gs + framesIn ch gs) (length p))
         (λ t. record { table = gs; is = e; size = eqb-true _ _ t; same = same-rows _ rows (rw t at k) })
         (λ t. let y = rw t at k in let z : _≡_ {A = ℕ} 0 1 = cc in absurd (omega arith))
 
-few-rows : (format ch : ℕ) (p : List ℕ) (gs : List Group) → contents format ch 0 p ≡ groups gs → rowCount ch gs ≤ maxRows
+few-rows : (format ch : ℕ) (p : List ℕ) (gs : List Group) → passFirst (contents format ch 0 p) ≡ groups gs → rowCount ch gs ≤ maxRows
 unfolding sizesAnswer
-few-rows format ch p gs h = let w : Small 0 (length p) _ = rw h at (within format ch 0 p) in omega (arith, w .few)
+few-rows format ch p gs h =
+    let v : Within 0 (length p) (sizesAnswer format ch (passFirst (contents format ch 0 p))) = subst (Within 0 (length p)) (sym (sizes-passed format ch (contents format ch 0 p))) (within format ch 0 p) in
+    let w : Small 0 (length p) _ = rw h at v in
+    omega (arith, w .few)
 
 -- a list that some payload reads to has a plan
 readable-plan : (st : Settings) (ws bytes p : List ℕ) → Words ws → inRange st ≡ true → Bytes p → length p ≤ maxPayload → ReadsTo st p bytes ws
     → Plan (st .format) (st .channels) (rowsIn ws)
 readable-plan st ws bytes p words range bs l r =
     let k = parsed (st .format) (st .channels) (firstTime (rowsIn ws)) p (r .rows) (r .read) in
-    let v = read-runs (st .format) (st .channels) 0 p (k .table) bs (k .is) in
+    let v = read-passed (st .format) (st .channels) 0 p (k .table) bs (k .is) in
     table-plan (st .format) (st .channels) (0 + sizeIn (st .format) (k .table)) (rowsIn ws) (k .table) (in-range-some st range) (times ws words) (v .0) (v .1)
     (few-rows (st .format) (st .channels) p (k .table) (k .is)) (omega (arith, k .size)) (sym (same-plains p bytes (r .rows) (rowsIn ws) (r .same)) ∙ ap plains (sym (k .same)))
 

@@ -65,7 +65,7 @@ fit-runs format [] v = tt
 fit-runs format (g ∷ gs) v = fit-more format (g .class) (g .length) (g .gaps) (blocksIn gs) (v .0 .code) small (fit-runs format gs (v .2))
   where
     small : (i : ℕ) → getD (g .gaps) i 0 ≤ 15
-    small zero = omega (arith, v .1)
+    small zero = omega (arith, v .1, gap-small format)
     small (suc i) = omega (arith, v .0 .near i, gap-small format)
 
 -- The plan of their rows

@@ -6,11 +6,11 @@ use Prim.Native.Nat.{ℕ, _+_, _^_, _≤_, _<_}
 use native.Mathlib.Omega.{arith}
 use native.Mathlib.Nat.{mod-lt, le-mul-of-pos-right}
 use lib.ListN.{length}
-use lib.Dec.{ltb, eqb}
+use lib.Dec.{ltb, leb, eqb}
 use borrow.Author.Tests.{le-ltb, ltb-false, eq-eqb}
 use Rattle.rtp.specs.Sizes.{maxRows}
 use Rattle.rtp.specs.declared.refusal.Refusal.the-variants.{Unwritable}
-use Rattle.formats.specs.Formats.{stepOf}
+use Rattle.formats.specs.Formats.{stepOf, maxGap}
 use Rattle.payload.specs.Contents.{Group, Contents, refused, groups, rowCount, sizeIn, framesIn}
 use Rattle.payload.specs.Rows.{Row, tableRows}
 use Rattle.payload.proofs.PayloadLaws.{length-table}
@@ -40,7 +40,7 @@ only-either false x y a b = b
 only-attach : (format : ℕ) (r : Row) (gap : ℕ) (x : Contents) → Only x → Only (attach format r gap x)
 only-attach format r gap (refused q) h = h
 only-attach format r gap (groups []) h = tt
-only-attach format r gap (groups (g ∷ gs)) h = only-either (joins format r g) (groups _) _ tt (only-either (eqb (headGap g) 0) (groups _) (refused Unwritable) tt refl)
+only-attach format r gap (groups (g ∷ gs)) h = only-either (joins format r g) (groups _) _ tt (only-either (leb (headGap g) (maxGap format)) (groups _) (refused Unwritable) tt refl)
 
 only-from : (format ch c : ℕ) (p : Row) (rs : List Row) → Only (planFrom format ch c p rs)
 unfolding planFrom
@@ -79,6 +79,7 @@ planned-rows format ch start p rs gs k =
 pub record Tabled (format ch : ℕ) (rs : List Row) (gs : List Group) : Type 0 where
   pub rows : (start : ℕ) → plains rs ≡ plains (tableRows (stepOf format) ch (firstTime rs) start gs)
   pub runs : Runs format gs
+  pub first : firstGap gs ≡ 0
   pub some : 1 ≤ length gs
   pub few : rowCount ch gs ≤ maxRows
   pub fits : sizeIn format gs + framesIn ch gs ≤ maxPayload
@@ -89,7 +90,7 @@ passed false x gs h = (refl, h)
 
 runs-first : (format : ℕ) (gs : List Group) → Later format gs → firstGap gs ≡ 0 → Runs format gs
 runs-first format [] l f = tt
-runs-first format (g ∷ gs) l f = (l .0, f, l .1)
+runs-first format (g ∷ gs) l f = (l .0, omega arith, l .1)
 
 -- a table that says a row is not empty
 some-group : (step ch time start : ℕ) (r : Row) (rs : List Row) (gs : List Group) → plains (r ∷ rs) ≡ plains (tableRows step ch time start gs) → 1 ≤ length gs
@@ -122,6 +123,7 @@ plan-table format ch (r ∷ rs) gs some ts h =
     record {
       rows = rows;
       runs = runs-first format gs (k .runs) (begun format ch q r rs gs (b .0) .put .first ∙ f .gap);
+      first = begun format ch q r rs gs (b .0) .put .first ∙ f .gap;
       some = some-group step ch (r .time) 0 r rs gs (rows 0);
       few = omega (arith, rows-same step ch (r .time) 0 (r ∷ rs) gs (rows 0), ltb-false maxRows (length (r ∷ rs)) (a .0));
       fits = b .1;

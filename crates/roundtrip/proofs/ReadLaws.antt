@@ -1,5 +1,5 @@
--- Laws of a table of contents that was read: its groups are runs, each directly after the one before.
-use mathlib.Core.Path.{_≡_, refl, _∙_, subst}
+-- Laws of a table of contents that was read: its groups are runs, one after another, also with the first entry's DIS1 passed over.
+use mathlib.Core.Path.{_≡_, refl, ap, sym, _∙_, subst}
 use mathlib.Core.List.{List, [], _∷_}
 use mathlib.Core.Bool.{Bool}
 use Prim.Native.Nat.{ℕ, zero, suc, _+_, _*_, _/_, _%_, _≤_, _<_}
@@ -15,15 +15,16 @@ use Rattle.formats.specs.declared.frames.Coded.{Coded}
 use Rattle.payload.specs.declared.contents.Entry.{Entry}
 use Rattle.payload.specs.declared.contents.EntryRead.{EntryRead}
 use Rattle.formats.specs.Frames.{frameOf}
-use Rattle.payload.specs.Contents.{minEntry, codeIn, blocksIn, entrySize, codedEntry, entryOf, Group, Contents, refused, groups, halfAt, gapAt, gapsFrom, meaning, prepend, contentsStep, contents}
+use Rattle.payload.specs.Contents.{minEntry, codeIn, blocksIn, entrySize, codedEntry, entryOf, Group, Contents, refused, groups, halfAt, gapAt, gapsFrom, meaning, prepend, contentsStep, contents, direct, passFirst}
 use Rattle.payload.proofs.EntryLaws.{past, same-entry, code-in, fair}
 use Rattle.payload.proofs.ContentsLaws.{contents-step, shorter, blocks-of}
+use Rattle.payload.proofs.FirstLaws.{length-direct}
 use Rattle.formats.specs.Codes.{noCode, codeFor}
 use Rattle.encoder.specs.Plans.{headGap}
 use Rattle.formats.proofs.CodeLaws.{code-some}
 use Rattle.roundtrip.proofs.EntryBackLaws.{Run}
 use Rattle.roundtrip.proofs.TableBackLaws.{Runs}
-use Rattle.roundtrip.proofs.AttachLaws.{same-groups}
+use Rattle.roundtrip.proofs.AttachLaws.{same-groups, firstGap}
 
 -- The gaps of an entry
 
@@ -33,19 +34,13 @@ half-small s k bs = by-test (eqb (k % 2) 0) (λ a. rw a (omega (arith, bs (k / 2
 gap-near : (format : ℕ) (s : List ℕ) (k : ℕ) → Bytes s → gapAt format s k ≤ maxGap format
 unfolding gapAt maxGap
 gap-near format s k bs =
-    by-test (eqb k 0) (λ a. rw a (omega arith))
-    (λ a. by-test (formatOf format .displaced) (λ b. rw (a, b) (half-small (drop (minEntry format) s) k (bytes-drop (minEntry format) s bs))) (λ b. rw (a, b) (omega arith)))
+    by-test (formatOf format .displaced) (λ b. rw b (half-small (drop (minEntry format) s) k (bytes-drop (minEntry format) s bs))) (λ b. rw b (omega arith))
 
 gaps-near : (format : ℕ) (s : List ℕ) (k n i : ℕ) → Bytes s → getD (gapsFrom format s k n) i 0 ≤ maxGap format
 unfolding gapsFrom
 gaps-near format s k zero i bs = omega arith
 gaps-near format s k (suc n) zero bs = gap-near format s k bs
 gaps-near format s k (suc n) (suc i) bs = gaps-near format s (k + 1) n i bs
-
-gaps-first : (format : ℕ) (s : List ℕ) (n : ℕ) → getD (gapsFrom format s 0 n) 0 0 ≡ 0
-unfolding gapsFrom gapAt
-gaps-first format s zero = refl
-gaps-first format s (suc n) = refl
 
 -- An entry
 
@@ -80,9 +75,9 @@ read-run format s e h bs =
       alone = λ a. n ∙ t .blocks ∙ rw a;
     }
 
-read-first : (format : ℕ) (s : List ℕ) (e : Entry) → headGap (meaning format s e) ≡ 0
+read-first : (format : ℕ) (s : List ℕ) (e : Entry) → Bytes s → headGap (meaning format s e) ≤ maxGap format
 unfolding meaning
-read-first format s e = gaps-first format s (e .blocks)
+read-first format s e bs = gaps-near format s 0 (e .blocks) 0 bs
 
 -- A table
 
@@ -99,11 +94,11 @@ read-step format ch rows s hs bs ih (EntryRead.Entry e) h k =
     (λ a. let y = rw a at k in let z : _≡_ {A = ℕ} 0 1 = cc in absurd (omega arith))
     (λ a. by-test (e .more)
     (λ b. more (contents format ch (rows + e .blocks * ch) (drop (e .size) s)) refl (rw (a, b) at k))
-    (λ b. subst (Read format) (same-groups (meaning format s e ∷ []) hs (rw (a, b) at k)) ((read-run format s e h bs, read-first format s e, tt), omega arith)))
+    (λ b. subst (Read format) (same-groups (meaning format s e ∷ []) hs (rw (a, b) at k)) ((read-run format s e h bs, read-first format s e bs, tt), omega arith)))
   where
     more : (x : Contents) → contents format ch (rows + e .blocks * ch) (drop (e .size) s) ≡ x → prepend (meaning format s e) x ≡ groups hs → Read format hs
     more (refused q) i j = let z : _≡_ {A = ℕ} 0 1 = cc in absurd (omega arith)
-    more (groups gs) i j = subst (Read format) (same-groups (meaning format s e ∷ gs) hs j) ((read-run format s e h bs, read-first format s e, ih (rows + e .blocks * ch) e h gs i .0), omega arith)
+    more (groups gs) i j = subst (Read format) (same-groups (meaning format s e ∷ gs) hs j) ((read-run format s e h bs, read-first format s e bs, ih (rows + e .blocks * ch) e h gs i .0), omega arith)
 
 read-by : (f format ch rows : ℕ) (s : List ℕ) (hs : List Group) → length s < f → Bytes s → contents format ch rows s ≡ groups hs → Read format hs
 read-by zero format ch rows s hs l bs h = absurd (omega arith)
@@ -113,3 +108,38 @@ read-by (suc f) format ch rows s hs l bs h =
 
 pub read-runs : (format ch rows : ℕ) (s : List ℕ) (hs : List Group) → Bytes s → contents format ch rows s ≡ groups hs → Read format hs
 read-runs format ch rows s hs bs h = read-by (suc (length s)) format ch rows s hs (omega arith) bs h
+
+-- The first entry's DIS1 passed over
+
+run-direct : (format : ℕ) (g : Group) → Run format g → Run format (record { class = g .class; length = g .length; gaps = direct (g .gaps) })
+run-direct format g r =
+    let n = length-direct (g .gaps) in
+    record { code = r .code; some = omega (arith, r .some); near = λ i. later (g .gaps) i (r .near i); alone = λ a. n ∙ r .alone a }
+  where
+    later : (l : List ℕ) (i : ℕ) → getD l (suc i) 0 ≤ maxGap format → getD (direct l) (suc i) 0 ≤ maxGap format
+    later [] i h = h
+    later (x ∷ l) i h = h
+
+direct-first : (l : List ℕ) → getD (direct l) 0 0 ≡ 0
+direct-first [] = refl
+direct-first (x ∷ l) = refl
+
+-- of a table that was read
+pub read-passed : (format ch rows : ℕ) (s : List ℕ) (hs : List Group) → Bytes s → passFirst (contents format ch rows s) ≡ groups hs → Read format hs
+read-passed format ch rows s hs bs h = go (contents format ch rows s) refl h
+  where
+    go : (x : Contents) → contents format ch rows s ≡ x → passFirst x ≡ groups hs → Read format hs
+    go (refused q) e k = let z : _≡_ {A = ℕ} 0 1 = cc in absurd (omega arith)
+    go (groups []) e k = let r = read-runs format ch rows s [] bs e in absurd (omega (arith, r .1))
+    go (groups (g ∷ gs)) e k =
+        let r = read-runs format ch rows s (g ∷ gs) bs e in
+        subst (Read format) (same-groups _ hs k) ((run-direct format g (r .0 .0), omega (arith, direct-first (g .gaps)), r .0 .2), omega arith)
+
+-- where nothing stands before the first frame-block, nothing is passed over
+pub pass-none : (gs : List Group) → firstGap gs ≡ 0 → passFirst (groups gs) ≡ groups gs
+pass-none [] f = refl
+pass-none (g ∷ gs) f = λ j. groups (record { class = g .class; length = g .length; gaps = same (g .gaps) f j } ∷ gs)
+  where
+    same : (l : List ℕ) → getD l 0 0 ≡ 0 → direct l ≡ l
+    same [] e = refl
+    same (x ∷ l) e = ap (λ (y : ℕ). y ∷ l) (sym e)

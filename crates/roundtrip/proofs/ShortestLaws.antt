@@ -5,7 +5,7 @@ use mathlib.Core.Bool.{true, false, cond}
 use Prim.Native.Nat.{ℕ, suc, _+_, _≤_}
 use native.Mathlib.Omega.{arith}
 use lib.ListN.{length, getD, length-append}
-use borrow.Author.Tests.{eq-eqb}
+use borrow.Author.Tests.{le-leb}
 use Rattle.rtp.proofs.TestLaws.{by-test, not-both}
 use Rattle.formats.specs.Formats.{formatOf, maxGap}
 use Rattle.payload.specs.Contents.{gapsSize, entrySize, Group, Contents, groups, sizeIn}
@@ -52,12 +52,12 @@ module _ (format class len : ℕ) where
       (λ t. rw t (rw (joins-so format row (run (b ∷ gaps)) (record { runs = n; class = refl; length = refl; near = l }))))
 
   -- the last one of a group
-  merge-one : (a : ℕ) (gs : List Group) → firstGap gs ≡ 0 → attach format row a (groups gs) ≡ groups (merge format (run (a ∷ [])) gs)
+  merge-one : (a : ℕ) (gs : List Group) → firstGap gs ≤ maxGap format → attach format row a (groups gs) ≡ groups (merge format (run (a ∷ [])) gs)
   merge-one a [] f = refl
-  merge-one a (g ∷ gs) f = by-test (joins format row g) (λ t. rw t) (λ t. rw (t, eq-eqb (headGap g) 0 f))
+  merge-one a (g ∷ gs) f = by-test (joins format row g) (λ t. rw t) (λ t. rw (t, le-leb (headGap g) (maxGap format) f))
 
   merge-all : (a : ℕ) (gaps : List ℕ) (bs : List Block) (gs : List Group) → ((i : ℕ) → getD gaps i 0 ≤ maxGap format) → (formatOf format .counted ≡ false → length gaps ≡ 0)
-      → attachAll format bs ≡ groups gs → firstGap gs ≡ 0
+      → attachAll format bs ≡ groups gs → firstGap gs ≤ maxGap format
       → attachAll format (blocksOf class len (a ∷ gaps) ++ bs) ≡ groups (merge format (run (a ∷ gaps)) gs)
   merge-all a [] bs gs near alone e f = rw e (merge-one a gs f)
   merge-all a (b ∷ gaps) bs gs near alone e f =
@@ -92,18 +92,18 @@ pub record Shorter (format : ℕ) (hs : List Group) : Type 0 where
   pub table : List Group
   pub made : attachAll format (blocksIn hs) ≡ groups table
   pub size : sizeIn format table ≤ sizeIn format hs
-  pub first : firstGap table ≡ 0
+  pub first : firstGap table ≤ maxGap format
 
 pub shortest : (format : ℕ) (hs : List Group) → Runs format hs → Shorter format hs
 unfolding sizeIn
-shortest format [] v = record { table = []; made = refl; size = omega arith; first = refl }
+shortest format [] v = record { table = []; made = refl; size = omega arith; first = omega arith }
 shortest format (h ∷ hs) v =
     let k = shortest format hs (v .2) in
     record {
       table = merge format h (k .table);
       made = made (h .gaps) (v .0 .some) (v .0 .near) (v .0 .alone) k;
       size = omega (arith, merge-size format h (k .table));
-      first = merge-first format h (k .table) (v .0 .some) ∙ v .1;
+      first = omega (arith, merge-first format h (k .table) (v .0 .some), v .1);
     }
   where
     made : (gaps : List ℕ) → 1 ≤ length gaps → ((i : ℕ) → getD gaps (suc i) 0 ≤ maxGap format) → (formatOf format .counted ≡ false → length gaps ≡ 1) → (k : Shorter format hs)

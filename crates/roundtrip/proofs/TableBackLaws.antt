@@ -7,6 +7,7 @@ use native.Mathlib.Omega.{arith}
 use lib.ListN.{length}
 use lib.Seq.{drop-at}
 use Rattle.rtp.specs.Sizes.{maxRows}
+use Rattle.formats.specs.Formats.{maxGap}
 use Rattle.payload.specs.Contents.{Group, groups, meaning, prepend, contents, rowCount}
 use Rattle.payload.proofs.ContentsLaws.{contents-last, contents-more}
 use Rattle.encoder.specs.Plans.{headGap}
@@ -14,10 +15,10 @@ use Rattle.encoder.specs.Bytes.{entryBytes, tableBytes}
 use Rattle.encoder.proofs.EntryLaws.{length-entry}
 use Rattle.roundtrip.proofs.EntryBackLaws.{Run, entryFor, entry-back, meaning-back}
 
--- runs one after another, each directly after the one before
+-- runs one after another, each no further after the one before than an entry can say
 abbrev pub Runs : ℕ → List Group → Type 0
 Runs format [] = Unit {0}
-Runs format (g ∷ gs) = Run format g × (headGap g ≡ 0) × Runs format gs
+Runs format (g ∷ gs) = Run format g × (headGap g ≤ maxGap format) × Runs format gs
 
 pub table-back : (format ch rows : ℕ) (g : Group) (gs : List Group) (rest : List ℕ) → Runs format (g ∷ gs) → rows + rowCount ch (g ∷ gs) ≤ maxRows
     → contents format ch rows (tableBytes format (g ∷ gs) ++ rest) ≡ groups (g ∷ gs)

@@ -1,4 +1,4 @@
--- In the payload of a list reserved and padding bits, and every DIS1, are 0.
+-- In the payload of a list reserved and padding bits, and the first entry's DIS1, are 0.
 use mathlib.Core.Path.{_≡_, refl, ap, sym, _∙_, subst}
 use mathlib.Core.List.{List, [], _∷_, _++_, append-assoc}
 use mathlib.Core.Bool.{Bool, true, false}
@@ -8,7 +8,7 @@ use lib.ListN.{length, drop}
 use lib.Seq.{drop-drop, drop-at}
 use Rattle.rtp.specs.Numbers.{byteAt}
 use Rattle.rtp.specs.declared.settings.Settings.{Settings}
-use Rattle.formats.specs.Formats.{formatOf}
+use Rattle.formats.specs.Formats.{formatOf, maxGap}
 use Rattle.formats.specs.Codes.{codeFor}
 use Rattle.formats.proofs.FormatLaws.{each}
 use Rattle.payload.specs.Contents.{minEntry, entrySize, Group, Contents, refused, groups, halfAt, contents, sizeIn}
@@ -19,7 +19,7 @@ use Rattle.encoder.specs.Bytes.{halves, flag, firstByte, entryBytes, tableBytes
 use Rattle.encoder.specs.Writings.{bytesOf, plannedBytes, encoded}
 use Rattle.encoder.proofs.EntryLaws.{length-entry}
 use Rattle.encoder.proofs.WritingLaws.{in-range-some}
-use Rattle.roundtrip.specs.PayloadClaims.{Zeros, ZeroBits}
+use Rattle.roundtrip.specs.PayloadClaims.{firstDisplacement, Zeros, ZeroBits, FirstDisplacement}
 use Rattle.roundtrip.proofs.EntryBackLaws.{Run, half-later, half-back, first-back, gaps-back, small-gaps}
 use Rattle.roundtrip.proofs.TableBackLaws.{Runs, table-back}
 use Rattle.roundtrip.proofs.PlanTableLaws.{Tabled, plan-table}
@@ -48,7 +48,7 @@ padding-zero [] rest h = absurd (omega arith)
 padding-zero (a ∷ []) rest h = omega arith
 padding-zero (a ∷ b ∷ ns) rest h = half-later (16 * a + b) (halves ns ++ rest) (length ns) ∙ padding-zero ns rest (omega arith)
 
-module _ (format : ℕ) (more : Bool) (g : Group) (rest : List ℕ) (r : Run format g) (f : headGap g ≡ 0) where
+module _ (format : ℕ) (more : Bool) (g : Group) (rest : List ℕ) (r : Run format g) where
   first-reserved : byteAt (entryBytes format more g ++ rest) 0 % formatOf format .unit ≡ 0
   unfolding firstByte
   first-reserved = rw (first-back format more g rest r) (reserved-zero more format (codeFor format (g .class) (g .length)))
@@ -59,18 +59,21 @@ module _ (format : ℕ) (more : Bool) (g : Group) (rest : List ℕ) (r : Run for
   entry-zeros : Zeros format (length (g .gaps)) (entryBytes format more g ++ rest)
   entry-zeros = record {
     reserved = first-reserved;
-    first = λ d. ap (λ (s : List ℕ). halfAt s 0) (displacements d) ∙ half-back (g .gaps) rest 0 (small-gaps format more g rest r f) (omega (arith, r .some)) ∙ f;
     padding = λ d o. ap (λ (s : List ℕ). halfAt s (length (g .gaps))) (displacements d) ∙ padding-zero (g .gaps) rest (omega (arith, o));
   }
+
+  -- DIS1 is the gap before the entry's first frame-block
+  pub first-displacement : headGap g ≤ maxGap format → formatOf format .displaced ≡ true → firstDisplacement format (entryBytes format more g ++ rest) ≡ headGap g
+  first-displacement f d = ap (λ (s : List ℕ). halfAt s 0) (displacements d) ∙ half-back (g .gaps) rest 0 (small-gaps format more g rest r f) (omega (arith, r .some))
 
 -- The entry g of a table
 
 table-zeros : (format : ℕ) (before : List Group) (g : Group) (after : List Group) (rest : List ℕ) → Runs format (before ++ g ∷ after)
     → Zeros format (length (g .gaps)) (drop (sizeIn format before) (tableBytes format (before ++ g ∷ after) ++ rest))
 unfolding sizeIn tableBytes
-table-zeros format [] g [] rest v = entry-zeros format false g rest (v .0) (v .1)
+table-zeros format [] g [] rest v = entry-zeros format false g rest (v .0)
 table-zeros format [] g (h ∷ hs) rest v =
-    rw append-assoc (entry-zeros format true g (tableBytes format (h ∷ hs) ++ rest) (v .0) (v .1))
+    rw append-assoc (entry-zeros format true g (tableBytes format (h ∷ hs) ++ rest) (v .0))
 table-zeros format (b ∷ []) g after rest v =
     subst (Zeros format (length (g .gaps))) (sym (past-entry format b [] (g ∷ after) rest (omega arith))) (table-zeros format [] g after rest (v .2))
 table-zeros format (b ∷ c ∷ before) g after rest v =
@@ -108,3 +111,16 @@ zero-bits st ws bytes p words range h before g after k =
     subst (λ (q : List ℕ). Zeros (st .format) (length (g .gaps)) (drop (sizeIn (st .format) before) q))
     (ap (λ (gs : List Group). tableBytes (st .format) gs ++ rest) (sym e) ∙ w .same)
     (table-zeros (st .format) before g after rest (subst (Runs (st .format)) e (v .runs)))
+
+table-first : (format ch : ℕ) (rs : List Row) (gs : List Group) (rest : List ℕ) → Tabled format ch rs gs → formatOf format .displaced ≡ true
+    → firstDisplacement format (tableBytes format gs ++ rest) ≡ 0
+unfolding tableBytes
+table-first format ch rs [] rest v d = absurd (omega (arith, v .some))
+table-first format ch rs (g ∷ []) rest v d = first-displacement format false g rest (v .runs .0) (v .runs .1) d ∙ v .first
+table-first format ch rs (g ∷ h ∷ hs) rest v d = rw append-assoc (first-displacement format true g (tableBytes format (h ∷ hs) ++ rest) (v .runs .0) (v .runs .1) d ∙ v .first)
+
+pub first-zero : FirstDisplacement
+first-zero st ws bytes p words range h d =
+    let w = planned st bytes (rowsIn ws) p h in
+    let v = plan-table (st .format) (st .channels) (rowsIn ws) (w .table) (in-range-some st range) (times ws words) (w .is) in
+    subst (λ (q : List ℕ). firstDisplacement (st .format) q ≡ 0) (w .same) (table-first (st .format) (st .channels) (rowsIn ws) (w .table) (frames bytes (rowsIn ws)) v d)

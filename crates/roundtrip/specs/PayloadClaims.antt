@@ -76,10 +76,9 @@ Measuring = (st : Settings) (ws bytes : List ℕ) (area : ℕ) → outside (leng
 abbrev pub firstDisplacement : ℕ → List ℕ → ℕ
 firstDisplacement format s = halfAt (drop (minEntry format) s) 0
 
--- the entry of n frame-blocks at the front of s: reserved bits are 0, and with displacements DIS1 and the padding bits after an odd number of them
+-- the entry of n frame-blocks at the front of s: reserved bits are 0, and with displacements the padding bits after an odd number of them
 pub record Zeros (format n : ℕ) (s : List ℕ) : Type 0 where
   pub reserved : byteAt s 0 % formatOf format .unit ≡ 0
-  pub first : formatOf format .displaced ≡ true → firstDisplacement format s ≡ 0
   pub padding : formatOf format .displaced ≡ true → n % 2 ≡ 1 → halfAt (drop (minEntry format) s) n ≡ 0
 
 -- in the payload of a list, which `write_payload` gives alone and `write_packet` as a block, these bits are 0 in each entry g of the table as it is read,
@@ -88,3 +87,9 @@ abbrev pub ZeroBits : Type 0
 ZeroBits = (st : Settings) (ws bytes p : List ℕ) → Words ws → inRange st ≡ true → encoded st bytes (rowsIn ws) ≡ bytesOf p
     → (before : List Group) (g : Group) (after : List Group) → contents (st .format) (st .channels) 0 p ≡ groups (before ++ g ∷ after)
     → Zeros (st .format) (length (g .gaps)) (drop (sizeIn (st .format) before) p)
+
+-- the first entry's DIS1 is 0 too. That a later entry's is the number of frame-blocks between the groups is what reading makes of it (payload: passFirst, and
+-- Writing: the payload reads back to the list, its times included)
+abbrev pub FirstDisplacement : Type 0
+FirstDisplacement = (st : Settings) (ws bytes p : List ℕ) → Words ws → inRange st ≡ true → encoded st bytes (rowsIn ws) ≡ bytesOf p
+    → formatOf (st .format) .displaced ≡ true → firstDisplacement (st .format) p ≡ 0

@@ -1,6 +1,7 @@
 // Writes payloads and packets and prints their bytes, or the refusal; and reads each packet back and prints its rows, each with the first
 // byte of its frame.
 mod example;
+mod groups;
 mod packets;
 mod payloads;
 
@@ -12,4 +13,8 @@ fn main() {
     packets::redundant();
     packets::across_the_wrap();
     packets::refused();
+    groups::two();
+    groups::more();
+    groups::in_a_block();
+    groups::refused();
 }

@@ -91,7 +91,7 @@ fn put_rows(s: Settings, p: &[u8], place: usize, mut time: u32, table: &Table, o
         }
         for block in 0..blocks {
             if !first {
-                let gap = if s.format == 2 && block > 0 { p[at + 2 + block / 2] >> (4 - 4 * (block % 2)) & 15 } else { 0 };
+                let gap = if s.format == 2 { p[at + 2 + block / 2] >> (4 - 4 * (block % 2)) & 15 } else { 0 };
                 time = time.wrapping_add((gap as u32 + 1) * if s.format == 3 { GSM_HR_STEP } else { G719_STEP });
             }
             first = false;
@@ -255,7 +255,7 @@ fn plan(s: Settings, words: &[u32]) -> Option<usize> {
         let joins = s.format != 3 && previous.is_some_and(|(_, l)| l == length);
         if let Some((before, _)) = previous {
             let ticks = time.wrapping_sub(before);
-            let most = if s.format == 2 && joins { 16 } else { 1 };
+            let most = if s.format == 2 { 16 } else { 1 };
             if ticks % step != 0 || ticks == 0 || ticks / step > most {
                 return None;
             }
@@ -302,8 +302,9 @@ fn put_payload(s: Settings, words: &[u32], bytes: &[u8], out: &mut [u8]) {
             at += 2;
             if s.format == 2 {
                 out[at..at + blocks.div_ceil(2)].fill(0);
-                for i in 1..blocks {
-                    let ticks = words[from + width * i].wrapping_sub(words[from + width * (i - 1)]);
+                for i in (from == 0) as usize..blocks {
+                    let here = from + width * i;
+                    let ticks = words[here].wrapping_sub(words[here - width]);
                     out[at + i / 2] |= ((ticks / G719_STEP - 1) as u8) << (4 - 4 * (i % 2));
                 }
                 at += blocks.div_ceil(2);

@@ -65,8 +65,8 @@ pub fn made_list(r: &mut Random, s: Settings, time: u32, most_rows: usize, aim: 
         }
         let same = run == Some(length);
         if !words.is_empty() {
-            // within an entry of kind 2 there may be a gap
-            let steps = if s.format == 2 && same && r.percent(30) { r.within(1, 16) } else { 1 };
+            // in kind 2 there may be a gap, within an entry and between two
+            let steps = if s.format == 2 && r.percent(30) { r.within(1, 16) } else { 1 };
             now = now.wrapping_add(step * steps as u32);
         }
         if s.format == 3 {
@@ -108,6 +108,16 @@ fn pick_length(r: &mut Random, s: Settings) -> usize {
             1 => 80 + 10 * r.below(15),
             _ => r.pick(&[80, 90, 100]),
         }
+    }
+}
+
+/// In rows of kind 2: how often frames of another length come after a gap, so that a later entry's DIS1 has to say it.
+pub fn groups_apart(s: Settings, words: &[u32]) -> u64 {
+    let ticks = step_ticks(s.format);
+    let apart = |two: &[u32]| two[3] != two[ROW_WORDS + 3] && (2..=16).any(|step| two[ROW_WORDS].wrapping_sub(two[0]) == step * ticks);
+    match s.format {
+        2 => words.windows(2 * ROW_WORDS).step_by(ROW_WORDS).filter(|two| apart(two)).count() as u64,
+        _ => 0,
     }
 }
 

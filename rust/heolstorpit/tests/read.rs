@@ -28,6 +28,9 @@ impl Comparer {
             }
             Err(refusal) => raw::Reading { refusal, ..raw::Reading::default() },
         };
+        if expected.is_ok() && packet[1] & 127 == s.payload_type {
+            self.seen.add(APART, cases::groups_apart(s, &theirs[..ROW_WORDS * numbers.rows as usize]));
+        }
         assert!(
             answer == numbers && self.area.same() && (answer.refusal == 0 || self.area.unchanged()),
             "read differs: library {answer:?}, reference {expected:?}, areas equal: {}\nsettings {s:?}, row area {area}\npacket {packet:02x?}",
@@ -43,6 +46,9 @@ impl Comparer {
 
 /// Counted: packets of as many rows as there may be.
 const FULL: &str = "packets of the most rows";
+
+/// Counted: groups of another length than the one before and apart from it, in plain packets.
+const APART: &str = "groups apart";
 
 const REFUSALS: [&str; 13] = [
     "accepted",
@@ -94,6 +100,7 @@ fn packets_valid_and_damaged() {
     c.seen.report("read, packets valid and damaged");
     c.seen.at_least(1000, &REFUSALS);
     c.seen.at_least(100, &[FULL]);
+    c.seen.at_least(10_000, &[APART]);
 }
 
 /// Random bytes behind a plausible header, so that tables of all shapes are met.
@@ -234,6 +241,43 @@ fn limits() {
     }
     c.seen.report("read, limits");
     c.seen.at_least(100, &["accepted", "refusal  1", "refusal  3", "refusal  4", "refusal  8", "refusal  9", "refusal 11", "refusal 12"]);
+}
+
+/// Every DIS1 of the first entry, a second and a third, groups of one to three frame-blocks, plain and in a redundant block, also where
+/// the time wraps; and each packet damaged once.
+#[test]
+fn groups_apart() {
+    let mut r = Random::new(6);
+    let mut c = Comparer::new(&mut r);
+    for number in 0..16 * 16 * 16 * 4u32 {
+        let channels = 1 + (number % 2) as u8;
+        let s = Settings { format: 2, channels, payload_type: 97, redundancy_type: 98 };
+        let (mut table, mut sound) = (Vec::new(), 0);
+        for (i, code) in [8u8, 0, 9].into_iter().enumerate() {
+            let blocks = r.within(1, 3);
+            let dis1 = (number / 4 >> (4 * i) & 15) as u8;
+            table.extend([if i < 2 { F_BIT } else { 0 } | code << 2 | r.byte() & 3, blocks as u8, dis1 << 4 | r.byte() & 15]);
+            if blocks == 3 {
+                table.push(r.byte());
+            }
+            sound += blocks * channels as usize * [80, 0, 90][i];
+        }
+        let time = if number % 4 < 2 { r.word() } else { (r.below(20_000) as u32).wrapping_neg() };
+        let plain = number % 3 > 0;
+        let mut packet = vec![0x80, if plain { 97 } else { 98 }, 0, 1];
+        packet.extend(time.to_be_bytes());
+        packet.extend([0, 0, 0, 7]);
+        if !plain {
+            packet.extend([F_BIT | 97, r.byte(), r.byte() & 0xFC | ((table.len() + sound) >> 8) as u8, (table.len() + sound) as u8, 97]);
+        }
+        packet.extend(table);
+        packet.extend(r.bytes(sound));
+        c.compare(s, &packet, ROW_AREA);
+        cases::damage(&mut r, &mut packet);
+        c.compare(s, &packet, ROW_AREA);
+    }
+    c.seen.report("read, groups apart");
+    c.seen.at_least(10_000, &["accepted", APART]);
 }
 
 /// The friendly answers say the same as the raw ones.

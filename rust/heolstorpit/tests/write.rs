@@ -14,6 +14,9 @@ const MOST: usize = MAX_PACKET + 252;
 /// Counted: payloads of as many bytes as there may be.
 const FULL: &str = "payloads of the most bytes";
 
+/// Counted: groups of another length than the one before and apart from it, in lists that are written.
+const APART: &str = "groups apart";
+
 /// What is written beside the rows of a packet.
 #[derive(Clone, Copy, Debug)]
 struct Head {
@@ -133,6 +136,9 @@ fn payloads() {
         if written.is_ok_and(|length| length as usize == MAX_PAYLOAD) {
             c.seen.add(FULL, 1);
         }
+        if written.is_ok() {
+            c.seen.add(APART, cases::groups_apart(s, &list.words));
+        }
         c.out_lengths(&mut r, written, |c, out| {
             c.payload(s, &list, out).ok();
         });
@@ -140,6 +146,7 @@ fn payloads() {
     c.seen.report("write_payload");
     c.seen.at_least(1000, &["accepted", "refusal 11", "refusal 12", "refusal 13", "refusal 14"]);
     c.seen.at_least(20, &[FULL]);
+    c.seen.at_least(10_000, &[APART]);
 }
 
 /// A list that some plain payload reads to is never refused with 13: whatever payload it came from.
@@ -289,6 +296,24 @@ fn limits() {
             let second = 960 * steps + extra;
             let words = vec![0, 256, 0, 80, second, 256, 0, 80, second + 960, 256, 0, 80];
             c.payload(s, &List { words, bytes: bytes.clone() }, MOST).ok();
+        }
+    }
+    // the same between groups of two lengths, at times around the wrap too, and as a block
+    for time in [0u32, 5, u32::MAX - 959, u32::MAX - 4000, u32::MAX - 20_000] {
+        for (steps, extra) in (0..=40u32).flat_map(|steps| [0, 1, 959].map(|extra| (steps, extra))) {
+            for (a, b) in [(80, 90), (320, 0), (0, 80)] {
+                let class = |length| if length == 0 { 0 } else { 256 };
+                let second = time.wrapping_add(960 * (steps + 1) + extra);
+                let words: Vec<u32> = [(time, a), (time.wrapping_add(960), a), (second, b), (second.wrapping_add(960 * steps), a)]
+                    .into_iter()
+                    .flat_map(|(time, length)| [time, class(length), 0, length])
+                    .collect();
+                let list = List { words, bytes: bytes.clone() };
+                let payload = c.payload(s, &list, MOST);
+                assert_eq!(payload.is_ok(), (1..=16).contains(&steps) && extra == 0);
+                let both = List { words: [&list.words[..], &list.words[..]].concat(), bytes: bytes.clone() };
+                assert_eq!(c.packet(s, head, &[4, 4], &both, MOST).is_ok(), payload.is_ok());
+            }
         }
     }
     c.seen.report("write, limits");

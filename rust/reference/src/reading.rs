@@ -182,15 +182,16 @@ fn payload_rows(settings: Settings, packet: &[u8], start: usize, end: usize, tim
         }
         let steps = (0..blocks)
             .map(|i| {
-                let first = i == 0;
-                if first && entries.is_empty() {
-                    // "the payload's first frame-block stands at the payload's time"
+                if i == 0 && entries.is_empty() {
+                    // "the payload's first frame-block stands at the payload's time"; document 02: "only the first entry's DIS1 is
+                    // passed over"
                     0
-                } else if first || settings.format != 2 {
-                    // "a later entry's first follows directly", "Kind 1 always steps by one"
+                } else if settings.format != 2 {
+                    // "Kind 1 always steps by one"
                     1
                 } else {
-                    // "one 4-bit displacement per frame-block, high half first"; "the step is displacement + 1"
+                    // "one 4-bit displacement per frame-block, high half first"; "the step is displacement + 1"; document 02: "In a
+                    // later entry it counts the frame-blocks between the previous group's last and this group's first"
                     let pair = packet[at + 2 + i / 2];
                     let displacement = if i % 2 == 0 { pair >> 4 } else { pair & 15 };
                     displacement as u32 + 1

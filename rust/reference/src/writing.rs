@@ -103,20 +103,23 @@ fn canonical(settings: Settings, list: &[Row], bytes: &[u8]) -> Option<Vec<u8>> 
     } else {
         let blocks: Vec<&[Row]> = list.chunks(channels).collect();
         let runs: Vec<&[&[Row]]> = blocks.chunk_by(|a, b| a[0].length == b[0].length).collect();
+        let mut before = None;
         for (i, run) in runs.iter().enumerate() {
             let first = run[0][0];
             let another = if i + 1 < runs.len() { F_BIT } else { 0 };
             payload.push(another + 4 * code_of(settings.format, first.class, first.length)?);
             payload.push(u8::try_from(run.len()).ok()?);
             if settings.format == 2 {
-                // DIS1 is 0; so are the padding bits
-                let mut displacements = vec![0];
-                for two in run.windows(2) {
-                    let ticks = two[1][0].time.wrapping_sub(two[0][0].time);
-                    if ticks % step_ticks(2) != 0 || ticks == 0 || ticks / step_ticks(2) > 16 {
-                        return None;
-                    }
-                    displacements.push((ticks / step_ticks(2) - 1) as u8);
+                // the first entry's DIS1 is 0, and so are the padding bits; a later entry's DIS1 is set (document 02), like any other
+                // displacement
+                let mut displacements = Vec::new();
+                for block in *run {
+                    let time = block[0].time;
+                    displacements.push(match before {
+                        None => 0,
+                        Some(before) => displacement(before, time)?,
+                    });
+                    before = Some(time);
                 }
                 if displacements.len() % 2 == 1 {
                     displacements.push(0);
@@ -129,6 +132,15 @@ fn canonical(settings: Settings, list: &[Row], bytes: &[u8]) -> Option<Vec<u8>> 
         payload.extend_from_slice(frame(bytes, row));
     }
     Some(payload)
+}
+
+/// The frame-blocks between two neighbours at these times; nothing where four bits cannot say it.
+fn displacement(before: u32, time: u32) -> Option<u8> {
+    let ticks = time.wrapping_sub(before);
+    if ticks % step_ticks(2) != 0 || ticks == 0 || ticks / step_ticks(2) > 16 {
+        return None;
+    }
+    Some((ticks / step_ticks(2) - 1) as u8)
 }
 
 /// The packet for the lists, or nothing where that is 13.

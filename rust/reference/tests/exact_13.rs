@@ -3,14 +3,14 @@
 use reference::*;
 
 /// All tables that a payload of `blocks` frame-blocks can have with frame lengths 0, 80 and 90 and displacements 0 to
-/// 2 (DIS1 only 0: it is passed over), as bytes.
+/// 2, each entry's DIS1 among them, as bytes.
 fn tables(format: u8, blocks: usize) -> Vec<Vec<u8>> {
     let mut all = Vec::new();
     for count in 1..=blocks {
         for code in [0u8, 8, 9] {
-            let mut displacements = vec![vec![0u8]];
+            let mut displacements = vec![vec![]];
             if format == 2 {
-                for _ in 1..count {
+                for _ in 0..count {
                     displacements = displacements.iter().flat_map(|d| [0, 1, 2].map(|next| [&d[..], &[next]].concat())).collect();
                 }
             }

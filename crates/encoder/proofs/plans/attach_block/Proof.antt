@@ -1,11 +1,12 @@
 use mathlib.Core.Path.{subst}
-use Prim.Native.Nat.{_+_, _*_, _≤_}
+use Prim.Native.Nat.{_+_, _*_, _≤_, _<_}
 use native.Mathlib.Omega.{arith}
 use Rattle.rtp.specs.Sizes.{maxRows}
 use Rattle.encoder.specs.declared.plans.Planned.{Planned}
 use Rattle.encoder.specs.Room.{SmallPlan, Small}
 use Rattle.encoder.proofs.PlanLaws.{block-frames, plan-frames, size-grows}
-use borrow.Author.Tests.{eq-eqb, ne-eqb}
+use borrow.Author.Tests.{le-leb, lt-leb}
+use Rattle.formats.specs.Formats.{maxGap}
 use borrow.Author.Needs.{needs}
 use Rattle.encoder.proofs.plans.attach_block.Statement.{statement}
 use Rattle.encoder.proofs.plans.attach_block.Tie as tie
@@ -65,14 +66,24 @@ add-t21 c = omega (arith, small-at (c .before .before .before .before .before .b
 returns : tie.Need-returns
 returns c = simp (c .before .before .before .before .before .before .before .before .before .rest .given .1, ← (c .before .before .before .before .before .before .joins-run .ensures), c .before .before .before .before .before .if1 .taken, ← (c .before .before .before .before .entry-size2 .ensures), ← (c .entry-size3 .ensures))
 
+max-gap-requires : tie.Need-max-gap-requires
+max-gap-requires c κs = search needs
+
+-- the gap to the next run, against the most that an entry can say
+near-at : (c : tie.Then2) → c .before .before .before .before .before .before .before .rest .given .0 .0 .gap ≤ maxGap (c .before .before .before .before .before .before .before .before .before .before .args .format)
+near-at c = omega (arith, c .before .before .max-gap .ensures, c .if2 .taken)
+
+apart-at : (c : tie.Else2) → maxGap (c .before .before .before .before .before .before .before .before .before .before .args .format) < c .before .before .before .before .before .before .before .rest .given .0 .0 .gap
+apart-at c = omega (arith, c .before .before .max-gap .ensures, c .if2 .left)
+
 entry-size-requires-4 : tie.Need-entry-size-requires-4
 entry-size-requires-4 c κs = search needs
 
-add-t25 : tie.Need-add-t25
-add-t25 c = omega (arith, small-at (c .before .before .before .before .before .before .before .before), c .before .entry-size4 .ensures, size-grows (c .before .before .before .before .before .before .before .before .before .before .before .args .format) 1)
+add-t26 : tie.Need-add-t26
+add-t26 c = omega (arith, small-at (c .before .before .before .before .before .before .before .before .before), c .before .entry-size4 .ensures, size-grows (c .before .before .before .before .before .before .before .before .before .before .before .before .args .format) 1)
 
 returns-2 : tie.Need-returns-2
-returns-2 c = simp (c .before .before .before .before .before .before .before .before .rest .given .1, c .before .before .before .before .before .before .before .before .before .before .tag-class .ensures, ← (c .before .before .before .before .before .joins-run .ensures), c .before .before .before .before .if1 .left, eq-eqb _ _ (c .before .before .if2 .taken), ← (c .before .entry-size4 .ensures))
+returns-2 c = simp (c .before .before .before .before .before .before .before .before .before .rest .given .1, c .before .before .before .before .before .before .before .before .before .before .before .tag-class .ensures, ← (c .before .before .before .before .before .before .joins-run .ensures), c .before .before .before .before .before .if1 .left, le-leb _ _ (near-at (c .before .before)), ← (c .before .entry-size4 .ensures))
 
 returns-3 : tie.Need-returns-3
 returns-3 c = search needs
@@ -81,7 +92,7 @@ returns-4 : tie.Need-returns-4
 returns-4 c = simp (c .before .enum-told2 .given .1, c .before .before .before .tag-class .ensures, ← (c .entry-size .ensures))
 
 returns-5 : tie.Need-returns-5
-returns-5 c = simp (c .before .before .before .before .before .before .rest .given .1, ← (c .before .before .before .joins-run .ensures), c .before .before .if1 .left, ne-eqb _ _ (c .if2 .left))
+returns-5 c = simp (c .before .before .before .before .before .before .before .rest .given .1, ← (c .before .before .before .before .joins-run .ensures), c .before .before .before .if1 .left, lt-leb _ _ (apart-at c))
 
 pub attach-block-spec : {M : Type 1} → statement M
 attach-block-spec =
@@ -103,8 +114,9 @@ attach-block-spec =
     entry-size-requires-3
     add-t21
     returns
+    max-gap-requires
     entry-size-requires-4
-    add-t25
+    add-t26
     returns-2
     returns-3
     returns-4

@@ -3,9 +3,14 @@ use lib.ListN.{length}
 use denote.Ref.{now}
 use mathlib.Core.Path.{_≡_, sym, _∙_, ap}
 use native.Mathlib.Omega.{arith}
-use Prim.Native.Nat.{ℕ}
+use Prim.Native.Nat.{ℕ, _+_, _*_, _<_, _≤_, _^_}
+use Rattle.formats.specs.Frames.{stepOf}
+use Rattle.formats.proofs.FormatLaws.{maxStep, step-fine}
+use native.Mathlib.Nat.{mul-le-mul-left}
 use Rattle.payload.specs.Payloads.{Rows, payloadRows, rowsAnswer, payloadNumbers, rowsNumbers, rowsWords, askedRows}
-use Rattle.payload.specs.Contents.{contents, sizesAnswer}
+use Rattle.payload.specs.Contents.{gapAt, contents, passFirst, sizesAnswer}
+use Rattle.payload.specs.Room.{contentsWords, originOf}
+use Rattle.payload.proofs.FirstLaws.{begins, words-from, first-within}
 use Rattle.payload.specs.declared.contents.ContentsRead.{ContentsRead}
 use Rattle.payload.proofs.ContentsLaws.{Small}
 use Rattle.payload.proofs.PayloadLaws.{pay-refused, pay-part, pay-rows, pay-small, pay-words, pay-room, asked-out, asked-short, asked-long, asked-in, answer-none, words-none}
@@ -31,6 +36,14 @@ table-at c = sym (contents-is _ _ _ _ (rw (part-to-end 0 (now (c .before .before
 
 small-at : (c : tie.After-sizes) → let a = c .before .before .before .before .before .before .before .before .before .before .args in Small (a .done) (length (now (a .s))) (c .sizes .given .0 .0)
 small-at c = let a = c .before .before .before .before .before .before .before .before .before .before .args in pay-small (a .asked .format) (a .asked .channels) (a .done) (a .time) (a .at) (now (a .s)) (c .sizes .given .0 .0) (table-at c)
+
+-- its first entry's DIS1 is passed over: the rows are counted from a time before
+counted-from : (c : tie.After-sizes) (o : ℕ) → let a = c .before .before .before .before .before .before .before .before .before .before .args in (o ≡ originOf (a .asked .format) (a .time) (now (a .s))) × (gapAt (a .asked .format) (now (a .s)) 0 < 16) → contentsWords (a .asked .format) (a .asked .channels) o (a .at + c .sizes .given .0 .0 .size) (contents (a .asked .format) (a .asked .channels) (a .done) (now (a .s))) ≡ contentsWords (a .asked .format) (a .asked .channels) (a .time) (a .at + c .sizes .given .0 .0 .size) (passFirst (contents (a .asked .format) (a .asked .channels) (a .done) (now (a .s))))
+counted-from c o e =
+    let b = c .before .before .before .before .before .before .before .before .before .before in
+    let a = b .args in
+    let s : stepOf (a .asked .format) ≤ maxStep = step-fine (a .asked .format) .small in
+    rw (e .0) (words-from (a .asked .format) (a .asked .channels) (gapAt (a .asked .format) (now (a .s)) 0) (a .time) _ (contents (a .asked .format) (a .asked .channels) (a .done) (now (a .s))) (b .fits .time .fits) (omega (arith, mul-le-mul-left (gapAt (a .asked .format) (now (a .s)) 0) s, e .1)) (begins (a .asked .format) (a .asked .channels) (a .done) (now (a .s))))
 
 in-range-requires : tie.Need-in-range-requires
 in-range-requires c κs = search needs
@@ -83,16 +96,21 @@ part-put-contents-end c = search needs
 cast-put-contents : tie.Need-cast-put-contents
 cast-put-contents c = search needs
 
+origin-requires : tie.Need-origin-requires
+origin-requires c κs =
+    let a = c .before .before .before .before .before .before .before .before .before .before .before .before .before .before .before .before .args in
+    first-within (a .asked .format) (a .asked .channels) (a .done) (now (a .s)) (c .before .before .before .before .before .before .sizes .given .0 .0) (table-at (c .before .before .before .before .before .before))
+
 add-put-contents : tie.Need-add-put-contents
 add-put-contents c = search needs
 
 put-contents-requires : tie.Need-put-contents-requires
 put-contents-requires c κs =
-    let a = c .before .before .before .before .before .before .before .before .before .before .before .before .before .before .before .before .before .args in
-    rw (part-to-end 0 (now (a .s))) (pay-room (a .asked .format) (a .asked .channels) (a .done) (a .time) (a .at) (now (a .s)) _ (table-at (c .before .before .before .before .before .before .before)) (length (now (a .area))) (omega arith) (omega (arith, c .before .before .before .before .before .before .before .before .before .before .before .before .if2 .left)) (omega (arith, c .before .before .before .before .before .before .before .before .before .before .before .if3 .left)) (c .before .before .before .before .if4 .taken))
+    let a = c .before .before .before .before .before .before .before .before .before .before .before .before .before .before .before .before .before .before .args in
+    rw (part-to-end 0 (now (a .s))) (pay-room (a .asked .format) (a .asked .channels) (a .done) (a .time) (a .at) (now (a .s)) _ (table-at (c .before .before .before .before .before .before .before .before)) (length (now (a .area))) (omega arith) (omega (arith, c .before .before .before .before .before .before .before .before .before .before .before .before .before .if2 .left)) (omega (arith, c .before .before .before .before .before .before .before .before .before .before .before .before .if3 .left)) (c .before .before .before .before .before .if4 .taken))
 
-cast-t38 : tie.Need-cast-t38
-cast-t38 c = omega (arith, small-at (c .before .before .before .before .before .before .before .before .before .before .before) .few)
+cast-t36 : tie.Need-cast-t36
+cast-t36 c = omega (arith, small-at (c .before .before .before .before .before .before .before .before .before .before .before .before) .few)
 
 returns-3 : tie.Need-returns-3
 returns-3 c = let a = c .before .before .before .before .before .before .before .before .before .before .before .args in both-none _ _ (now (a .area)) (asked-at (c .before .before .before .before .before) ∙ pay-refused (a .asked .format) (a .asked .channels) (a .done) (a .time) (a .at) (now (a .s)) _ (sym (contents-is _ _ _ _ (rw (part-to-end 0 (now (a .s))) at (c .before .before .before .read-contents .ensures))) ∙ c .before .refusal .given .1))
@@ -102,9 +120,9 @@ same-length c = search needs
 
 returns-4 : tie.Need-returns-4
 returns-4 c =
-    let a = c .before .before .before .before .before .before .before .before .before .before .before .before .before .before .before .before .before .before .before .before .before .args in (
-      rows-has _ _ (sym (ap rowsAnswer (asked-at (c .before .before .before .before .before .before .before .before .before .before .before .before .before .before .before)) ∙ pay-rows (a .asked .format) (a .asked .channels) (a .done) (a .time) (a .at) (now (a .s)) _ (table-at (c .before .before .before .before .before .before .before .before .before .before .before)) (c .before .before .before .before .before .before .before .before .if4 .taken))),
-      (rw (part-to-end 0 (now (a .s))) at (c .before .before .before .put-contents .ensures)) ∙ ap (λ (w : List ℕ). over w (now (a .area))) (sym (ap rowsWords (asked-at (c .before .before .before .before .before .before .before .before .before .before .before .before .before .before .before)) ∙ pay-words (a .asked .format) (a .asked .channels) (a .done) (a .time) (a .at) (now (a .s)) _ (table-at (c .before .before .before .before .before .before .before .before .before .before .before)) (c .before .before .before .before .before .before .before .before .if4 .taken))),
+    let a = c .before .before .before .before .before .before .before .before .before .before .before .before .before .before .before .before .before .before .before .before .before .before .args in (
+      rows-has _ _ (sym (ap rowsAnswer (asked-at (c .before .before .before .before .before .before .before .before .before .before .before .before .before .before .before .before)) ∙ pay-rows (a .asked .format) (a .asked .channels) (a .done) (a .time) (a .at) (now (a .s)) _ (table-at (c .before .before .before .before .before .before .before .before .before .before .before .before)) (c .before .before .before .before .before .before .before .before .before .if4 .taken))),
+      (rw (part-to-end 0 (now (a .s))) at (c .before .before .before .put-contents .ensures)) ∙ ap (λ (w : List ℕ). over w (now (a .area))) (counted-from (c .before .before .before .before .before .before .before .before .before .before .before .before) (c .before .before .before .before .before .origin .result) (c .before .before .before .before .before .origin .ensures) ∙ sym (ap rowsWords (asked-at (c .before .before .before .before .before .before .before .before .before .before .before .before .before .before .before .before)) ∙ pay-words (a .asked .format) (a .asked .channels) (a .done) (a .time) (a .at) (now (a .s)) _ (table-at (c .before .before .before .before .before .before .before .before .before .before .before .before)) (c .before .before .before .before .before .before .before .before .before .if4 .taken))),
     )
 
 returns-5 : tie.Need-returns-5
@@ -134,9 +152,10 @@ read-payload-spec =
     part-put-contents-start
     part-put-contents-end
     cast-put-contents
+    origin-requires
     add-put-contents
     put-contents-requires
-    cast-t38
+    cast-t36
     returns-3
     same-length
     returns-4
