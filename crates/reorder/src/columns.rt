@@ -7,12 +7,18 @@ ghost use mathlib.Core.Path.{_≡_};
 ghost use Prim.Native.Nat.{_≤_, _<_};
 ghost use Rattle.playout.specs.Sizes.{slots};
 ghost use Rattle.layout.specs.Columns.{insertAt, removeFirst, fitsFrom, withinFrom};
-ghost use Rattle.reorder.specs.Places.{placeFrom, Parted};
+ghost use Rattle.reorder.specs.Places.{placeFrom, Parted, halving, mostCompared};
 
 // Where a pair is held, or belongs.
 pub enum Place {
     FoundAt(usize),
     InsertAt(usize),
+}
+
+// A place, and how many entries were compared with the pair to find it.
+pub struct Search {
+    pub place: Place,
+    pub compared: usize,
 }
 
 // A value at a place of a column with n in use; those from there on move up by one.
@@ -46,37 +52,42 @@ pub(crate) fn remove_first(column: &mut [u32; SLOTS], n: usize)
     values[n - 1] = 0;
 }
 
-// The place of a pair among the first n entries, searched from the last: frames mostly come in order.
+// The place of a pair among the first n entries, by halving the range in which it lies.
 pub(crate) fn find_place(
     times: &[u32; SLOTS],
     tags: &[u32; SLOTS],
     n: usize,
     time: u32,
     channel: u32,
-) -> Place
+) -> Search
     requires { ⌜ (n ≤ slots) × Parted (now times) (now tags) time channel n ⌝ }
-    ensures { λ r. ⌜ r ≡ placeFrom (now (times .entry)) (now (tags .entry)) time channel n 0 ⌝ }
+    ensures { λ r. ⌜ (r ≡ halving (now (times .entry)) (now (tags .entry)) time channel n)
+        × (r .place ≡ placeFrom (now (times .entry)) (now (tags .entry)) time channel n 0) × (r .compared ≤ mostCompared) ⌝ }
 {
-    let mut i = n;
+    let mut low = 0;
+    let mut high = n;
+    let mut compared = 0;
     let place = loop {
-        if i == 0 {
-            break Place::InsertAt(i);
+        let width = high - low;
+        if width < 1 {
+            break Place::InsertAt(low);
         }
-        let last = i - 1;
-        let c = tagging::tag_channel(tags[last]);
-        match order::side_of(time, channel, times[last], c) {
+        let middle = low + width / 2;
+        let c = tagging::tag_channel(tags[middle]);
+        compared += 1;
+        match order::side_of(time, channel, times[middle], c) {
             Side::Before => {
-                i = last;
+                high = middle;
             }
             Side::Same => {
-                break Place::FoundAt(last);
+                break Place::FoundAt(middle);
             }
             Side::After => {
-                break Place::InsertAt(i);
+                low = middle + 1;
             }
         }
     };
-    place
+    Search { place, compared }
 }
 
 // Whether the first n times are all less than half the range ahead of a time.

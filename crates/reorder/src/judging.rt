@@ -89,7 +89,9 @@ fn lay_copy(
         (copyIn head (now (frame .entry))) (now (store .entry)) (now (store .exit)) (r .verdict) ⌝ }
 {
     let channel = tagging::tag_channel(head.tag);
-    match columns::find_place(times, tags, n, head.time, channel) {
+    let search = columns::find_place(times, tags, n, head.time, channel);
+    let place = search.place;
+    match place {
         Place::FoundAt(at) => Step {
             verdict: laying::replace_copy(tags, lengths, slots, at, head, frame, store),
             occupied,

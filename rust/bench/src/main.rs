@@ -294,6 +294,8 @@ enum Way {
     Bursts { packets: u32 },
     /// so many in, the last first, and all of them out
     Reversed { packets: u32 },
+    /// so many in, each `stride` numbers after the one before, round and round, and all of them out; 1: in order
+    Strided { packets: u32, stride: u32 },
 }
 
 /// The packets of each eight in a mixed order.
@@ -341,6 +343,15 @@ fn round(way: Way, per: u32, next: &mut u32, packet: &mut [u8], peer: &mut dyn R
             }
             *next += packets;
         }
+        Way::Strided { packets, stride } => {
+            for i in 0..packets {
+                peer.put(*next + i * stride % packets, packet);
+            }
+            for _ in 0..packets * per {
+                out += peer.get() as usize;
+            }
+            *next += packets;
+        }
     }
     out
 }
@@ -364,6 +375,8 @@ fn gathering() {
         ("bursts of 1 packet of 12 frames", Way::Bursts { packets: 1 }, 12),
         ("bursts of 16 packets of 12 frames", Way::Bursts { packets: 16 }, 12),
         ("192 packets, the last first", Way::Reversed { packets: FULL }, 1),
+        ("192 packets in order", Way::Strided { packets: FULL, stride: 1 }, 1),
+        ("192 packets, shuffled", Way::Strided { packets: FULL, stride: 77 }, 1),
     ];
     let mut lost = Vec::new();
     for (title, way, per) in ways {
@@ -400,7 +413,7 @@ fn gathering() {
         let frames = match way {
             Way::Singly { .. } => FULL,
             Way::Bursts { packets } => (FULL / packets).max(1) * packets,
-            Way::Reversed { packets } => packets,
+            Way::Reversed { packets } | Way::Strided { packets, .. } => packets,
         } * per;
         let counts: Vec<(&'static str, std::rc::Rc<std::cell::Cell<(u64, u64)>>)> =
             peers.iter().map(|(name, _)| (*name, Default::default())).collect();

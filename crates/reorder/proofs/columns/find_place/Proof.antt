@@ -1,31 +1,55 @@
-use Prim.Native.Nat.{ℕ, _-_, _≤_, _<_, Ordering·lt}
+use Prim.Native.Nat.{ℕ, _+_, _-_, _≤_, _<_}
 use mathlib.Core.Path.{_≡_, sym, ap, _∙_}
 use denote.Ref.{now}
 use lib.ListN.{getD}
 use Rattle.playout.specs.Pairs.{order, sideOf}
-use native.Mathlib.Nat.{lt-irrefl}
+use native.Mathlib.Nat.{sub-zero}
 use native.Mathlib.Omega.{arith}
-use Rattle.reorder.proofs.SearchLaws.{from, side-order, search-none, search-same, search-after}
+use Rattle.playout.specs.declared.order.Side.{Side}
+use Rattle.reorder.specs.Places.{middle, halve, halving}
+use Rattle.reorder.proofs.SearchLaws.{from, left, left-none, turn, turn-is, answers}
 use Rattle.playout.proofs.SideLaws.{side-is}
 use borrow.Author.Needs.{needs}
 use Rattle.reorder.proofs.columns.find_place.Statement.{statement}
 use Rattle.reorder.proofs.columns.find_place.Tie as tie
 
 abbrev Inv-loop : tie.InvT-loop
-Inv-loop times tags n time channel i₀ i = (i ≤ n) × (i < n → from times tags time channel i ≡ Ordering·lt)
+Inv-loop times tags n time channel low₀ high₀ compared₀ low high compared =
+    (low ≤ high) × (high ≤ n) × (compared + (high - low) ≤ n) × (left times tags time channel low high compared ≡ halving times tags time channel n)
 
 abbrev μ-loop : tie.MeasureT-loop
-μ-loop times tags n time channel i₀ i = i
+μ-loop times tags n time channel low₀ high₀ compared₀ low high compared = high - low
+
+-- where a turn of the loop starts
+abbrev turn-of : tie.After-side-of Inv-loop μ-loop → tie.At-loop Inv-loop μ-loop
+turn-of c = c .before .before .before .before .before
 
 -- the side, by the entry's channel
-sided : (c : tie.After-side-of Inv-loop μ-loop) → c .side-of .result ≡ sideOf (from (now (c .before .before .before .before .before .before .args .times)) (now (c .before .before .before .before .before .before .args .tags)) (c .before .before .before .before .before .before .args .time) (c .before .before .before .before .before .before .args .channel) (c .before .before .before .before .before .loop .i - 1))
-sided c = side-is _ _ (c .side-of .ensures) ∙ ap (λ (d : ℕ). sideOf (order (c .before .before .before .before .before .before .args .time) (c .before .before .before .before .before .before .args .channel) (getD (now (c .before .before .before .before .before .before .args .times)) (c .before .before .before .before .before .loop .i - 1) 0) d)) (c .before .before .tag-channel .ensures .0)
+sided : (c : tie.After-side-of Inv-loop μ-loop)
+    → let l = turn-of c in
+    let a = l .before .args in
+    c .side-of .result ≡ sideOf (from (now (a .times)) (now (a .tags)) (a .time) (a .channel) (middle (l .loop .low) (l .loop .high)))
+sided c =
+    let l = turn-of c in
+    let a = l .before .args in
+    side-is _ _ (c .side-of .ensures)
+    ∙ ap (λ (d : ℕ). sideOf (order (a .time) (a .channel) (getD (now (a .times)) (middle (l .loop .low) (l .loop .high)) 0) d)) (c .before .before .tag-channel .ensures .0)
+
+-- what a turn leaves, by the side
+turned : (c : tie.After-side-of Inv-loop μ-loop) (s : Side) → c .side-of .result ≡ s
+    → let l = turn-of c in
+    let a = l .before .args in
+    turn (now (a .times)) (now (a .tags)) (a .time) (a .channel) s (l .loop .low) (l .loop .high) (l .loop .compared) ≡ halving (now (a .times)) (now (a .tags)) (a .time) (a .channel) (a .n)
+turned c s e = let l = turn-of c in turn-is _ _ _ _ s (l .loop .low) (l .loop .high) (l .loop .compared) (omega arith) (sym e ∙ sided c) ∙ l .loop .inv .3
 
 loop-holds : tie.Need-loop-holds Inv-loop μ-loop
-loop-holds c = (search needs, λ l. absurd (lt-irrefl _ l))
+loop-holds c = (search needs, search needs, omega arith, ap (λ (f : ℕ). halve (now (c .args .times)) (now (c .args .tags)) (c .args .time) (c .args .channel) f 0 (c .args .n) 0) (sub-zero (c .args .n)))
 
-sub-last : tie.Need-sub-last Inv-loop μ-loop
-sub-last c = search needs
+sub-width : tie.Need-sub-width Inv-loop μ-loop
+sub-width c = search needs
+
+add-middle : tie.Need-add-middle Inv-loop μ-loop
+add-middle c = search needs
 
 mul-tag-channel : tie.Need-mul-tag-channel Inv-loop μ-loop
 mul-tag-channel c = search needs
@@ -35,6 +59,9 @@ element-copy-out-tag-channel c = search needs
 
 tag-channel-requires : tie.Need-tag-channel-requires Inv-loop μ-loop
 tag-channel-requires c κs = search needs
+
+add-compared : tie.Need-add-compared Inv-loop μ-loop
+add-compared c = search needs
 
 mul-side-of : tie.Need-mul-side-of Inv-loop μ-loop
 mul-side-of c = search needs
@@ -52,7 +79,7 @@ loop-less : tie.Need-loop-less Inv-loop μ-loop
 loop-less c = search needs
 
 loop-again : tie.Need-loop-again Inv-loop μ-loop
-loop-again c = (omega arith, λ l. side-order _ _ (sym (c .enum-told .given .1) ∙ sided (c .before .before)))
+loop-again c = (omega arith, omega arith, omega arith, turned (c .before .before) Side.Before (c .enum-told .given .1))
 
 enum-told-2 : tie.Need-enum-told-2 Inv-loop μ-loop
 enum-told-2 c = search needs
@@ -60,18 +87,22 @@ enum-told-2 c = search needs
 enum-told-3 : tie.Need-enum-told-3 Inv-loop μ-loop
 enum-told-3 c = search needs
 
+add-low : tie.Need-add-low Inv-loop μ-loop
+add-low c = search needs
+
+loop-less-2 : tie.Need-loop-less-2 Inv-loop μ-loop
+loop-less-2 c = search needs
+
+loop-again-2 : tie.Need-loop-again-2 Inv-loop μ-loop
+loop-again-2 c = (omega arith, omega arith, omega arith, turned (c .before .before) Side.After (c .enum-told3 .given .1))
+
 returns : tie.Need-returns Inv-loop μ-loop
-returns c = search-none _ _ _ _ _ _ (c .if1 .taken) (c .before .loop .inv .1)
+returns c =
+    let l = c .before in answers _ _ _ _ _ (l .before .pre .0) (l .before .pre .1) _ (sym (left-none _ _ _ _ (l .loop .low) (l .loop .high) (l .loop .compared) (omega arith)) ∙ l .loop .inv .3)
 
 returns-2 : tie.Need-returns-2 Inv-loop μ-loop
 returns-2 c =
-    let l = c .before .before .before .before .before .before .before in
-    search-same _ _ _ _ _ (l .before .pre .1) (l .loop .i) (omega arith) (l .loop .inv .0) (side-order _ _ (sym (c .enum-told2 .given .1) ∙ sided (c .before .before)))
-
-returns-3 : tie.Need-returns-3 Inv-loop μ-loop
-returns-3 c =
-    let l = c .before .before .before .before .before .before .before in
-    search-after _ _ _ _ _ (l .before .pre .1) (l .loop .i) (omega arith) (l .loop .inv .0) (side-order _ _ (sym (c .enum-told3 .given .1) ∙ sided (c .before .before))) (l .loop .inv .1)
+    let l = turn-of (c .before .before) in answers _ _ _ _ _ (l .before .pre .0) (l .before .pre .1) _ (turned (c .before .before) Side.Same (c .enum-told2 .given .1))
 
 pub find-place-spec : {M : Type 1} → statement M
 find-place-spec =
@@ -80,10 +111,12 @@ find-place-spec =
     Inv-loop
     μ-loop
     loop-holds
-    sub-last
+    sub-width
+    add-middle
     mul-tag-channel
     element-copy-out-tag-channel
     tag-channel-requires
+    add-compared
     mul-side-of
     element-copy-out-side-of
     side-of-requires
@@ -92,6 +125,8 @@ find-place-spec =
     loop-again
     enum-told-2
     enum-told-3
+    add-low
+    loop-less-2
+    loop-again-2
     returns
-    returns-2
-    returns-3)
+    returns-2)

@@ -30,10 +30,10 @@ word-at s = let f : Fits w32 (s .args .head .time) = search needs in f .fits
 abbrev place-at : tie.Start → Place
 place-at s = let a = s .args in placeFrom (now (a .times)) (now (a .tags)) (a .head .time) (channelIn (a .head)) (a .n) 0
 
-found-at : (c : tie.After-find-place) → c .find-place .result ≡ place-at (c .before .before .before .before .before .before)
+found-at : (c : tie.After-find-place) → c .find-place .result .place ≡ place-at (c .before .before .before .before .before .before)
 found-at c =
     let a = c .before .before .before .before .before .before .args in
-    c .find-place .ensures ∙ ap (λ (d : ℕ). placeFrom (now (a .times)) (now (a .tags)) (a .head .time) d (a .n) 0) (c .before .before .before .tag-channel .ensures .0)
+    c .find-place .ensures .1 ∙ ap (λ (d : ℕ). placeFrom (now (a .times)) (now (a .tags)) (a .head .time) d (a .n) 0) (c .before .before .before .tag-channel .ensures .0)
 
 tag-channel-requires : tie.Need-tag-channel-requires
 tag-channel-requires c κs = search needs
@@ -48,8 +48,8 @@ find-place-requires c κs =
           (parts (buffer-at s) (a .head) (now (a .frame)) (now (a .store)) (s .pre .2) (word-at s) (t .not-late) (t .not-far) (a .n) (s .pre .0)),
     )
 
-enum-known-at : tie.Need-enum-known-at
-enum-known-at c = search needs
+enum-known-place : tie.Need-enum-known-place
+enum-known-place c = search needs
 
 replace-copy-requires : tie.Need-replace-copy-requires
 replace-copy-requires c κs =
@@ -58,11 +58,11 @@ replace-copy-requires c κs =
     let g = s .pre .2 in (
       short-at s,
       held-at (buffer-at s) (g .machine) (g .fine) (a .head) (now (a .frame)) (now (a .store)) (s .pre .3 .not-late) (a .n) (s .pre .0)
-          (c .before .before .before .before .before .at .given .0 .0) (sym (c .before .before .before .before .before .at .given .1) ∙ found-at (c .before .before .before .before .before .before .before)) (g .room),
+          (c .before .before .before .before .before .place .given .0 .0) (sym (c .before .before .before .before .before .place .given .1) ∙ found-at (c .before .before .before .before .before .before .before)) (g .room),
     )
 
-enum-known-at-2 : tie.Need-enum-known-at-2
-enum-known-at-2 c = search needs
+enum-known-place-2 : tie.Need-enum-known-place-2
+enum-known-place-2 c = search needs
 
 returns : tie.Need-returns
 returns c =
@@ -71,7 +71,7 @@ returns c =
     let g = s .pre .2 in
     let t = s .pre .3 in
     step-full (buffer-at s) (g .machine) (g .fine) (a .head) (now (a .frame)) (now (a .store)) (t .not-late) (a .n) (s .pre .0)
-    (c .before .before .at2 .given .0 .0) (sym (c .before .before .at2 .given .1) ∙ found-at (c .before .before .before .before)) (t .not-far) (c .if1 .taken)
+    (c .before .before .place2 .given .0 .0) (sym (c .before .before .place2 .given .1) ∙ found-at (c .before .before .before .before)) (t .not-far) (c .if1 .taken)
 
 insert-copy-requires : tie.Need-insert-copy-requires
 insert-copy-requires c κs =
@@ -82,7 +82,7 @@ insert-copy-requires c κs =
       held = s .pre .0;
       space = c .before .before .before .before .before .if1 .left;
       place = place-in (buffer-at s) (g .machine) (g .fine) (a .head) (now (a .frame)) (now (a .store)) (s .pre .3 .not-late) (a .n) (s .pre .0)
-          (c .before .before .before .before .before .before .before .at2 .given .0 .0) (sym (c .before .before .before .before .before .before .before .at2 .given .1) ∙ found-at (c .before .before .before .before .before .before .before .before .before));
+          (c .before .before .before .before .before .before .before .place2 .given .0 .0) (sym (c .before .before .before .before .before .before .before .place2 .given .1) ∙ found-at (c .before .before .before .before .before .before .before .before .before));
       short = short-at s;
       room = g .room;
     }
@@ -97,7 +97,7 @@ returns-2 c =
     let g = s .pre .2 in
     let t = s .pre .3 in
     step-found (buffer-at s) (g .machine) (g .fine) (a .head) (now (a .frame)) (now (a .store)) (t .not-late) (a .n) (s .pre .0)
-    (c .before .before .before .before .before .before .before .before .at .given .0 .0) (sym (c .before .before .before .before .before .before .before .before .at .given .1) ∙ found-at (c .before .before .before .before .before .before .before .before .before .before)) (t .not-far) _ _ _ _ (c .before .before .replace-copy .ensures)
+    (c .before .before .before .before .before .before .before .before .place .given .0 .0) (sym (c .before .before .before .before .before .before .before .before .place .given .1) ∙ found-at (c .before .before .before .before .before .before .before .before .before .before)) (t .not-far) _ _ _ _ (c .before .before .replace-copy .ensures)
 
 same-length-2 : tie.Need-same-length-2
 same-length-2 c = search needs
@@ -109,7 +109,7 @@ returns-3 c =
     let g = s .pre .2 in
     let t = s .pre .3 in
     step-new (buffer-at s) (g .machine) (g .fine) (a .head) (now (a .frame)) (now (a .store)) (t .not-late) (a .n) (s .pre .0)
-    (c .before .before .before .before .before .before .before .before .before .before .at2 .given .0 .0) (sym (c .before .before .before .before .before .before .before .before .before .before .at2 .given .1) ∙ found-at (c .before .before .before .before .before .before .before .before .before .before .before .before)) (c .before .before .before .before .before .before .before .before .if1 .left) (t .not-far) _ _ _ _ _ _ (c .before .before .insert-copy .ensures)
+    (c .before .before .before .before .before .before .before .before .before .before .place2 .given .0 .0) (sym (c .before .before .before .before .before .before .before .before .before .before .place2 .given .1) ∙ found-at (c .before .before .before .before .before .before .before .before .before .before .before .before)) (c .before .before .before .before .before .before .before .before .if1 .left) (t .not-far) _ _ _ _ _ _ (c .before .before .insert-copy .ensures)
 
 pub lay-copy-spec : {M : Type 1} → statement M
 lay-copy-spec =
@@ -117,9 +117,9 @@ lay-copy-spec =
     (tie.spec
     tag-channel-requires
     find-place-requires
-    enum-known-at
+    enum-known-place
     replace-copy-requires
-    enum-known-at-2
+    enum-known-place-2
     returns
     insert-copy-requires
     same-length
