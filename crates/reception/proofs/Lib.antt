@@ -1,0 +1,4 @@
+pub mod SignedLaws
+pub mod SequenceLaws
+pub mod ReportLaws
+pub mod CallLaws
