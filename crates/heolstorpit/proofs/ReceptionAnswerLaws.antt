@@ -1,5 +1,5 @@
 -- What C is answered of reception reports has the numbers of the library's answer, case by case.
-use mathlib.Core.Path.{_≡_, ap, sym, _∙_}
+use mathlib.Core.Path.{_≡_}
 use Prim.Native.Nat.{ℕ}
 use lib.IntN.{ℤ, pos}
 use Rattle.rtp.specs.Refusals.{number}

@@ -2,14 +2,12 @@
 use mathlib.Core.Path.{_≡_, refl, sym}
 use mathlib.Core.Bool.{Bool, true, false, not, cond}
 use Prim.Native.Nat.{ℕ, _≤_}
-use native.Mathlib.Omega.{arith}
-use lib.Dec.{ltb, eqb}
+use lib.Dec.{ltb}
 use borrow.Author.Tests.{ltb-false, eq-eqb, ne-eqb}
 use Rattle.rtp.specs.Time.{difference}
 use Rattle.rtp.specs.declared.refusal.Refusal.the-variants.{MalformedBuffer}
 use Rattle.rtp.proofs.TestLaws.{either, not-both}
 use Rattle.reception.specs.Sizes.{minSequential, maxSum}
-use Rattle.reception.specs.declared.record.Counts.{Counts}
 use Rattle.reception.specs.declared.record.Reception.{Reception}
 use Rattle.reception.specs.declared.calls.PacketAnswer.{PacketAnswer}
 use Rattle.reception.specs.declared.calls.ReportAnswer.{ReportAnswer}
@@ -17,7 +15,7 @@ use Rattle.reception.specs.Sequence.{judged}
 use Rattle.reception.specs.Report.{noted}
 use Rattle.reception.specs.Jitter.{arrived}
 use Rattle.reception.specs.WellFormed.{wellFormed}
-use Rattle.reception.specs.Calls.{withCounts, PacketOutcome, packetNumbers, packetJudged, packetCall, noBlock, blockNumbers, ReportOutcome, reportNumbers, blockOf, reportCall}
+use Rattle.reception.specs.Calls.{withCounts, packetNumbers, packetJudged, packetCall, noBlock, blockNumbers, reportNumbers, blockOf, reportCall}
 
 -- the answer r of a test t, negated
 pub passed : (r t : Bool) → r ≡ t → not r ≡ false → t ≡ true

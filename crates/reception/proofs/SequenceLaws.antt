@@ -1,12 +1,9 @@
 -- Appendix A.1, case by case.
-use mathlib.Core.Path.{_≡_, refl, sym, ap, _∙_}
-use mathlib.Core.Bool.{true, false, cond}
+use mathlib.Core.Path.{_≡_}
 use Prim.Native.Nat.{ℕ, _-_, _≤_, _<_}
-use lib.Dec.{ltb, leb, eqb}
 use borrow.Author.Tests.{lt-ltb, le-ltb, le-leb, lt-leb, eq-eqb, ne-eqb}
 use Rattle.reception.specs.Sizes.{sequences, minSequential, maxDropout, maxMisorder}
 use Rattle.reception.specs.declared.record.Counts.{Counts}
-use Rattle.reception.specs.declared.sequence.Judged.{Judged}
 use Rattle.reception.specs.Sequence.{following, ahead, anew, first, wanting, advanced, doubted, valid, invalid, probed, followed, judged}
 
 module _ (c : Counts) (s : ℕ) where

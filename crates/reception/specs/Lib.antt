@@ -5,3 +5,4 @@ pub mod Report
 pub mod Jitter
 pub mod WellFormed
 pub mod Calls
+pub mod Claims

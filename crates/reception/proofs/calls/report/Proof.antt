@@ -1,5 +1,5 @@
 use Rattle.reception.proofs.CallLaws.{passed, failed, sum-bounded, report-refused, report-none, report-block}
-use mathlib.Core.Path.{sym, ap, _∙_}
+use mathlib.Core.Path.{sym}
 use borrow.Author.Needs.{needs}
 use Rattle.reception.proofs.calls.report.Statement.{statement}
 use Rattle.reception.proofs.calls.report.Tie as tie

@@ -1,6 +1,4 @@
-use mathlib.Core.Path.{ap, _∙_}
-use lib.IntN.{ℤ}
-use Rattle.reception.specs.Report.{fraction, expectedSince, lostSince, fractionLost}
+use Rattle.reception.specs.Report.{expectedSince, lostSince, fractionLost}
 use Rattle.reception.proofs.SignedLaws.{same}
 use borrow.Author.Needs.{needs}
 use Rattle.reception.proofs.losses.fraction_lost.Statement.{statement}

@@ -1,4 +1,4 @@
-use mathlib.Core.Path.{sym, ap, _∙_}
+use mathlib.Core.Path.{sym}
 use Rattle.reception.proofs.SignedLaws.{back, same}
 use Rattle.reception.proofs.ReportLaws.{above-zero, none-lost, none-due, most-lost, part-lost}
 use borrow.Author.Needs.{needs}

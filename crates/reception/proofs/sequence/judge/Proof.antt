@@ -1,6 +1,5 @@
 use mathlib.Core.Path.{sym, ap, _∙_}
 use native.Mathlib.Omega.{arith}
-use Prim.Native.Nat.{ℕ, _<_}
 use Rattle.reception.specs.declared.record.Counts.{Counts}
 use Rattle.reception.specs.Sequence.{first, probed}
 use Rattle.reception.proofs.SequenceLaws.{judged-first, judged-after, judged-probed}
