@@ -11,7 +11,7 @@ const LEAST_LOST: i32 = -8388608;
 const MOST_LOST: i32 = 8388607;
 
 // The fraction lost is in parts of 256, at most 255.
-const MOST_FRACTION: u64 = 255;
+const MOST_FRACTION: u32 = 255;
 
 // The highest sequence number with its cycles.
 pub(crate) fn extended_highest(counts: Counts) -> u32
@@ -39,8 +39,8 @@ fn part_lost(lost: i32, due: i32) -> u32
         return 0;
     }
     let part = 256 * (signed::size(lost) as u64) / (signed::size(due) as u64);
-    if part > MOST_FRACTION {
-        return 255;
+    if part > MOST_FRACTION as u64 {
+        return MOST_FRACTION;
     }
     part as u32
 }

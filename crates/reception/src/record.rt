@@ -14,8 +14,8 @@ pub const MAX_DROPOUT: u32 = 3000;
 
 pub const MAX_MISORDER: u32 = 100;
 
-// The largest jitter sum.
-pub const MAX_SUM: u64 = 34359738360;
+// The largest jitter sum: 2^35 - 8.
+pub const MAX_SUM: u64 = 0x8_0000_0000 - 8;
 
 // What appendix A.1 keeps. A fresh record is all zeros.
 #[repr(C)]

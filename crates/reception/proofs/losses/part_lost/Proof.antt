@@ -29,6 +29,9 @@ cast-part-2 c = search needs
 div-part : tie.Need-div-part
 div-part c = rw (c .size2 .ensures) (above-zero (back (c .before .before .before .before .args .due)) (c .before .before .if2 .left))
 
+cast-if3 : tie.Need-cast-if3
+cast-if3 c = search needs
+
 returns-3 : tie.Need-returns-3
 returns-3 c = sym (most-lost (c .before .before .before .before .before .args .lost) (c .before .before .before .before .before .args .due) (rw (same (c .before .before .before .before .before .args .lost) (c .before .before .before .before .before .fits .lost)) at (c .before .before .before .before .if1 .left)) (rw (same (c .before .before .before .before .before .args .due) (c .before .before .before .before .before .fits .due)) at (c .before .before .before .if2 .left)) (rw (c .before .before .size .ensures, c .before .size2 .ensures, (same (c .before .before .before .before .before .args .lost) (c .before .before .before .before .before .fits .lost)), (same (c .before .before .before .before .before .args .due) (c .before .before .before .before .before .fits .due))) at (c .if3 .taken)))
 
@@ -50,6 +53,7 @@ part-lost-spec =
     size-requires-2
     cast-part-2
     div-part
+    cast-if3
     returns-3
     cast-result
     returns-4)
