@@ -14,7 +14,7 @@ pub(crate) fn as_signed(x: u32) -> i32
 }
 
 // The size of a signed number, exact at the lowest too: 2^31.
-pub(crate) fn size(x: i32) -> u32
+pub fn size(x: i32) -> u32
     ensures { λ r. ⌜ r ≡ natAbs x ⌝ }
 {
     if x >= 0 {
