@@ -64,12 +64,7 @@ pub(crate) fn three(source: Reception, a: u16, b: u16, c: u16) -> Reception {
     number(second, c)
 }
 
-// So many packets, each `step` after the one before, the first at `from`, none printed.
-pub(crate) fn row(source: Reception, from: u16, step: u16, count: u32) -> Reception {
-    print(b"packets ", count);
-    print(b" from ", from as u32);
-    print(b" by ", step as u32);
-    io::write_all(1, b"\n");
+fn hear_row(source: Reception, from: u16, step: u16, count: u32) -> Reception {
     let mut reached = source;
     let mut sequence = from;
     let mut left = count;
@@ -81,6 +76,15 @@ pub(crate) fn row(source: Reception, from: u16, step: u16, count: u32) -> Recept
         left -= 1;
     }
     reached
+}
+
+// So many packets, each `step` after the one before, the first at `from`, none printed.
+pub(crate) fn row(source: Reception, from: u16, step: u16, count: u32) -> Reception {
+    print(b"packets ", count);
+    print(b" from ", from as u32);
+    print(b" by ", step as u32);
+    io::write_all(1, b"\n");
+    hear_row(source, from, step, count)
 }
 
 fn print_block(block: ReportBlock) {
