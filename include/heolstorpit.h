@@ -1,6 +1,6 @@
 /*
  * heolstorpit: RTP packets of G.719 and GSM-HR sound, read into frame rows, gathered and handed out in time order, and
- * written. The functions are proved against their definitions; link target/staticlib/libheolstorpit.a
+ * written; and reception reports on their sources. The functions are proved against their definitions; link target/staticlib/libheolstorpit.a
  * (made by `rt staticlib heolstorpit`, for x86-64 Linux).
  *
  * WHO OWNS WHAT. The library has no memory of its own: no allocation, no global state, nothing kept after a call returns.
@@ -12,8 +12,8 @@
  * the call may write to one of them.
  *
  * REFUSALS. Every answer begins with `refusal`: 0, or the number of the first reason that applies. A refusal changes
- * nothing: no byte or word of any area; all other numbers of the answer are 0, and a buffer comes back as it was handed in
- * (from hsp_new: all zero).
+ * nothing: no byte or word of any area; all other numbers of the answer are 0, and a buffer or a reception record comes
+ * back as it was handed in (from hsp_new: all zero).
  *
  *    1  packet shorter than 12 or longer than 2,048 bytes
  *    2  RTP version is not 2
