@@ -1,7 +1,7 @@
 /*
  * heolstorpit: RTP packets of G.719 and GSM-HR sound, read into frame rows, gathered and handed out in time order, and
- * written; and reception reports on their sources. The functions are proved against their definitions; link target/staticlib/libheolstorpit.a
- * (made by `rt staticlib heolstorpit`, for x86-64 Linux).
+ * written; and reception reports on their sources. The functions are proved against their definitions; link
+ * target/staticlib/libheolstorpit.a (made by `rt staticlib heolstorpit`, for x86-64 Linux).
  *
  * WHO OWNS WHAT. The library has no memory of its own: no allocation, no global state, nothing kept after a call returns.
  * Packets, rows, bytes, store and areas belong to the caller and are only used during the call. A buffer is a plain value:
