@@ -55,15 +55,15 @@ pub struct Report {
     pub jitter: u32,
 }
 
-/// The rules ask for 16 bits of the highest sequence. A record handed in may have more; that is what the library
-/// says of it: as a sequence number it is what is left modulo 65,536. Everything else is read as the number that it is: `bad`, which a
-/// sequence then may not equal, and base and highest in the sums of a report.
+/// Sequence numbers have 16 bits, and a record handed in may have more of the highest. The papers do not say what that means, so it is a
+/// choice, made here: where the rules compare it with a packet's sequence, it is what is left modulo 65,536. All else is read as the number
+/// that it is: `bad`, which no sequence equals then, and base and highest in the sums of a report.
 fn highest_as_sequence(record: &Reception) -> u32 {
     record.highest % SEQUENCES
 }
 
-/// What a flag is once its first packet has come. A record handed in may have other numbers than 1 for that:
-/// `started` stays what it is, `transit_set` is 1 after each valid packet.
+/// What a flag is once its first packet has come. A record handed in may have other numbers than 1 for that, a choice as well:
+/// `started` then stays what it is, `transit_set` is 1 after each valid packet.
 const SET: u32 = 1;
 
 /// "Counters run modulo 2^32"
