@@ -63,7 +63,7 @@ fn highest_as_sequence(record: &Reception) -> u32 {
 }
 
 /// What a flag is once its first packet has come. A record handed in may have other numbers than 1 for that, a choice as well:
-/// `started` then stays what it is, `transit_set` is 1 after each valid packet.
+/// such a number stays what it is.
 const SET: u32 = 1;
 
 /// "Counters run modulo 2^32"
@@ -159,9 +159,10 @@ fn update_jitter(record: &mut Reception, timestamp: u32, arrival: u32) {
         // "their size is exact at the lowest value"
         let size = difference(transit, record.transit).unsigned_abs();
         record.jitter = record.jitter + size - (record.jitter + 8) / 16;
+    } else {
+        record.transit_set = SET;
     }
     record.transit = transit;
-    record.transit_set = SET;
 }
 
 /// A.3: the report, and the record that notes it. "a report before [the first valid packet] is all zeros and changes nothing"

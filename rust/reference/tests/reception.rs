@@ -311,7 +311,7 @@ fn other_flags() {
     let record = Reception { started: 7, transit_set: 8, transit: 100, ..source(1) };
     assert_eq!(reception_report(&record).1.unwrap().highest_sequence, 1);
     let (after, _) = reception_packet(&record, 2, 0, 116);
-    assert_eq!((after.jitter, after.highest, after.received, after.started, after.transit_set), (16, 2, 2, 7, 1));
+    assert_eq!((after.jitter, after.highest, after.received, after.started, after.transit_set), (16, 2, 2, 7, 8));
     let record = Reception { jitter: 5, started: 0, transit: 6, transit_set: 8, cycles: 9, expected_prior: 9, ..source(1) };
     let (after, valid) = reception_packet(&record, 2, 0, 116);
     let first = Reception { probation: 1, started: 1, base: 2, highest: 2, bad: 65_537, ..Default::default() };
