@@ -1,7 +1,7 @@
 /*
  * heolstorpit: RTP packets of G.719 and GSM-HR sound, read into frame rows, gathered and handed out in time order, and
- * written. The functions are proved against their definitions; link target/staticlib/libheolstorpit.a
- * (made by `rt staticlib heolstorpit`, for x86-64 Linux).
+ * written; and reception reports on their sources. The functions are proved against their definitions; link
+ * target/staticlib/libheolstorpit.a (made by `rt staticlib heolstorpit`, for x86-64 Linux).
  *
  * WHO OWNS WHAT. The library has no memory of its own: no allocation, no global state, nothing kept after a call returns.
  * Packets, rows, bytes, store and areas belong to the caller and are only used during the call. A buffer is a plain value:
@@ -12,8 +12,8 @@
  * the call may write to one of them.
  *
  * REFUSALS. Every answer begins with `refusal`: 0, or the number of the first reason that applies. A refusal changes
- * nothing: no byte or word of any area; all other numbers of the answer are 0, and a buffer comes back as it was handed in
- * (from hsp_new: all zero).
+ * nothing: no byte or word of any area; all other numbers of the answer are 0, and a buffer or a reception record comes
+ * back as it was handed in (from hsp_new: all zero).
  *
  *    1  packet shorter than 12 or longer than 2,048 bytes
  *    2  RTP version is not 2
@@ -29,7 +29,7 @@
  *   12  an area is too short: see the function
  *   13  the rows cannot be written: see the function
  *   14  a row to be written has start + length over the length of the byte area
- *   15  the buffer handed in is not well-formed: see hsp_buffer
+ *   15  the buffer or the reception record handed in is not well-formed: see hsp_buffer, hsp_reception
  *
  * The order in which they are asked: reading 11, 12, 1, 2, 3, 4, 5, then 6 to 9 table entry by table entry, then 10.
  * (Redundancy: all block headers 6, then their lengths 10, then block by block as a payload.) Writing 11, 14, 13, 12.
@@ -134,6 +134,47 @@ typedef struct {
 } hsp_drawn;
 
 /*
+ * What is kept of a source for reception reports (RFC 3550, appendix A); 56 bytes, the last 4 of them padding. Get one from
+ * hsp_reception_new, where all is 0, and hand in what the last call gave back. 15 says that probation is over 2 or jitter
+ * over 2^35 - 8; any other number may be anything. From a fresh record on every call gives back a well-formed one.
+ *   jitter          the jitter sum: 16 times the jitter
+ *   probation       packets in sequence that are still wanted before the source is valid
+ *   started         0: no packet came yet
+ *   base, highest   first and highest sequence number, 16 bits. Of a highest one handed in with more, the 16 low bits are
+ *                   compared with a packet's, and a report adds all of it to cycles
+ *   bad             the sequence number that, if it comes next, makes the counts start anew; 65,537: none
+ *   cycles          65,536 for each time that the sequence number wrapped
+ *   received        valid packets
+ *   expected_prior, received_prior   what the last report noted
+ *   transit         arrival less timestamp of the last valid packet
+ *   transit_set     0: no valid packet came yet
+ */
+typedef struct {
+    uint64_t jitter;
+    uint32_t probation, started, base, highest, bad, cycles, received, expected_prior, received_prior, transit, transit_set;
+} hsp_reception;
+
+/* hsp_reception_packet's answer: `valid` is 1 if appendix A.1 takes the packet for one of the source's, else 0. */
+typedef struct {
+    uint32_t refusal, valid;
+    hsp_reception reception;
+} hsp_received;
+
+/*
+ * hsp_reception_report's answer:
+ *   fraction_lost     packets lost of those expected since the last report, in parts of 256; at most 255
+ *   cumulative_lost   packets lost of those expected so far, -8388608 to 8388607; below 0 with more repeated than lost
+ *   highest_sequence  the highest sequence number and its cycles
+ *   jitter            in ticks of the timestamps
+ */
+typedef struct {
+    uint32_t refusal, fraction_lost;
+    int32_t cumulative_lost;
+    uint32_t highest_sequence, jitter;
+    hsp_reception reception;
+} hsp_reported;
+
+/*
  * Reads a packet into frame rows: plain payloads and redundancy payloads. The rows stand at the front of `rows`, in the
  * packet's order; the words after the last row stay as they were. Blocks of other payload types in a redundancy
  * payload are passed over, and an empty block gives no rows.
@@ -193,6 +234,24 @@ hsp_offered hsp_offer(hsp_buffer buffer, const uint8_t *packet, size_t packet_le
  *   area   at least 320 bytes (else 12, also where no frame is held)
  */
 hsp_drawn hsp_draw(hsp_buffer buffer, const uint8_t *store, size_t store_length, uint8_t *area, size_t area_length);
+
+/* A record of no packet yet: all zeros. */
+hsp_reception hsp_reception_new(void);
+
+/*
+ * Notes a packet of the source: whether it is valid by its sequence number (RFC 3550, appendix A.1: dropout 3,000, misorder
+ * 100, two packets of probation, where 0 follows 65535), and, if it is, the jitter of its arrival (A.8). The first valid
+ * packet only sets the transit; late and repeated packets are valid too. A packet that is not changes only what A.1 says.
+ *   timestamp  the packet's
+ *   arrival    the clock in ticks of the timestamps when it came; it may go back or wrap
+ */
+hsp_received hsp_reception_packet(hsp_reception reception, uint16_t sequence, uint32_t timestamp, uint32_t arrival);
+
+/*
+ * The report (A.3): what was lost since the last one and so far, the highest sequence number, the jitter. It notes what was
+ * expected and received. Before the first valid packet it is all zeros and changes nothing.
+ */
+hsp_reported hsp_reception_report(hsp_reception reception);
 
 #ifdef __cplusplus
 }

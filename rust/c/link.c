@@ -1,5 +1,5 @@
 /* The header used from C: sizes and places of the structs' fields, and each function called once as its comment says.
- * -DHAVE_READ, -DHAVE_WRITE, -DHAVE_BUFFER: which functions the archive has. */
+ * -DHAVE_READ, -DHAVE_WRITE, -DHAVE_BUFFER, -DHAVE_RECEPTION: which functions the archive has. */
 #include "heolstorpit.h"
 
 #include <stdio.h>
@@ -20,6 +20,17 @@ HOLDS(buffer_drawn, offsetof(hsp_buffer, drawn) == 3104 && offsetof(hsp_buffer, 
 HOLDS(fresh_size, sizeof(hsp_fresh) == 3120 && offsetof(hsp_fresh, buffer) == 8);
 HOLDS(offered_size, sizeof(hsp_offered) == 3144 && offsetof(hsp_offered, buffer) == 32);
 HOLDS(drawn_size, sizeof(hsp_drawn) == 3136 && offsetof(hsp_drawn, buffer) == 24);
+HOLDS(reception_size, sizeof(hsp_reception) == 56 && offsetof(hsp_reception, jitter) == 0);
+HOLDS(reception_first, offsetof(hsp_reception, probation) == 8 && offsetof(hsp_reception, started) == 12);
+HOLDS(reception_sequence, offsetof(hsp_reception, base) == 16 && offsetof(hsp_reception, highest) == 20);
+HOLDS(reception_bad, offsetof(hsp_reception, bad) == 24);
+HOLDS(reception_counts, offsetof(hsp_reception, cycles) == 28 && offsetof(hsp_reception, received) == 32);
+HOLDS(reception_priors, offsetof(hsp_reception, expected_prior) == 36 && offsetof(hsp_reception, received_prior) == 40);
+HOLDS(reception_transit, offsetof(hsp_reception, transit) == 44 && offsetof(hsp_reception, transit_set) == 48);
+HOLDS(received_size, sizeof(hsp_received) == 64 && offsetof(hsp_received, reception) == 8);
+HOLDS(reported_size, sizeof(hsp_reported) == 80 && offsetof(hsp_reported, reception) == 24);
+HOLDS(reported_lost, offsetof(hsp_reported, cumulative_lost) == 8 && offsetof(hsp_reported, highest_sequence) == 12);
+HOLDS(reported_jitter, offsetof(hsp_reported, jitter) == 16);
 HOLDS(areas, HSP_ROW_AREA == HSP_MAX_ROWS * HSP_ROW_WORDS && HSP_STORE_BYTES == HSP_SLOTS * HSP_SLOT_BYTES);
 
 #define EXPECT(fact)                                                  \
@@ -39,6 +50,7 @@ int main(void) {
     size_t i;
     for (i = 16; i < sizeof packet; i++) packet[i] = (uint8_t)i;
     memset(rows, 0xEE, sizeof rows);
+    (void)settings;
 
 #ifdef HAVE_READ
     {
@@ -93,6 +105,47 @@ int main(void) {
         d.buffer.drawn = 2;
         EXPECT(hsp_draw(d.buffer, store, sizeof store, area, sizeof area).refusal == 15);
         puts("hsp_new, hsp_offer and hsp_draw work from C");
+    }
+#endif
+#ifdef HAVE_RECEPTION
+    {
+        /* 65535 and 0 end the probation; 3 and 4 are lost; the last comes 160 ticks late. */
+        static const uint16_t sequences[6] = {65535, 0, 1, 2, 5, 6};
+        hsp_received p;
+        hsp_reported r = hsp_reception_report(hsp_reception_new());
+        EXPECT(r.refusal == 0 && r.fraction_lost == 0 && r.cumulative_lost == 0 && r.highest_sequence == 0 && r.jitter == 0);
+        p.reception = r.reception;
+        EXPECT(p.reception.jitter == 0 && p.reception.probation == 0 && p.reception.started == 0 && p.reception.base == 0);
+        EXPECT(p.reception.highest == 0 && p.reception.bad == 0 && p.reception.cycles == 0 && p.reception.received == 0);
+        EXPECT(p.reception.expected_prior == 0 && p.reception.received_prior == 0);
+        EXPECT(p.reception.transit == 0 && p.reception.transit_set == 0);
+        for (i = 0; i < 6; i++) {
+            p = hsp_reception_packet(p.reception, sequences[i], 0xFFFFFFF0, i < 5 ? 16 : 176);
+            EXPECT(p.refusal == 0 && p.valid == (i > 0));
+        }
+        EXPECT(p.reception.probation == 0 && p.reception.started != 0 && p.reception.base == 0 && p.reception.highest == 6);
+        EXPECT(p.reception.bad == 65537 && p.reception.cycles == 0 && p.reception.received == 5 && p.reception.jitter == 160);
+        EXPECT(p.reception.transit == 192 && p.reception.transit_set != 0);
+        /* 2 of 7 are lost: 2 * 256 / 7 */
+        r = hsp_reception_report(p.reception);
+        EXPECT(r.refusal == 0 && r.fraction_lost == 73 && r.cumulative_lost == 2 && r.highest_sequence == 6 && r.jitter == 10);
+        EXPECT(r.reception.expected_prior == 7 && r.reception.received_prior == 5);
+        p = hsp_reception_packet(r.reception, 30000, 0, 0);
+        EXPECT(p.refusal == 0 && p.valid == 0 && p.reception.bad == 30001 && p.reception.highest == 6 && p.reception.received == 5);
+        /* three repeats: one more than were expected, and cumulative_lost is below 0 */
+        for (i = 0; i < 3; i++) p = hsp_reception_packet(p.reception, 6, 0, 192);
+        r = hsp_reception_report(p.reception);
+        EXPECT(p.valid == 1 && r.fraction_lost == 0 && r.cumulative_lost == -1 && r.highest_sequence == 6);
+        r.reception.probation = 3;
+        p = hsp_reception_packet(r.reception, 7, 0, 0);
+        EXPECT(p.refusal == 15 && p.valid == 0 && p.reception.probation == 3 && p.reception.highest == 6);
+        r.reception.probation = 2;
+        r.reception.jitter = 34359738361;
+        r = hsp_reception_report(r.reception);
+        EXPECT(r.refusal == 15 && r.cumulative_lost == 0 && r.highest_sequence == 0 && r.jitter == 0 && r.reception.jitter == 34359738361);
+        r.reception.jitter = 34359738360;
+        EXPECT(hsp_reception_report(r.reception).jitter == 2147483647);
+        puts("hsp_reception_new, hsp_reception_packet and hsp_reception_report work from C");
     }
 #endif
     return 0;

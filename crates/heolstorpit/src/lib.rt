@@ -3,4 +3,5 @@
 pub mod buffers;
 pub mod packets;
 pub mod reading;
+pub mod reports;
 pub mod writing;

@@ -11,6 +11,11 @@ use formats::frames::SID;
 use layout::buffer::SLOT_SIZE;
 use libc::STDERR_FILENO;
 use libc::STDOUT_FILENO;
+use reception::calls;
+use reception::calls::ReportAnswer;
+use reception::calls::ReportBlock;
+use reception::record::Reception;
+use reception::signed;
 use reorder::calls::DrawnFrame;
 
 // Progress is said after each so many packets.
@@ -139,9 +144,51 @@ fn print_sources(sources: Sources) -> bool {
     print(&mut line, at)
 }
 
+fn put_signed(line: &mut [u8; LINE], at: usize, value: i32) -> usize {
+    let mut end = at;
+    if value < 0 {
+        end = lines::put(line, at, b"-");
+    }
+    lines::put_number(line, end, b"", signed::size(value) as u64)
+}
+
+fn print_block(block: ReportBlock) -> bool {
+    let mut line = lines::blank();
+    let mut at = lines::put_number(
+        &mut line,
+        0,
+        b"report: fraction lost ",
+        block.fraction_lost as u64,
+    );
+    at = lines::put(&mut line, at, b", cumulative lost ");
+    at = put_signed(&mut line, at, block.cumulative_lost);
+    at = lines::put_number(
+        &mut line,
+        at,
+        b", highest sequence ",
+        block.highest_sequence as u64,
+    );
+    print(&mut line, at)
+}
+
+// The report on the first source. It is never refused: the record comes from the calls.
+fn print_report(heard: Reception) -> bool {
+    let reported = calls::report(heard);
+    let answer = reported.answer;
+    match answer {
+        ReportAnswer::Block(block) => print_block(block),
+        ReportAnswer::Refused(_) => true,
+    }
+}
+
 // The summary.
 pub(crate) fn print_summary(totals: Totals, gaps: Gaps, sources: Sources) -> bool {
-    print_counts(totals) && print_refusals(totals) && print_gaps(gaps) && print_sources(sources)
+    let heard = sources.heard;
+    print_counts(totals)
+        && print_refusals(totals)
+        && print_gaps(gaps)
+        && print_sources(sources)
+        && print_report(heard)
 }
 
 // Says that the packet of this number is the first of another source than the packets before it.

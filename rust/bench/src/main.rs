@@ -1,5 +1,5 @@
-//! Prints nanoseconds an operation, and how many times as long the others take: reading, writing, and offer + draw, by the proved library,
-//! by plain Rust, by libre's and speexdsp's jitter buffers, and two copies of the frame for scale.
+//! Prints nanoseconds an operation, and how many times as long the others take: reading, writing, offer + draw, and reception reports, by
+//! the proved library, by plain Rust, by libre's and speexdsp's jitter buffers, and two copies of the frame for scale.
 //!
 //! Each figure is the least of several samples, taken turn by turn so that all contenders meet the same machine. Build with the
 //! profile `measured`: bench.sh does.
@@ -49,11 +49,20 @@ fn measure(title: &str, columns: &[&str], mut contenders: Vec<Contender>) {
     for column in columns {
         match contenders.iter().position(|contender| contender.name == *column) {
             None => print!("{:>20}", "-"),
-            Some(0) => print!("{:>20}", format!("{:.0} ns", least[0])),
-            Some(i) => print!("{:>20}", format!("{:.0} ns ({:.2})", least[i], least[i] / base)),
+            Some(0) => print!("{:>20}", format!("{} ns", shown(least[0]))),
+            Some(i) => print!("{:>20}", format!("{} ns ({:.2})", shown(least[i]), least[i] / base)),
         }
     }
     println!();
+}
+
+/// Nanoseconds in figures: a few of them with a tenth.
+fn shown(time: f64) -> String {
+    if time < 10.0 {
+        format!("{time:.1}")
+    } else {
+        format!("{time:.0}")
+    }
 }
 
 fn head(title: &str, columns: &[&str]) {
@@ -441,6 +450,87 @@ fn gathering() {
     println!("{}", lost.join("\n"));
 }
 
+/// What a receiver does for its reports.
+trait Receive {
+    fn packet(&mut self, sequence: u16, timestamp: u32, arrival: u32) -> bool;
+    /// The fraction lost.
+    fn report(&mut self) -> u32;
+}
+
+#[cfg(feature = "reception")]
+impl Receive for heolstorpit::Reception {
+    fn packet(&mut self, sequence: u16, timestamp: u32, arrival: u32) -> bool {
+        self.packet(sequence, timestamp, arrival).unwrap()
+    }
+
+    fn report(&mut self) -> u32 {
+        self.report().unwrap().fraction_lost as u32
+    }
+}
+
+impl Receive for plain::Reception {
+    fn packet(&mut self, sequence: u16, timestamp: u32, arrival: u32) -> bool {
+        self.packet(sequence, timestamp, arrival)
+    }
+
+    fn report(&mut self) -> u32 {
+        self.report().fraction_lost
+    }
+}
+
+impl Receive for reference::Reception {
+    fn packet(&mut self, sequence: u16, timestamp: u32, arrival: u32) -> bool {
+        let (after, valid) = reference::reception_packet(self, sequence, timestamp, arrival);
+        *self = after;
+        valid.unwrap()
+    }
+
+    fn report(&mut self) -> u32 {
+        let (after, report) = reference::reception_report(self);
+        *self = after;
+        report.unwrap().fraction_lost
+    }
+}
+
+/// Rounds of 64 times so many packets, each eighth of the stream lost, and so many reports.
+fn receiver<'a>(name: &'static str, packets: usize, reports: usize, mut peer: impl Receive + 'a) -> Contender<'a> {
+    let mut sequence = 0u16;
+    let mut next = move |peer: &mut dyn Receive| {
+        sequence = sequence.wrapping_add(if sequence % 8 == 6 { 2 } else { 1 });
+        let time = STEP.wrapping_mul(sequence as u32);
+        peer.packet(black_box(sequence), black_box(time), black_box(time ^ u32::from(sequence % 64)))
+    };
+    // past the probation
+    for _ in 0..4 {
+        next(&mut peer);
+    }
+    contender(name, move || {
+        for _ in 0..64 {
+            for _ in 0..packets {
+                assert!(next(&mut peer));
+            }
+            for _ in 0..reports {
+                black_box(peer.report());
+            }
+        }
+        64
+    })
+}
+
+fn receiving() {
+    let columns = [LIBRARY, RUST, REFERENCE];
+    head("Reception reports", &columns);
+    for (title, packets, reports) in [("one packet", 1, 0), ("one report", 0, 1), ("one packet and one report", 1, 1)] {
+        #[allow(unused_mut)]
+        let mut contenders = Vec::new();
+        #[cfg(feature = "reception")]
+        contenders.push(receiver(LIBRARY, packets, reports, heolstorpit::Reception::new()));
+        contenders.push(receiver(RUST, packets, reports, plain::Reception::default()));
+        contenders.push(receiver(REFERENCE, packets, reports, reference::Reception::default()));
+        measure(title, &columns, contenders);
+    }
+}
+
 fn main() {
     println!("Nanoseconds an operation, the least of {SAMPLES} samples; in brackets: times as long as {LIBRARY}.");
     if !cfg!(feature = "libre") {
@@ -449,14 +539,19 @@ fn main() {
     if !cfg!(feature = "speexdsp") {
         println!("libspeexdsp-dev is not installed: its jitter buffer is left out.");
     }
-    for (group, on) in [("read", cfg!(feature = "read")), ("write", cfg!(feature = "write")), ("buffer", cfg!(feature = "buffer"))] {
+    for (group, on) in [
+        ("read", cfg!(feature = "read")),
+        ("write", cfg!(feature = "write")),
+        ("buffer", cfg!(feature = "buffer")),
+        ("reception", cfg!(feature = "reception")),
+    ] {
         if !on {
             println!("Built without the library's functions of the group `{group}`: the first column there is plain Rust.");
         }
     }
     // words: only these parts
     let words: Vec<String> = std::env::args().skip(1).collect();
-    for (word, part) in [("reading", reading as fn()), ("writing", writing), ("gathering", gathering)] {
+    for (word, part) in [("reading", reading as fn()), ("writing", writing), ("gathering", gathering), ("receiving", receiving)] {
         if words.is_empty() || words.iter().any(|w| w == word) {
             part();
         }

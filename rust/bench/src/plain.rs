@@ -516,3 +516,103 @@ impl Take {
         Ok(Drawn::Frame { time: first.time, channel: first.channel as u32, class: first.class as u32, length: first.length as u32 })
     }
 }
+
+// Reception reports
+
+/// What is kept of a source.
+#[derive(Clone, Debug, Default)]
+pub struct Reception {
+    first_come: bool,
+    probation: u8,
+    base: u16,
+    highest: u16,
+    /// the sequence number that would make a restart
+    bad: Option<u16>,
+    cycles: u32,
+    received: u32,
+    expected_prior: u32,
+    received_prior: u32,
+    /// 16 times the jitter
+    jitter: u64,
+    transit: Option<u32>,
+}
+
+impl Reception {
+    pub fn packet(&mut self, sequence: u16, timestamp: u32, arrival: u32) -> bool {
+        let valid = self.update_sequence(sequence);
+        if valid {
+            let transit = arrival.wrapping_sub(timestamp);
+            if let Some(last) = self.transit {
+                let d = (transit.wrapping_sub(last) as i32).unsigned_abs();
+                self.jitter = self.jitter + d as u64 - ((self.jitter + 8) >> 4);
+            }
+            self.transit = Some(transit);
+        }
+        valid
+    }
+
+    fn start(&mut self, sequence: u16) {
+        *self = Reception {
+            first_come: true,
+            base: sequence,
+            highest: sequence,
+            jitter: self.jitter,
+            transit: self.transit,
+            ..Default::default()
+        };
+    }
+
+    fn update_sequence(&mut self, sequence: u16) -> bool {
+        if !self.first_come {
+            self.start(sequence);
+            self.highest = sequence.wrapping_sub(1);
+            self.probation = MIN_SEQUENTIAL as u8;
+        }
+        let ahead = sequence.wrapping_sub(self.highest) as u32;
+        if self.probation > 0 {
+            self.highest = sequence;
+            if ahead != 1 {
+                self.probation = MIN_SEQUENTIAL as u8 - 1;
+                return false;
+            }
+            self.probation -= 1;
+            if self.probation > 0 {
+                return false;
+            }
+            self.start(sequence);
+        } else if ahead < MAX_DROPOUT {
+            if sequence < self.highest {
+                self.cycles = self.cycles.wrapping_add(SEQUENCES);
+            }
+            self.highest = sequence;
+        } else if ahead <= SEQUENCES - MAX_MISORDER {
+            if self.bad != Some(sequence) {
+                self.bad = Some(sequence.wrapping_add(1));
+                return false;
+            }
+            self.start(sequence);
+        }
+        self.received = self.received.wrapping_add(1);
+        true
+    }
+
+    pub fn report(&mut self) -> Report {
+        if self.transit.is_none() {
+            return Report::default();
+        }
+        let highest_sequence = self.cycles.wrapping_add(self.highest as u32);
+        let expected = highest_sequence.wrapping_sub(self.base as u32).wrapping_add(1);
+        let lost = expected.wrapping_sub(self.received) as i32;
+        let expected_interval = expected.wrapping_sub(self.expected_prior);
+        let lost_interval = expected_interval.wrapping_sub(self.received.wrapping_sub(self.received_prior));
+        self.expected_prior = expected;
+        self.received_prior = self.received;
+        let fraction_lost = if expected_interval as i32 <= 0 || lost_interval as i32 <= 0 {
+            0
+        } else {
+            (((lost_interval as u64) << 8) / expected_interval as u64).min(MAX_FRACTION as u64) as u32
+        };
+        let cumulative_lost = lost.clamp(MIN_LOST, MAX_LOST);
+        Report { fraction_lost, cumulative_lost, highest_sequence, jitter: (self.jitter >> 4) as u32 }
+    }
+}

@@ -1,7 +1,7 @@
 //! The plain Rust version answers and leaves what the reference does.
 
 use bench::plain;
-use cases::{Random, Shape};
+use cases::{Arrival, Random, Shape, Source};
 use reference::{DRAW_AREA, MAX_PACKET, MAX_PAYLOAD, MAX_ROWS, ROW_AREA, ROW_WORDS, STORE_BYTES};
 
 #[test]
@@ -75,5 +75,27 @@ fn gathering() {
                 assert!(one_area == two_area);
             }
         }
+    }
+}
+
+#[test]
+fn receiving() {
+    let mut r = Random::new(44);
+    for _ in 0..2000 {
+        let (mut mine, mut theirs) = (plain::Reception::default(), reference::Reception::default());
+        let trouble = r.pick(&[0, 5, 60]);
+        let mut source = Source::new(&mut r, trouble);
+        for _ in 0..r.pick(&[10, 300]) {
+            let Arrival { sequence, timestamp, arrival } = source.packet(&mut r, &theirs);
+            let (after, valid) = reference::reception_packet(&theirs, sequence, timestamp, arrival);
+            theirs = after;
+            assert_eq!(Ok(mine.packet(sequence, timestamp, arrival)), valid);
+            if r.percent(30) {
+                let (after, report) = reference::reception_report(&theirs);
+                theirs = after;
+                assert_eq!(Ok(mine.report()), report);
+            }
+        }
+        assert_eq!(Ok(mine.report()), reference::reception_report(&theirs).1);
     }
 }

@@ -1,6 +1,6 @@
-//! The reference has the properties that document 01 claims of the build: what is written reads back, and demand 3.
+//! The reference has the properties that the papers claim of the build: what is written reads back, demand 3, and what P7 says of reports.
 
-use cases::{Random, Shape};
+use cases::{Arrival, Random, Shape, Source};
 use reference::*;
 use std::collections::BTreeMap;
 
@@ -120,4 +120,80 @@ fn any_order_draws_the_best_copies_in_time_order() {
         }
     }
     assert!(judged > 2000 && frames > 20_000, "{judged} {frames}");
+}
+
+/// P7: from any record that is not refused the sum keeps its bound and the reported numbers their ranges, and the record after a call is not
+/// refused; a packet that is not valid changes only what A.1 says, and is not received.
+#[test]
+fn receptions_keep_their_ranges() {
+    let mut r = Random::new(53);
+    for _ in 0..300_000 {
+        let record = if r.percent(70) { cases::any_reception(&mut r) } else { cases::reception_before_report(&mut r) };
+        let Arrival { sequence, timestamp, arrival } = Source::new(&mut r, 100).packet(&mut r, &record);
+        let (after, valid) = reception_packet(&record, sequence, timestamp, arrival);
+        let (noted, report) = reception_report(&record);
+        assert_eq!(valid.is_err(), report.is_err());
+        let Ok(report) = report else {
+            assert_eq!((after, noted, valid, report), (record, record, Err(15), Err(15)));
+            continue;
+        };
+        assert!(after.jitter <= MAX_JITTER_SUM && after.probation <= MIN_SEQUENTIAL);
+        assert!(report.jitter < 1 << 31 && report.fraction_lost <= MAX_FRACTION);
+        assert!((MIN_LOST..=MAX_LOST).contains(&report.cumulative_lost));
+        assert!(reception_packet(&after, sequence, timestamp, arrival).1.is_ok() && reception_report(&noted).1.is_ok());
+        let Reception { expected_prior, received_prior, .. } = noted;
+        assert_eq!(noted, Reception { expected_prior, received_prior, ..record });
+        // a second report has the same numbers, and nothing since
+        let (again, second) = reception_report(&noted);
+        assert_eq!((again, second), (noted, Ok(Report { fraction_lost: 0, ..report })));
+        if valid == Ok(false) {
+            let Reception { jitter, transit, transit_set, received, .. } = after;
+            assert_eq!((jitter, transit, transit_set), (record.jitter, record.transit, record.transit_set));
+            assert!(received == record.received || (record.started == 0 && received == 0));
+            if record.started != 0 && record.probation == 0 {
+                assert_eq!(after, Reception { bad: after.bad, ..record });
+            }
+        }
+    }
+}
+
+/// P7: n packets in a row from a base raise the highest sequence by n - 1, and nothing is lost; of a stream with losses, each report says how
+/// many of those sent since the last one did not come.
+#[test]
+fn receptions_count_a_stream() {
+    let mut r = Random::new(54);
+    let mut cycles = 0;
+    for round in 0..60 {
+        let anywhere = r.word() % SEQUENCES;
+        let first = r.pick(&[0, 1, 65_534, 65_535, anywhere]);
+        let lossy = round % 3 > 0;
+        let mut record = reception_packet(&Reception::default(), (first as u16).wrapping_sub(1), 0, 0).0;
+        // sent from the base on, come of them; and both at the last report
+        let (mut sent, mut come, mut sent_prior, mut come_prior) = (0u32, 0, 0, 0);
+        for _ in 0..r.pick(&[5, 1000, 150_000]) {
+            sent += 1;
+            if come > 0 && lossy {
+                sent += r.pick(&[0, 0, 0, 0, 0, 1, 2, 40]);
+            }
+            come += 1;
+            let (after, valid) = reception_packet(&record, (first + sent - 1) as u16, r.word(), r.word());
+            assert_eq!(valid, Ok(true));
+            record = after;
+            if r.percent(1) || sent < 5 {
+                let (after, report) = reception_report(&record);
+                let fraction = 256 * ((sent - sent_prior) - (come - come_prior)) / (sent - sent_prior);
+                let numbers = Report {
+                    fraction_lost: fraction,
+                    cumulative_lost: (sent - come) as i32,
+                    highest_sequence: first + sent - 1,
+                    ..report.unwrap()
+                };
+                assert_eq!(report, Ok(numbers));
+                assert!(lossy || (fraction, sent - come) == (0, 0));
+                (record, sent_prior, come_prior) = (after, sent, come);
+            }
+        }
+        cycles += record.cycles / SEQUENCES;
+    }
+    assert!(cycles > 20, "{cycles}");
 }

@@ -7,7 +7,7 @@
 mod convert;
 
 use cases::{Random, Shape};
-use convert::{settings, to_raw};
+use convert::{raw_reception, settings, to_raw};
 use heolstorpit::raw;
 use reference::{DRAW_AREA, MAX_PACKET, MAX_PAYLOAD, MAX_ROWS, ROW_AREA, ROW_WORDS, STORE_BYTES};
 
@@ -23,6 +23,8 @@ fn main() {
     write(&mut r, cases);
     #[cfg(feature = "buffer")]
     buffer(&mut r, cases);
+    #[cfg(feature = "reception")]
+    reception(&mut r, cases);
 }
 
 /// A heap block of exactly these elements.
@@ -129,4 +131,34 @@ fn buffer(r: &mut Random, cases: usize) {
         }
     }
     println!("exact lengths: {cases} calls of offer and draw");
+}
+
+/// No area is lent here: that nothing else is read or written, and that every number of the answer is set.
+#[cfg(feature = "reception")]
+fn reception(r: &mut Random, cases: usize) {
+    let mut record = reference::Reception::default();
+    let mut source = cases::Source::new(r, 20);
+    for i in 0..cases {
+        if i % 200 == 0 {
+            record = reference::Reception::default();
+            assert_eq!(raw::reception_new(), raw_reception(&record));
+            source = cases::Source::new(r, 20);
+        }
+        let packet = source.packet(r, &record);
+        let given = if r.percent(80) { record } else { cases::any_reception(r) };
+        let answer = raw::reception_packet(raw_reception(&given), packet.sequence, packet.timestamp, packet.arrival);
+        let (after, expected) = reference::reception_packet(&given, packet.sequence, packet.timestamp, packet.arrival);
+        let numbers = (expected.err().unwrap_or(0), expected.unwrap_or(false) as u32, raw_reception(&after));
+        assert_eq!((answer.refusal, answer.valid, answer.reception), numbers);
+        let answer = raw::reception_report(raw_reception(&after));
+        let (noted, expected) = reference::reception_report(&after);
+        let report = expected.unwrap_or_default();
+        assert_eq!((answer.refusal, answer.reception), (expected.err().unwrap_or(0), raw_reception(&noted)));
+        assert_eq!((answer.fraction_lost, answer.cumulative_lost), (report.fraction_lost, report.cumulative_lost));
+        assert_eq!((answer.highest_sequence, answer.jitter), (report.highest_sequence, report.jitter));
+        if given == record {
+            record = if r.percent(20) { noted } else { after };
+        }
+    }
+    println!("exact lengths: {cases} calls of reception_packet and of reception_report");
 }

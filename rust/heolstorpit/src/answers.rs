@@ -47,6 +47,19 @@ pub struct Frame {
     pub length: usize,
 }
 
+/// A source's reception report: the numbers of RFC 3550's report block.
+#[derive(Clone, Copy, Debug, Default, PartialEq, Eq, Hash)]
+pub struct Report {
+    /// how much was lost since the last report, in 256ths of what was expected
+    pub fraction_lost: u8,
+    /// packets lost since the source began, held to 24 bits; below 0 where more came than were expected
+    pub cumulative_lost: i32,
+    /// extended highest sequence number: the cycles counted above the 16 bits of the highest
+    pub highest_sequence: u32,
+    /// interarrival jitter, in ticks
+    pub jitter: u32,
+}
+
 /// `value` where the number is 0, else the refusal.
 #[inline]
 fn accepted<T>(number: u32, value: T) -> Result<T, Refusal> {
@@ -99,5 +112,23 @@ impl raw::Drawn {
         // a channel has 8 bits of a row's second word
         let frame = Frame { time, channel: channel as u8, class: Class::from(frame_class), length: length as usize };
         accepted(refusal, (empty == 0).then_some(frame))
+    }
+}
+
+impl raw::Received {
+    /// Whether the packet is valid, or the refusal.
+    #[inline]
+    pub fn result(&self) -> Result<bool, Refusal> {
+        accepted(self.refusal, self.valid != 0)
+    }
+}
+
+impl raw::Reported {
+    /// The report, or the refusal.
+    #[inline]
+    pub fn result(&self) -> Result<Report, Refusal> {
+        let raw::Reported { refusal, fraction_lost, cumulative_lost, highest_sequence, jitter, .. } = *self;
+        // a fraction has 8 bits
+        accepted(refusal, Report { fraction_lost: fraction_lost as u8, cumulative_lost, highest_sequence, jitter })
     }
 }

@@ -1,4 +1,4 @@
-//! RTP packets of G.719 and GSM-HR sound: read into frame rows, gathered and drawn in time order, written.
+//! RTP packets of G.719 and GSM-HR sound: read into frame rows, gathered and drawn in time order, written; and reception reports.
 //!
 //! Safe Rust over the proved library `libheolstorpit.a`. Everything is done in memory that the caller lends: nothing
 //! is allocated and nothing is kept. Each function refuses what it cannot do, says why, and then has changed nothing.
@@ -13,12 +13,14 @@
 mod answers;
 mod numbered;
 pub mod raw;
+mod reception;
 mod refusal;
 mod rows;
 mod sizes;
 
-pub use answers::{Frame, Reading, Verdicts};
+pub use answers::{Frame, Reading, Report, Verdicts};
 pub use numbered::{Class, Format};
+pub use reception::Reception;
 pub use refusal::Refusal;
 pub use rows::Row;
 pub use sizes::*;

@@ -88,6 +88,47 @@ pub struct Drawn {
     pub buffer: Buffer,
 }
 
+/// `hsp_reception`: what is kept of a source.
+#[repr(C)]
+#[derive(Clone, Copy, Debug, Default, PartialEq, Eq, Hash)]
+pub struct Reception {
+    pub jitter: u64,
+    pub probation: u32,
+    pub started: u32,
+    pub base: u32,
+    pub highest: u32,
+    pub bad: u32,
+    pub cycles: u32,
+    pub received: u32,
+    pub expected_prior: u32,
+    pub received_prior: u32,
+    pub transit: u32,
+    pub transit_set: u32,
+}
+
+const _: () = assert!(size_of::<Reception>() == 56 && align_of::<Reception>() == 8);
+
+/// `hsp_received`
+#[repr(C)]
+#[derive(Clone, Copy, Debug, Default, PartialEq, Eq)]
+pub struct Received {
+    pub refusal: u32,
+    pub valid: u32,
+    pub reception: Reception,
+}
+
+/// `hsp_reported`
+#[repr(C)]
+#[derive(Clone, Copy, Debug, Default, PartialEq, Eq)]
+pub struct Reported {
+    pub refusal: u32,
+    pub fraction_lost: u32,
+    pub cumulative_lost: i32,
+    pub highest_sequence: u32,
+    pub jitter: u32,
+    pub reception: Reception,
+}
+
 mod c {
     use super::*;
 
@@ -128,6 +169,9 @@ mod c {
             store_length: usize,
         ) -> Offered;
         pub fn hsp_draw(buffer: Buffer, store: *const u8, store_length: usize, area: *mut u8, area_length: usize) -> Drawn;
+        pub fn hsp_reception_new() -> Reception;
+        pub fn hsp_reception_packet(reception: Reception, sequence: u16, timestamp: u32, arrival: u32) -> Received;
+        pub fn hsp_reception_report(reception: Reception) -> Reported;
     }
 }
 
@@ -187,4 +231,19 @@ pub fn offer(buffer: Buffer, packet: &[u8], rows: &mut [u32], store: &mut [u8]) 
 #[cfg(feature = "buffer")]
 pub fn draw(buffer: Buffer, store: &[u8], area: &mut [u8]) -> Drawn {
     unsafe { c::hsp_draw(buffer, store.as_ptr(), store.len(), area.as_mut_ptr(), area.len()) }
+}
+
+#[cfg(feature = "reception")]
+pub fn reception_new() -> Reception {
+    unsafe { c::hsp_reception_new() }
+}
+
+#[cfg(feature = "reception")]
+pub fn reception_packet(reception: Reception, sequence: u16, timestamp: u32, arrival: u32) -> Received {
+    unsafe { c::hsp_reception_packet(reception, sequence, timestamp, arrival) }
+}
+
+#[cfg(feature = "reception")]
+pub fn reception_report(reception: Reception) -> Reported {
+    unsafe { c::hsp_reception_report(reception) }
 }

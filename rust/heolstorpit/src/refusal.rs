@@ -4,7 +4,7 @@ use std::error::Error;
 use std::num::NonZeroU32;
 
 numbered! {
-    /// Why a call was refused. A refusal changes nothing: no area, and no buffer.
+    /// Why a call was refused. A refusal changes nothing: no area, no buffer, and no record.
     Refusal(u32), "refusal":
     1 PacketLength "the packet is shorter than {MIN_PACKET} or longer than {MAX_PACKET} bytes"
     2 Version "the RTP version is not 2"
@@ -20,7 +20,7 @@ numbered! {
     12 AreaTooShort "an area is too short for what is written to it"
     13 Unwritable "no payload or packet of the format reads to these rows"
     14 RowOutsideBytes "a row's start and length run past the end of the bytes"
-    15 MalformedBuffer "the reorder buffer is not in a state that its calls leave"
+    15 MalformedBuffer "the reorder buffer, or the record of a reception, is not in a state that its calls leave"
 }
 
 impl Refusal {

@@ -4,8 +4,10 @@
 mod common;
 
 use cases::Random;
-use common::to_raw;
-use heolstorpit::{raw, Buffer, Class, Format, Frame, Refusal, Row, Settings, MAX_PACKET, MAX_ROWS, MIN_PACKET, ROW_WORDS};
+use common::{raw_reception, to_raw};
+use heolstorpit::{
+    raw, Buffer, Class, Format, Frame, Reception, Refusal, Report, Row, Settings, MAX_PACKET, MAX_ROWS, MIN_PACKET, ROW_WORDS,
+};
 use std::collections::HashSet;
 use std::fmt::Display;
 use std::num::NonZeroU32;
@@ -144,6 +146,9 @@ fn answers() {
     let fresh = raw::Fresh { refusal: 0, buffer: buffer() };
     let offered = raw::Offered { refusal: 0, late: 1, far: 2, repeated: 3, better: 4, no_room: 5, inserted: 6, buffer: buffer() };
     let drawn = raw::Drawn { refusal: 0, empty: 0, time: 0, channel: 0, frame_class: 0, length: 0, buffer: buffer() };
+    let reception = raw_reception(&reference::Reception { jitter: 1, started: 1, ..Default::default() });
+    let received = raw::Received { refusal: 0, valid: 1, reception };
+    let reported = raw::Reported { refusal: 0, fraction_lost: 255, cumulative_lost: -1, highest_sequence: 2, jitter: 3, reception };
     for refusal in numbers().into_iter().filter(|number| *number != 0) {
         let found = [
             raw::Reading { refusal, ..reading }.result().err(),
@@ -152,8 +157,10 @@ fn answers() {
             raw::Offered { refusal, ..offered }.result().err(),
             raw::Drawn { refusal, ..drawn }.result().err(),
             raw::Drawn { refusal, empty: 1, ..drawn }.result().err(),
+            raw::Received { refusal, ..received }.result().err(),
+            raw::Reported { refusal, ..reported }.result().err(),
         ];
-        assert_eq!(found.map(|refusal| refusal.map_or(0, Refusal::number)), [refusal; 6]);
+        assert_eq!(found.map(|refusal| refusal.map_or(0, Refusal::number)), [refusal; 8]);
     }
     let of = reading.result().unwrap();
     assert_eq!((of.rows, of.marker, of.sequence, of.timestamp, of.source), (1, true, 65_535, u32::MAX, 5));
@@ -161,6 +168,18 @@ fn answers() {
     assert_eq!(fresh.result().map(|buffer| *buffer.as_raw()), Ok(buffer()));
     let of = offered.result().unwrap();
     assert_eq!([of.late, of.far, of.repeated, of.better, of.no_room, of.inserted], [1, 2, 3, 4, 5, 6]);
+    assert_eq!([0, 1].map(|valid| raw::Received { valid, ..received }.result()), [Ok(false), Ok(true)]);
+    assert_eq!(reported.result(), Ok(Report { fraction_lost: 255, cumulative_lost: -1, highest_sequence: 2, jitter: 3 }));
+}
+
+/// A reception keeps the numbers that it has, whatever they are.
+#[test]
+fn receptions() {
+    let mut r = Random::new(64);
+    for _ in 0..1000 {
+        let state = raw_reception(&cases::any_reception(&mut r));
+        assert_eq!(*Reception::from_raw(state).as_raw(), state);
+    }
 }
 
 /// A buffer keeps the settings that it has, of a format with no name too.

@@ -1,6 +1,6 @@
-//! Document 01 ("The intended build and its rules") in plain Rust: what the proved library is compared with.
+//! Document 01 ("The intended build and its rules") and document 02's P7 in plain Rust: what the proved library is compared with.
 //!
-//! It is written from that paper alone, sentence by sentence, to be read beside it: lists instead of areas, one
+//! It is written from the papers alone, sentence by sentence, to be read beside them: lists instead of areas, one
 //! pass for each rule, no care for speed. Nothing of the library is used here, and nothing here is used by the library.
 //!
 //! A refusal is its number in document 01's table, in `Err`.
@@ -8,11 +8,13 @@
 
 mod buffer;
 mod reading;
+mod reception;
 mod sizes;
 mod writing;
 
 pub use buffer::{draw, fresh, is_well_formed, offer, Buffer, Drawn, Verdicts};
 pub use reading::{read, step_ticks, Reading};
+pub use reception::*;
 pub use sizes::*;
 pub use writing::{write_packet, write_payload};
 

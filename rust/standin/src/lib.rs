@@ -1,7 +1,7 @@
 //! The C functions over the reference. mutants.sh builds it over a reference with a fault planted in it, links the tests to
 //! that, and sees them fail.
 
-use reference::{Buffer, Drawn, Settings, Verdicts, SLOTS};
+use reference::{Buffer, Drawn, Reception, Report, Settings, Verdicts, SLOTS};
 use std::slice::{from_raw_parts, from_raw_parts_mut};
 
 #[repr(C)]
@@ -32,6 +32,16 @@ pub struct COffered([u32; 7], CBuffer);
 #[repr(C)]
 pub struct CDrawn([u32; 6], CBuffer);
 
+#[repr(C)]
+#[derive(Clone, Copy)]
+pub struct CReception(u64, [u32; 11]);
+
+#[repr(C)]
+pub struct CReceived(u32, u32, CReception);
+
+#[repr(C)]
+pub struct CReported(u32, u32, i32, u32, u32, CReception);
+
 fn settings(s: CSettings) -> Settings {
     Settings { format: s.0, channels: s.1, payload_type: s.2, redundancy_type: s.3 }
 }
@@ -50,6 +60,30 @@ fn c_buffer(b: Buffer) -> CBuffer {
         last: [b.last_time, b.last_channel, b.drawn],
         settings: CSettings(s.format, s.channels, s.payload_type, s.redundancy_type),
     }
+}
+
+fn reception(r: CReception) -> Reception {
+    let [probation, started, base, highest, bad, cycles, received, expected_prior, received_prior, transit, transit_set] = r.1;
+    let jitter = r.0;
+    Reception { jitter, probation, started, base, highest, bad, cycles, received, expected_prior, received_prior, transit, transit_set }
+}
+
+fn c_reception(r: Reception) -> CReception {
+    let Reception {
+        jitter,
+        probation,
+        started,
+        base,
+        highest,
+        bad,
+        cycles,
+        received,
+        expected_prior,
+        received_prior,
+        transit,
+        transit_set,
+    } = r;
+    CReception(jitter, [probation, started, base, highest, bad, cycles, received, expected_prior, received_prior, transit, transit_set])
 }
 
 fn written(answer: Result<u32, u32>) -> CWritten {
@@ -136,4 +170,22 @@ pub unsafe extern "C" fn hsp_draw(b: CBuffer, store: *const u8, k: usize, area: 
         Err(refusal) => [refusal, 0, 0, 0, 0, 0],
     };
     CDrawn(numbers, c_buffer(after))
+}
+
+#[no_mangle]
+pub extern "C" fn hsp_reception_new() -> CReception {
+    c_reception(Reception::default())
+}
+
+#[no_mangle]
+pub extern "C" fn hsp_reception_packet(r: CReception, sequence: u16, timestamp: u32, arrival: u32) -> CReceived {
+    let (after, answer) = reference::reception_packet(&reception(r), sequence, timestamp, arrival);
+    CReceived(answer.err().unwrap_or(0), answer.unwrap_or(false) as u32, c_reception(after))
+}
+
+#[no_mangle]
+pub extern "C" fn hsp_reception_report(r: CReception) -> CReported {
+    let (after, answer) = reference::reception_report(&reception(r));
+    let Report { fraction_lost, cumulative_lost, highest_sequence, jitter } = answer.unwrap_or_default();
+    CReported(answer.err().unwrap_or(0), fraction_lost, cumulative_lost, highest_sequence, jitter, c_reception(after))
 }

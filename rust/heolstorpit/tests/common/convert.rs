@@ -1,4 +1,4 @@
-//! The reference's settings and buffers as the library's. Also used by `exact`.
+//! The reference's settings, buffers and receptions as the library's. Also used by `exact`.
 #![allow(dead_code)]
 
 use heolstorpit::raw;
@@ -18,5 +18,22 @@ pub fn to_raw(b: &reference::Buffer) -> raw::Buffer {
         last_channel: b.last_channel,
         drawn: b.drawn,
         settings: settings(b.settings),
+    }
+}
+
+pub fn raw_reception(r: &reference::Reception) -> raw::Reception {
+    raw::Reception {
+        jitter: r.jitter,
+        probation: r.probation,
+        started: r.started,
+        base: r.base,
+        highest: r.highest,
+        bad: r.bad,
+        cycles: r.cycles,
+        received: r.received,
+        expected_prior: r.expected_prior,
+        received_prior: r.received_prior,
+        transit: r.transit,
+        transit_set: r.transit_set,
     }
 }
