@@ -104,9 +104,9 @@ module _ (format ch done time at : ℕ) (s : List ℕ) where
     pub pay-small : Small done (length (body format s)) t
     pay-small = subst (λ (r : ContentsRead). Within done (length (body format s)) r) h (within format ch done (body format s))
 
-    pub pay-room : (area : ℕ) → ch ≤ 256 → rowArea ≤ rowWidth * done + area → at + length s ≤ maxPacket → t .size + t .frames ≡ length (body format s)
-        → TableRoom ch (at + formatOf format .header + t .size) area (sizesAnswer format ch (contents format ch done (body format s)))
-    pay-room area few a b f =
+    pub pay-room : (area start : ℕ) → ch ≤ 256 → rowArea ≤ rowWidth * done + area → at + length s ≤ maxPacket → t .size + t .frames ≡ length (body format s)
+        → start ≡ at + formatOf format .header + t .size → TableRoom ch start area (sizesAnswer format ch (contents format ch done (body format s)))
+    pay-room area start few a b f e =
         let w = pay-small in
         let n : length (body format s) ≤ length s = rw length-drop (omega arith) in
         rw h (omega arith, omega (arith, header-small format), few)

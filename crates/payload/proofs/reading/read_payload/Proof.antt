@@ -39,6 +39,10 @@ body-at c = let a = c .before .before .before .before .before .before .before .b
 length-at : (c : tie.Else4) → let a = c .before .before .before .before .before .before .before .before .args in c .before .format-of .result .header + length (body (a .asked .format) (now (a .s))) ≡ length (now (a .s))
 length-at c = let a = c .before .before .before .before .before .before .before .before .args in rw (length-drop, sym (c .before .format-of .ensures)) (omega (arith, c .if4 .left))
 
+-- where the frames start after a table of n bytes
+start-at : (c : tie.Else4) (n : ℕ) → let a = c .before .before .before .before .before .before .before .before .args in a .at + c .before .format-of .result .header + n ≡ a .at + formatOf (a .asked .format) .header + n
+start-at c n = ap (λ (f : Format). c .before .before .before .before .before .before .before .before .args .at + f .header + n) (c .before .format-of .ensures)
+
 table-at : (c : tie.After-sizes) → let a = c .before .before .before .before .before .before .before .before .before .before .before .before .args in sizesAnswer (a .asked .format) (a .asked .channels) (contents (a .asked .format) (a .asked .channels) (a .done) (body (a .asked .format) (now (a .s)))) ≡ ContentsRead.Contents (c .sizes .given .0 .0)
 table-at c = sym (contents-is _ _ _ _ (rw (body-at (c .before .before .before .before)) at (c .before .before .read-contents .ensures))) ∙ c .sizes .given .1
 
@@ -140,7 +144,7 @@ add-put-contents-2 c = search needs
 put-contents-requires : tie.Need-put-contents-requires
 put-contents-requires c κs =
     let a = c .before .before .before .before .before .before .before .before .before .before .before .before .before .before .before .before .before .before .before .before .before .before .args in
-    rw (body-at (c .before .before .before .before .before .before .before .before .before .before .before .before .before .before), c .before .before .before .before .before .before .before .before .before .before .before .before .before .before .before .format-of .ensures) (pay-room (a .asked .format) (a .asked .channels) (a .done) (a .time) (a .at) (now (a .s)) _ (table-at (c .before .before .before .before .before .before .before .before .before .before)) (length (now (a .area))) (omega arith) (omega (arith, c .before .before .before .before .before .before .before .before .before .before .before .before .before .before .before .before .before .if2 .left)) (omega (arith, c .before .before .before .before .before .before .before .before .before .before .before .before .before .before .before .before .if3 .left)) (whole-at (c .before .before .before .before .before .before)))
+    rw (body-at (c .before .before .before .before .before .before .before .before .before .before .before .before .before .before)) (pay-room (a .asked .format) (a .asked .channels) (a .done) (a .time) (a .at) (now (a .s)) _ (table-at (c .before .before .before .before .before .before .before .before .before .before)) (length (now (a .area))) _ (omega arith) (omega (arith, c .before .before .before .before .before .before .before .before .before .before .before .before .before .before .before .before .before .if2 .left)) (omega (arith, c .before .before .before .before .before .before .before .before .before .before .before .before .before .before .before .before .if3 .left)) (whole-at (c .before .before .before .before .before .before)) (start-at (c .before .before .before .before .before .before .before .before .before .before .before .before .before .before) (c .before .before .before .before .before .before .before .before .before .before .sizes .given .0 .0 .size)))
 
 cast-t40 : tie.Need-cast-t40
 cast-t40 c = omega (arith, small-at (c .before .before .before .before .before .before .before .before .before .before .before .before .before .before) .few)
@@ -154,9 +158,12 @@ same-length c = search needs
 returns-5 : tie.Need-returns-5
 returns-5 c =
     let a = c .before .before .before .before .before .before .before .before .before .before .before .before .before .before .before .before .before .before .before .before .before .before .before .before .before .before .args in
-    let f = c .before .before .before .before .before .before .before .before .before .before .before .before .before .before .before .before .before .before .before .format-of .ensures in (
+    let n = c .before .before .before .before .before .before .before .before .before .before .before .before .before .before .sizes .given .0 .0 .size in (
       rows-has _ _ (sym (ap rowsAnswer (asked-at (c .before .before .before .before .before .before .before .before .before .before .before .before .before .before .before .before .before .before .before .before)) ∙ pay-rows (a .asked .format) (a .asked .channels) (a .done) (a .time) (a .at) (now (a .s)) _ (table-at (c .before .before .before .before .before .before .before .before .before .before .before .before .before .before)) (whole-at (c .before .before .before .before .before .before .before .before .before .before)))),
-      (rw (body-at (c .before .before .before .before .before .before .before .before .before .before .before .before .before .before .before .before .before .before), f) at (c .before .before .before .put-contents .ensures)) ∙ ap (λ (w : List ℕ). over w (now (a .area))) (counted-from (c .before .before .before .before .before .before .before .before .before .before .before .before .before .before) (c .before .before .before .before .before .origin .result) (a .at + formatOf (a .asked .format) .header + c .before .before .before .before .before .before .before .before .before .before .before .before .before .before .sizes .given .0 .0 .size) (rw (body-at (c .before .before .before .before .before .before .before .before .before .before .before .before .before .before .before .before .before .before)) at (c .before .before .before .before .before .origin .ensures)) ∙ sym (ap rowsWords (asked-at (c .before .before .before .before .before .before .before .before .before .before .before .before .before .before .before .before .before .before .before .before)) ∙ pay-words (a .asked .format) (a .asked .channels) (a .done) (a .time) (a .at) (now (a .s)) _ (table-at (c .before .before .before .before .before .before .before .before .before .before .before .before .before .before)) (whole-at (c .before .before .before .before .before .before .before .before .before .before)))),
+      (rw (body-at (c .before .before .before .before .before .before .before .before .before .before .before .before .before .before .before .before .before .before)) at (c .before .before .before .put-contents .ensures)) ∙ ap (λ (w : List ℕ). over w (now (a .area)))
+          (counted-from (c .before .before .before .before .before .before .before .before .before .before .before .before .before .before) (c .before .before .before .before .before .origin .result) (a .at + c .before .before .before .before .before .before .before .before .before .before .before .before .before .before .before .before .before .before .before .format-of .result .header + n) (rw (body-at (c .before .before .before .before .before .before .before .before .before .before .before .before .before .before .before .before .before .before)) at (c .before .before .before .before .before .origin .ensures))
+          ∙ ap (λ (start : ℕ). contentsWords (a .asked .format) (a .asked .channels) (a .time) start (passFirst (contents (a .asked .format) (a .asked .channels) (a .done) (body (a .asked .format) (now (a .s)))))) (start-at (c .before .before .before .before .before .before .before .before .before .before .before .before .before .before .before .before .before .before) n)
+          ∙ sym (ap rowsWords (asked-at (c .before .before .before .before .before .before .before .before .before .before .before .before .before .before .before .before .before .before .before .before)) ∙ pay-words (a .asked .format) (a .asked .channels) (a .done) (a .time) (a .at) (now (a .s)) _ (table-at (c .before .before .before .before .before .before .before .before .before .before .before .before .before .before)) (whole-at (c .before .before .before .before .before .before .before .before .before .before)))),
     )
 
 returns-6 : tie.Need-returns-6
