@@ -1,12 +1,15 @@
 use denote.Ref.{now}
 use lib.ListN.{length, take, drop, length-take}
-use mathlib.Core.Path.{_≡_, sym, _∙_}
+use mathlib.Core.Path.{_≡_, ap, sym, _∙_}
+use mathlib.Core.List.{List}
 use native.Mathlib.Omega.{arith}
 use Rattle.rtp.specs.Redundancy.{blockHeader}
 use Rattle.rtp.specs.declared.redundancy.BlockHeader.{BlockHeader}
 use Rattle.rtp.proofs.AreaLaws.{part-to-end}
 use Rattle.rtp.proofs.RedundancyLaws.{fair, shorter}
 use Rattle.rtp.proofs.NumberLaws.{same-block}
+use Rattle.packet.specs.Requests.{blockRequest}
+use Rattle.packet.specs.Room.{requestFrom}
 use Rattle.packet.proofs.RequestLaws.{from-refused, from-primary, from-redundant}
 use borrow.Author.Needs.{needs}
 use Prim.Native.Nat.{ℕ, _-_, _<_}
@@ -106,10 +109,17 @@ blocks-request-returns-2 t c = let a = c .before .before .before .before .before
 blocks-request-returns-3 : (t : ℕ) → At blocks-request-lts.Need-returns-3 t
 blocks-request-returns-3 t c =
     let a = c .before .before .before .before .before .before .before .before .before .before .before .before .args in
+    let h = now (a .headers) in
+    let s = now (a .s) in
     let e = c .before .before .before .before .before .before .before .block .given .0 .0 in
     let w = c .before .before .before .before .before .end-of .ensures in
-    (rw (part-to-end 4 (now (a .headers)), part-to-end (c .before .before .before .before .before .end-of .result) (now (a .s)), w .2, c .before .before .before .block-request2 .ensures, w .1) at (c .blocks-request .ensures))
-    ∙ sym (from-redundant (a .settings) (a .found) (now (a .headers)) (now (a .s)) e (read-at t (c .before .before .before .before .before .before .before)))
+    let n = c .before .before .before .before .before .end-of .result in
+    let last = c .before .before .before .block-request2 .result in
+    c .blocks-request .ensures
+    ∙ ap (λ (x : List ℕ). requestFrom (a .settings) last x (take (length s - n) (drop n s))) (part-to-end 4 h)
+    ∙ ap (λ (x : List ℕ). requestFrom (a .settings) last (drop 4 h) x) (part-to-end n s ∙ w .2)
+    ∙ ap (λ (x : ℕ). requestFrom (a .settings) x (drop 4 h) (drop (e .length) s)) (c .before .before .before .block-request2 .ensures ∙ ap (blockRequest (a .settings) (a .found) (e .«payload_type»)) (w .1))
+    ∙ sym (from-redundant (a .settings) (a .found) h s e (read-at t (c .before .before .before .before .before .before .before)))
 
 pub +blocks-request-spec : {M : Type 1} → statement M
 +blocks-request-spec = close μ-blocks-request λ t. blocks-request-lts.spec (callees t)
