@@ -36,6 +36,10 @@ pub step-fine : (format : ℕ) → Step (stepOf format)
 step-fine = each (λ f. Step (f .step)) (λ b. record { some = omega arith; small = omega arith })
     (record { some = omega arith; small = omega arith }) (record { some = omega arith; small = omega arith })
 
+-- at most one byte stands before a table: that of the mode request
+pub header-small : (format : ℕ) → formatOf format .header ≤ 1
+header-small = each (λ f. f .header ≤ 1) (λ b. omega arith) (omega arith) (omega arith)
+
 -- a gap has 4 bits
 pub gap-small : (format : ℕ) → maxGap format ≤ 15
 unfolding maxGap

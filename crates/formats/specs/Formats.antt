@@ -14,6 +14,7 @@ noCode = 32
 -- a displacement for each frame-block.
 abbrev pub g719Format : Bool → Format
 g719Format interleaved = record {
+  header = 0;
   step = 960;
   unit = 4;
   codes = 32;
@@ -26,6 +27,7 @@ g719Format interleaved = record {
 -- GSM-HR: a frame is 160 ticks; after F a type of 3 bits and four reserved bits, of which type 2 is SID; an entry is one frame
 abbrev pub gsmFormat : Format
 gsmFormat = record {
+  header = 0;
   step = 160;
   unit = 16;
   codes = 8;
@@ -38,6 +40,7 @@ gsmFormat = record {
 -- what is no format: no code stands for a frame, so nothing is read or written with it
 abbrev pub noFormat : Format
 noFormat = record {
+  header = 0;
   step = 1;
   unit = 128;
   codes = 1;

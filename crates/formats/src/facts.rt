@@ -12,9 +12,10 @@ pub enum FrameTable {
     Empty,
 }
 
-// The ticks of a frame-block; the weight of the code's lowest bit in an entry's first byte, and the number of codes; whether an entry's second byte
+// The bytes before the table of contents; the ticks of a frame-block; the weight of the code's lowest bit in an entry's first byte, and the number of codes; whether an entry's second byte
 // counts frame-blocks, which then join in runs, or it is one frame-block; whether it has a displacement for each frame-block; the code that is a SID.
 pub struct Format {
+    pub header: usize,
     pub step: u32,
     pub unit: usize,
     pub codes: usize,
@@ -31,6 +32,7 @@ fn g719_format(displaced: bool) -> Format
     ensures { λ r. ⌜ r ≡ g719Format displaced ⌝ }
 {
     Format {
+        header: 0,
         step: 960,
         unit: 4,
         codes: 32,
@@ -53,6 +55,7 @@ pub fn format_of(format: u8) -> Format
     }
     if format == GSM_HR {
         return Format {
+            header: 0,
             step: 160,
             unit: 16,
             codes: 8,
@@ -63,6 +66,7 @@ pub fn format_of(format: u8) -> Format
         };
     }
     Format {
+        header: 0,
         step: 1,
         unit: 128,
         codes: 1,

@@ -17,7 +17,8 @@ use Rattle.roundtrip.specs.ReadingBack.{Words, SameFrames}
 pub record ReadsBack (st : Settings) (h : Heading) (counts ws bytes p : List ℕ) (area : ℕ) : Type 0 where
   pub head : Header
   pub rows : List Row
-  pub read : reading st area p ≡ readAs head rows
+  pub request : ℕ
+  pub read : reading st area p ≡ readAs head rows request
   pub same : SameFrames p bytes rows (rowsIn ws)
   pub marker : head .marker ≡ markerBit (h .marker) / 128
   pub sequence : head .sequence ≡ h .sequence
