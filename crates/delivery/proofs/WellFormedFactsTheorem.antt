@@ -14,8 +14,8 @@ use Rattle.formats.specs.Frames.{noData}
 use Rattle.formats.specs.Codes.{noCode, codeFor}
 use Rattle.formats.proofs.CodeLaws.{code-back, code-below, code-some}
 use Rattle.playout.specs.Sizes.{slots}
-use Rattle.playout.specs.Copies.{FrameClass}
 use Rattle.playout.specs.Entries.{Entry}
+use Rattle.playout.proofs.RankLaws.{frame-class}
 use Rattle.playout.proofs.DistinctLaws.{Differ}
 use Rattle.playout.proofs.HeldLaws.{Rising, Stretch, rising-sorted, sorted-stretch}
 use Rattle.layout.specs.declared.buffer.Buffer.{Buffer}
@@ -74,15 +74,9 @@ to-frame format class n h =
       stands = code-back format class n c;
     }
 
-some-data : (class : ℕ) → FrameClass class → class ≡ noData → ⊥
-some-data class (inl e) z = omega arith
-some-data class (inr (inl e)) z = omega arith
-some-data class (inr (inr (inl e))) z = omega arith
-some-data class (inr (inr (inr e))) z = omega arith
-
 of-frame : (format class n : ℕ) → FrameAllowed format class n → allowed format class n ≡ true
 of-frame format class n f =
-    rw (ne-eqb class noData (some-data class (f .classes)))
+    rw (ne-eqb class noData (λ z. absurd (omega (arith, z, frame-class class (f .classes) .0))))
     (lt-ltb (codeFor format class n) noCode (code-some format class n (f .code) (f .in-table) (f .stands)))
 
 -- Unused places
