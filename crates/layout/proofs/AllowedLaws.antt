@@ -7,12 +7,12 @@ use lib.Dec.{T, eqb}
 use borrow.Author.Tests.{ltb-true, eqb-true}
 use Rattle.rtp.proofs.TestLaws.{by-test, either}
 use Rattle.formats.specs.Formats.{formatOf}
-use Rattle.formats.specs.Frames.{noData, sound, sid, g719Length, lengthIn, frameIn}
+use Rattle.formats.specs.Frames.{noData, sound, sid, damagedSound, damagedSid, g719Length, amrLength, amrWbLength, lengthIn, frameIn}
 use Rattle.formats.specs.Codes.{noCode, codeFor}
 use Rattle.formats.proofs.FormatLaws.{each, keeps, keeps-at}
 use Rattle.formats.proofs.CodeLaws.{code-small, code-below, code-back}
 use Rattle.playout.specs.Sizes.{slotSize}
-use Rattle.playout.specs.Copies.{damagedSound, damagedSid, FrameClass}
+use Rattle.playout.specs.Copies.{FrameClass}
 use Rattle.layout.specs.Model.{allowed}
 
 -- no data, or the class of a frame
@@ -28,8 +28,8 @@ classed-is class n z t =
 
 -- so is every code of every format
 classed-all : (format : ℕ) → T (keeps (formatOf format) classed)
-unfolding frameIn lengthIn g719Length
-classed-all = each (λ f. T (keeps f classed)) (λ b. tt) tt tt
+unfolding frameIn lengthIn g719Length amrLength amrWbLength
+classed-all = each (λ f. T (keeps f classed)) (λ b. tt) tt tt tt tt
 
 pub allowed-frame : (format class n : ℕ) → allowed format class n ≡ true → FrameClass class × (n ≤ slotSize)
 allowed-frame format class n h =

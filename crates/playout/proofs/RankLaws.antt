@@ -9,8 +9,8 @@ use native.Mathlib.Numerals.{add-one}
 use lib.ListN.{length, drop, getD, drop-of-length-le}
 use lib.Seq.{drop-cons}
 use lib.Dec.{eqb}
-use Rattle.formats.specs.Frames.{noData, sound, sid}
-use Rattle.playout.specs.Copies.{Copy, damagedSound, damagedSid, FrameClass, quality, soundness, greaterAt, greater, rank, betterFrame, better}
+use Rattle.formats.specs.Frames.{noData, sound, sid, damagedSound, damagedSid, maxClass}
+use Rattle.playout.specs.Copies.{Copy, FrameClass, quality, soundness, greaterAt, greater, rank, betterFrame, better}
 use Rattle.playout.specs.Lists.{SamePair}
 use Rattle.playout.proofs.InsertionLaws.{Cmp, cmp}
 
@@ -85,7 +85,7 @@ greater-equal (x ∷ xs) (y ∷ ys) p q = go (greater-equal xs ys) (at-false x y
     go ih (inr l) (inr m) = ap₂ _∷_ (l .0) (ih (l .1) (m .1))
 
 -- it is above that of no data, and small
-pub frame-class : (k : ℕ) → FrameClass k → (noData < k) × (k ≤ damagedSid)
+pub frame-class : (k : ℕ) → FrameClass k → (noData < k) × (k ≤ maxClass)
 frame-class k (inl e) = (omega arith, omega arith)
 frame-class k (inr (inl e)) = (omega arith, omega arith)
 frame-class k (inr (inr (inl e))) = (omega arith, omega arith)

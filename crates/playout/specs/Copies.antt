@@ -1,4 +1,4 @@
--- Document 01, "Better": copies of a frame, and which is better.
+-- Document 01, "Better", and document 02, P1: copies of a frame, and which is better.
 use Prim.Native.Nat.{ℕ, compare, Ordering, Ordering·lt, Ordering·eq, Ordering·gt}
 use mathlib.Core.List.{List, [], _∷_}
 use mathlib.Core.Bool.{Bool, true, false, cond}
@@ -6,15 +6,8 @@ use mathlib.Core.Path.{_≡_}
 use mathlib.Core.Logic.{_⊎_}
 use lib.ListN.{length}
 use lib.Dec.{leb, eqb}
-use Rattle.formats.specs.Frames.{sound, sid}
+use Rattle.formats.specs.Frames.{sound, sid, damagedSound, damagedSid}
 use Rattle.playout.specs.Pairs.{order}
-
--- TO MERGE: of formats
-abbrev pub damagedSound : ℕ
-damagedSound = 5
-
-abbrev pub damagedSid : ℕ
-damagedSid = 6
 
 -- a copy of a frame: its pair (time, channel), its class and its bytes
 pub record Copy : Type 0 where

@@ -10,7 +10,7 @@ const SOUND: u32 = frames::SOUND as u32;
 
 const SID: u32 = frames::SID as u32;
 
-const DAMAGED_SOUND: u32 = 5;
+const DAMAGED_SOUND: u32 = frames::DAMAGED_SOUND as u32;
 
 // 1 if a frame of this class is good, 0 if it is damaged.
 fn quality_of(class: u32) -> u32
