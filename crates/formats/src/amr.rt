@@ -13,7 +13,7 @@ pub(crate) const AMR_SID: usize = 8;
 
 pub(crate) const AMR_WB_SID: usize = 9;
 
-// AMR frame lengths in bytes by type, with marks for the reserved ones.
+// AMR frame lengths in bytes by type.
 const AMR_LENGTHS: [usize; 16] = [
     12,
     13,
@@ -23,14 +23,14 @@ const AMR_LENGTHS: [usize; 16] = [
     20,
     26,
     31,
-    5,
+    5, // 8, a SID
+    65535, // 9 to 14, reserved
     65535,
     65535,
     65535,
     65535,
     65535,
-    65535,
-    0,
+    0, // 15, no data
 ];
 
 // .. of AMR-WB.
@@ -44,12 +44,12 @@ const AMR_WB_LENGTHS: [usize; 16] = [
     50,
     58,
     60,
-    5,
+    5, // 9, a SID
+    65535, // 10 to 13, reserved
     65535,
     65535,
     65535,
-    65535,
-    0,
+    0, // 14 and 15, no data
     0,
 ];
 
