@@ -67,6 +67,11 @@ pub(crate) fn amr_wb_length(kind: usize) -> usize
     AMR_WB_LENGTHS[kind]
 }
 
+// The bytes of the longest frames.
+const AMR_LONGEST: u32 = 31;
+
+const AMR_WB_LONGEST: u32 = 60;
+
 // No type: a length that the format has not. And the highest type that is no data.
 const NO_TYPE: u8 = 16;
 
@@ -223,7 +228,7 @@ fn graded_code(sid: u8, kind: u8, class: u32) -> u32
 pub(crate) fn amr_code(class: u32, n: u32) -> u32
     ensures { λ r. ⌜ r ≡ highestCode amrFormat class n ⌝ }
 {
-    if n <= 31 {
+    if n <= AMR_LONGEST {
         return graded_code(AMR_SID as u8, amr_type(n as usize), class);
     }
     NO_CODE
@@ -232,7 +237,7 @@ pub(crate) fn amr_code(class: u32, n: u32) -> u32
 pub(crate) fn amr_wb_code(class: u32, n: u32) -> u32
     ensures { λ r. ⌜ r ≡ highestCode amrWbFormat class n ⌝ }
 {
-    if n <= 60 {
+    if n <= AMR_WB_LONGEST {
         return graded_code(AMR_WB_SID as u8, amr_wb_type(n as usize), class);
     }
     NO_CODE
