@@ -9,8 +9,8 @@ use Rattle.rtp.proofs.TestLaws.{by-test}
 use Rattle.formats.specs.declared.facts.Format.{Format}
 use Rattle.formats.specs.declared.facts.FrameTable.{FrameTable}
 use Rattle.formats.specs.Formats.{noCode, amrFormat, amrWbFormat, formatOf}
-use Rattle.formats.specs.Frames.{noData, sound, sid, damagedSound, damagedSid, maxClass, amrLength, amrWbLength, lengthIn, goodClass, frameIn}
-use Rattle.formats.specs.Codes.{codeBelow, highestCode, codeFor, NoDataCodes, noDataType, amrLongest, amrWbLongest, noType, typeBelow, typeFor, gradedCode}
+use Rattle.formats.specs.Frames.{noData, noDataType, sound, sid, damagedSound, damagedSid, maxClass, amrLength, amrWbLength, lengthIn, goodClass, frameIn}
+use Rattle.formats.specs.Codes.{codeBelow, highestCode, codeFor, NoDataCodes, amrLongest, amrWbLongest, noType, typeBelow, typeFor, gradedCode}
 use Rattle.formats.proofs.TableRule.{allBelow, at}
 use Rattle.formats.proofs.FormatLaws.{keeps}
 use Rattle.formats.proofs.CodeLaws.{none}

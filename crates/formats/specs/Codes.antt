@@ -8,7 +8,7 @@ use Rattle.formats.specs.declared.facts.Format.{Format}
 use Rattle.formats.specs.declared.facts.FrameTable.{FrameTable}
 use Rattle.formats.specs.declared.frames.Coded.{Coded}
 use Rattle.formats.specs.Formats.{g719Format, gsmFormat, amrFormat, amrWbFormat, formatOf}
-use Rattle.formats.specs.Frames.{noData, damaged, lengthIn, goodClass, frameIn}
+use Rattle.formats.specs.Frames.{noData, noDataType, damaged, lengthIn, goodClass, frameIn}
 pub use Rattle.formats.specs.Formats.{noCode}
 
 -- a code stands for a frame of this class and length
@@ -38,9 +38,6 @@ unfoldable pub codeFor : ℕ → ℕ → ℕ → ℕ
 codeFor format class n = highestCode (formatOf format) class n
 
 -- Document 02, P1: no data of AMR and AMR-WB is written as type 15 with the quality bit set
-abbrev pub noDataType : ℕ
-noDataType = 15
-
 abbrev pub NoDataCodes : Type 0
 NoDataCodes = (codeFor amr noData 0 ≡ 2 * noDataType + 1) × (codeFor amrWb noData 0 ≡ 2 * noDataType + 1)
 

@@ -53,18 +53,21 @@ abbrev pub gsmLength : ℕ
 gsmLength = 14
 
 -- the frame lengths of AMR's types 0 to 8, the last a SID's; type 15 is no data, the others are reserved
+abbrev pub noDataType : ℕ
+noDataType = 15
+
 abbrev pub amrLengths : List ℕ
 amrLengths = 12 ∷ 13 ∷ 15 ∷ 17 ∷ 19 ∷ 20 ∷ 26 ∷ 31 ∷ 5 ∷ []
 
 unfoldable pub amrLength : ℕ → ℕ
-amrLength type = cond (eqb type 15) 0 (getD amrLengths type reserved)
+amrLength type = cond (eqb type noDataType) 0 (getD amrLengths type reserved)
 
 -- .. of AMR-WB's types 0 to 9; types 14 and 15 are no data
 abbrev pub amrWbLengths : List ℕ
 amrWbLengths = 17 ∷ 23 ∷ 32 ∷ 36 ∷ 40 ∷ 46 ∷ 50 ∷ 58 ∷ 60 ∷ 5 ∷ []
 
 unfoldable pub amrWbLength : ℕ → ℕ
-amrWbLength type = cond (eqb type 14) 0 (cond (eqb type 15) 0 (getD amrWbLengths type reserved))
+amrWbLength type = cond (eqb type 14) 0 (cond (eqb type noDataType) 0 (getD amrWbLengths type reserved))
 
 -- the length of a frame type in a frame table. GSM-HR: types 0 and 2 are frames, 7 is no data, the others are reserved
 unfoldable pub lengthIn : FrameTable → ℕ → ℕ

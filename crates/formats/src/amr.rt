@@ -13,7 +13,7 @@ pub(crate) const AMR_SID: usize = 8;
 
 pub(crate) const AMR_WB_SID: usize = 9;
 
-// AMR frame lengths in bytes by type, with marks for the reserved ones.
+// AMR frame lengths in bytes by type.
 const AMR_LENGTHS: [usize; 16] = [
     12,
     13,
@@ -23,14 +23,14 @@ const AMR_LENGTHS: [usize; 16] = [
     20,
     26,
     31,
-    5,
+    5, // 8, a SID
+    65535, // 9 to 14, reserved
     65535,
     65535,
     65535,
     65535,
     65535,
-    65535,
-    0,
+    0, // 15, no data
 ];
 
 // .. of AMR-WB.
@@ -44,12 +44,12 @@ const AMR_WB_LENGTHS: [usize; 16] = [
     50,
     58,
     60,
-    5,
+    5, // 9, a SID
+    65535, // 10 to 13, reserved
     65535,
     65535,
     65535,
-    65535,
-    0,
+    0, // 14 and 15, no data
     0,
 ];
 
@@ -66,6 +66,11 @@ pub(crate) fn amr_wb_length(kind: usize) -> usize
 {
     AMR_WB_LENGTHS[kind]
 }
+
+// The bytes of the longest frames.
+const AMR_LONGEST: u32 = 31;
+
+const AMR_WB_LONGEST: u32 = 60;
 
 // No type: a length that the format has not. And the highest type that is no data.
 const NO_TYPE: u8 = 16;
@@ -223,7 +228,7 @@ fn graded_code(sid: u8, kind: u8, class: u32) -> u32
 pub(crate) fn amr_code(class: u32, n: u32) -> u32
     ensures { λ r. ⌜ r ≡ highestCode amrFormat class n ⌝ }
 {
-    if n <= 31 {
+    if n <= AMR_LONGEST {
         return graded_code(AMR_SID as u8, amr_type(n as usize), class);
     }
     NO_CODE
@@ -232,7 +237,7 @@ pub(crate) fn amr_code(class: u32, n: u32) -> u32
 pub(crate) fn amr_wb_code(class: u32, n: u32) -> u32
     ensures { λ r. ⌜ r ≡ highestCode amrWbFormat class n ⌝ }
 {
-    if n <= 60 {
+    if n <= AMR_WB_LONGEST {
         return graded_code(AMR_WB_SID as u8, amr_wb_type(n as usize), class);
     }
     NO_CODE

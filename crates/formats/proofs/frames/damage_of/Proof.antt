@@ -5,10 +5,10 @@ use Rattle.formats.proofs.frames.damage_of.Statement.{statement}
 use Rattle.formats.proofs.frames.damage_of.Tie as tie
 
 returns : tie.Need-returns
-returns c = (rw (c .before .if1 .taken, eq-eqb _ _ (c .if2 .taken)), omega arith)
+returns c = (simp (c .before .if1 .taken, eq-eqb _ _ (c .if2 .taken)), omega arith)
 
 returns-2 : tie.Need-returns-2
-returns-2 c = (rw (c .before .if1 .taken, ne-eqb _ _ (c .if2 .left)), omega arith)
+returns-2 c = (simp (c .before .if1 .taken, ne-eqb _ _ (c .if2 .left)), omega arith)
 
 returns-3 : tie.Need-returns-3
 returns-3 c = search needs

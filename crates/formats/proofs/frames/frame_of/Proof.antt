@@ -53,7 +53,7 @@ returns-4 : tie.Need-returns-4
 returns-4 c =
     ap codedNumbers
     (bytes _ _ _ _ _ _ _ (c .before .before .before .before .before .before .before .before .before .format-of .ensures) (c .before .before .before .before .before .before .type-of .ensures) (c .before .before .before .before .before .length-in .ensures)
-    (c .before .before .before .before .if2 .left) (c .before .before .before .if3 .left) (c .before .before .damage-of .ensures .0) (rw (eq-eqb _ _ (c .if4 .taken))))
+    (c .before .before .before .before .if2 .left) (c .before .before .before .if3 .left) (c .before .before .damage-of .ensures .0) (simp (eq-eqb _ _ (c .if4 .taken))))
 
 add-t12 : tie.Need-add-t12
 add-t12 c = search needs
@@ -62,7 +62,7 @@ returns-5 : tie.Need-returns-5
 returns-5 c =
     ap codedNumbers
     (bytes _ _ _ _ _ _ _ (c .before .before .before .before .before .before .before .before .before .format-of .ensures) (c .before .before .before .before .before .before .type-of .ensures) (c .before .before .before .before .before .length-in .ensures)
-    (c .before .before .before .before .if2 .left) (c .before .before .before .if3 .left) (c .before .before .damage-of .ensures .0) (rw (ne-eqb _ _ (c .if4 .left))))
+    (c .before .before .before .before .if2 .left) (c .before .before .before .if3 .left) (c .before .before .damage-of .ensures .0) (simp (ne-eqb _ _ (c .if4 .left))))
 
 pub frame-of-spec : {M : Type 1} → statement M
 frame-of-spec =
