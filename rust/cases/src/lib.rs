@@ -9,6 +9,6 @@ mod random;
 mod spoiled;
 
 pub use lists::{counts_of, damage_list, groups_apart, list_from_packet, lists_for_packet, made_list, List};
-pub use packets::{bad_settings, damage, other_settings, packet, packet_at, payload, settings, Shape};
+pub use packets::{bad_settings, damage, mode_request, other_settings, packet, packet_at, payload, settings, Shape};
 pub use random::Random;
 pub use spoiled::{spoil, SPOILS};
