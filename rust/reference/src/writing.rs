@@ -103,7 +103,7 @@ fn canonical(settings: Settings, mode_request: u8, list: &[Row], bytes: &[u8]) -
     let channels = settings.channels as usize;
     let mut payload = Vec::new();
     if is_amr(settings.format) {
-        payload.push(16 * mode_request);
+        payload.push(mode_request << 4);
     }
     if settings.format >= 3 {
         for (i, row) in list.iter().enumerate() {
