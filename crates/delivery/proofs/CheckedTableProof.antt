@@ -15,7 +15,7 @@ use Rattle.rtp.specs.declared.settings.Settings.{Settings}
 use Rattle.formats.specs.Formats.{formatOf}
 use Rattle.formats.specs.Frames.{g719Length, lengthIn, frameIn}
 use Rattle.formats.specs.Codes.{codeBelow, codeFor}
-use Rattle.payload.specs.Contents.{minEntry, gapsSize, entrySize, entryOf as tableEntry, gapAt, gapsFrom, meaning, contentsBy, contents, sizeIn, framesIn}
+use Rattle.contents.specs.Contents.{minEntry, gapsSize, entrySize, entryOf as tableEntry, gapAt, gapsFrom, meaning, contentsBy, contents, sizeIn, framesIn}
 use Rattle.payload.specs.Rows.{timeAfter, blockRows, groupRows, tableRows}
 use Rattle.payload.specs.Payloads.{payload, placedRows, payloadRows}
 use Rattle.packet.specs.Readings.{headedBy, typedRows, reading}

@@ -17,7 +17,7 @@ use Rattle.rtp.specs.declared.refusal.Refusal.the-variants.{Unwritable}
 use Rattle.rtp.proofs.TestLaws.{by-test}
 use Rattle.rtp.proofs.AreaLaws.{over-part}
 use Rattle.formats.specs.Formats.{stepOf, maxGap}
-use Rattle.payload.specs.Contents.{Group, Contents, refused, groups, sizeIn, framesIn}
+use Rattle.contents.specs.Contents.{Group, Contents, refused, groups, sizeIn, framesIn}
 use Rattle.payload.specs.Rows.{Row}
 use Rattle.encoder.specs.Lists.{rowsIn, outside}
 use Rattle.encoder.specs.Plans.{maxPayload, gapBetween, headGap, joins, attach, follows, nextChannel, planFrom, stepBefore, fitting, plan}

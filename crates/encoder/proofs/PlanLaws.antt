@@ -11,13 +11,13 @@ use native.Mathlib.Numerals.{add-one}
 use borrow.Author.Tests.{lt-ltb, le-ltb, ltb-true, leb-true, eqb-true, eqb-false, eq-eqb, ne-eqb}
 use Rattle.rtp.specs.Sizes.{maxRows, maxFrame, rowWidth}
 use Rattle.rtp.proofs.TestLaws.{by-test, not-both, both}
-use Rattle.payload.specs.Contents.{Group, Contents, refused, groups, gapsSize, entrySize, sizeIn, framesIn}
+use Rattle.contents.specs.Contents.{Group, Contents, refused, groups, gapsSize, entrySize, sizeIn, framesIn}
 use Rattle.payload.specs.Rows.{Row}
 use Rattle.encoder.specs.declared.plans.Plan.{Plan}
 use Rattle.encoder.specs.declared.plans.Planned.{Planned}
 use Rattle.formats.specs.Formats.{formatOf, stepOf, maxGap}
 use Rattle.formats.specs.Codes.{noCode, codeFor}
-use Rattle.payload.proofs.EntryLaws.{min-few}
+use Rattle.contents.proofs.EntryLaws.{min-few}
 use Rattle.formats.proofs.CodeLaws.{code-small}
 use Rattle.encoder.specs.Plans.{maxPayload, gapBetween, starts, headGap, joinsRun, joins, attach, follows, planFrom, plan, nextChannel, stepBefore, fitting}
 use Rattle.encoder.specs.Lists.{rowsIn}

@@ -4,7 +4,7 @@ use mathlib.Core.List.{List, [], _∷_, _++_}
 use mathlib.Core.Bool.{Bool, true, false, cond}
 use lib.ListN.{length, take, drop}
 use Rattle.formats.specs.Formats.{formatOf}
-use Rattle.payload.specs.Contents.{Group}
+use Rattle.contents.specs.Contents.{Group}
 use Rattle.payload.specs.Rows.{Row}
 use Rattle.formats.specs.Codes.{codeFor}
 

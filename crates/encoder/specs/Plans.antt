@@ -9,7 +9,7 @@ use Rattle.rtp.specs.Sizes.{maxRows, minPacket, maxPacket}
 use Rattle.rtp.specs.Time.{difference}
 use Rattle.rtp.specs.declared.refusal.Refusal.the-variants.{Unwritable}
 use Rattle.formats.specs.Formats.{formatOf, stepOf, maxGap}
-use Rattle.payload.specs.Contents.{Group, Contents, refused, groups, sizeIn, framesIn}
+use Rattle.contents.specs.Contents.{Group, Contents, refused, groups, sizeIn, framesIn}
 use Rattle.payload.specs.Rows.{Row}
 use Rattle.formats.specs.Codes.{noCode, codeFor}
 

@@ -6,7 +6,7 @@ use mathlib.Core.Bool.{false, cond}
 use lib.ListN.{length, getD, drop}
 use lib.Dec.{leb}
 use Rattle.rtp.specs.Sizes.{maxRows, maxFrame, rowWidth}
-use Rattle.payload.specs.Contents.{Group, Contents, refused, groups, minEntry, entrySize, sizeIn, framesIn}
+use Rattle.contents.specs.Contents.{Group, Contents, refused, groups, minEntry, entrySize, sizeIn, framesIn}
 use Rattle.formats.specs.Formats.{stepOf, maxGap}
 use Rattle.payload.specs.Rows.{Row}
 use Rattle.encoder.specs.declared.lists.RowWords.{RowWords}

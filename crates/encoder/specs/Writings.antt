@@ -9,7 +9,7 @@ use Rattle.rtp.specs.Refusals.{number}
 use Rattle.rtp.specs.declared.settings.Settings.{Settings}
 use Rattle.rtp.specs.declared.refusal.Refusal.{Refusal}
 use Rattle.rtp.specs.declared.refusal.Refusal.the-variants.{SettingsOutOfRange, RowOutsideBytes, Unwritable, AreaTooShort}
-use Rattle.payload.specs.Contents.{Contents, refused, groups, sizeIn, framesIn}
+use Rattle.contents.specs.Contents.{Contents, refused, groups, sizeIn, framesIn}
 use Rattle.payload.specs.Rows.{Row}
 use Rattle.encoder.specs.declared.writing.Written.{Written}
 use Rattle.encoder.specs.Lists.{rowsIn, whole, outside}

@@ -1,11 +1,11 @@
 // The table of contents that a frame list is written with.
 use crate::lists;
 use crate::lists::RowWords;
+use contents::entries;
 use formats::codes;
 use formats::facts;
 use formats::frames;
 use formats::tagging;
-use payload::contents;
 use rtp::sizes::MAX_PACKET;
 use rtp::sizes::MAX_ROWS;
 use rtp::sizes::MIN_PACKET;
@@ -149,19 +149,19 @@ fn attach_block(format: u8, channels: u32, row: RowWords, gap: u32, rest: Planne
             length,
             gap,
             blocks: 1,
-            table: contents::entry_size(format, 1),
+            table: entries::entry_size(format, 1),
             frames,
         }),
         Planned::Table(plan) => {
             let all = frames + plan.frames;
             if joins_run(format, row, plan.class, plan.length, plan.gap) {
-                let others = plan.table - contents::entry_size(format, plan.blocks);
+                let others = plan.table - entries::entry_size(format, plan.blocks);
                 return Planned::Table(Plan {
                     class: plan.class,
                     length: plan.length,
                     gap,
                     blocks: plan.blocks + 1,
-                    table: contents::entry_size(format, plan.blocks + 1) + others,
+                    table: entries::entry_size(format, plan.blocks + 1) + others,
                     frames: all,
                 });
             }
@@ -171,7 +171,7 @@ fn attach_block(format: u8, channels: u32, row: RowWords, gap: u32, rest: Planne
                     length,
                     gap,
                     blocks: 1,
-                    table: contents::entry_size(format, 1) + plan.table,
+                    table: entries::entry_size(format, 1) + plan.table,
                     frames: all,
                 });
             }

@@ -11,7 +11,7 @@ use Rattle.rtp.specs.Sizes.{maxPacket}
 use Rattle.rtp.specs.Ranges.{inRange}
 use Rattle.rtp.specs.declared.settings.Settings.{Settings}
 use Rattle.rtp.proofs.TestLaws.{by-test}
-use Rattle.payload.specs.Contents.{Contents, refused, groups}
+use Rattle.contents.specs.Contents.{Contents, refused, groups}
 use Rattle.encoder.specs.Lists.{rowsIn, whole, outside}
 use Rattle.encoder.specs.Plans.{maxPayload, plan}
 use Rattle.encoder.specs.declared.writing.Written.{Written}

@@ -21,11 +21,11 @@ use Rattle.rtp.specs.declared.redundancy.HeadersRead.{HeadersRead}
 use Rattle.rtp.proofs.TestLaws.{by-test}
 use Rattle.rtp.proofs.AreaLaws.{over-part}
 use Rattle.rtp.proofs.RedundancyLaws.{headers-step, at-redundant, ahead}
-use Rattle.payload.specs.declared.contents.ContentsRead.{ContentsRead}
+use Rattle.contents.specs.declared.entries.ContentsRead.{ContentsRead}
 use Rattle.payload.specs.declared.reading.PayloadRead.{PayloadRead}
 use Rattle.formats.specs.Formats.{formatOf}
 use Rattle.formats.specs.Frames.{stepOf}
-use Rattle.payload.specs.Contents.{Contents, refused as unread, groups, contents, sizeIn, sizesAnswer}
+use Rattle.contents.specs.Contents.{Contents, refused as unread, groups, contents, sizeIn, sizesAnswer}
 use Rattle.payload.specs.Payloads.{body, payload, Rows, noRows, rowsOf, placedRows, payloadRows, rowsAnswer, rowsWords, askedRows}
 use Rattle.payload.proofs.PayloadLaws.{length-table, pay-refused, pay-part, pay-rows, pay-small, asked-in}
 use Rattle.packet.specs.Blocks.{Block, cut, typedBlockRows, thenRows, blocksRows}

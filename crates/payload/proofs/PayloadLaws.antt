@@ -14,18 +14,18 @@ use Rattle.rtp.specs.declared.settings.Settings.{Settings}
 use Rattle.rtp.specs.declared.refusal.Refusal.{Refusal}
 use Rattle.rtp.specs.declared.refusal.Refusal.the-variants.{PacketLength, ContentsTruncated, LengthMismatch, SettingsOutOfRange, AreaTooShort}
 use Rattle.rtp.proofs.AreaLaws.{over-none}
-use Rattle.payload.specs.declared.contents.Sizes.{Sizes}
-use Rattle.payload.specs.declared.contents.ContentsRead.{ContentsRead}
+use Rattle.contents.specs.declared.entries.Sizes.{Sizes}
+use Rattle.contents.specs.declared.entries.ContentsRead.{ContentsRead}
 use Rattle.payload.specs.declared.reading.PayloadRead.{PayloadRead}
 use Rattle.formats.specs.Formats.{formatOf}
 use Rattle.formats.specs.Frames.{stepOf}
-use Rattle.payload.specs.Contents.{minEntry, entryOf, Group, Contents, refused, groups, contents, passFirst, rowCount, sizeIn, sizesAnswer}
+use Rattle.contents.specs.Contents.{minEntry, entryOf, Group, Contents, refused, groups, contents, passFirst, rowCount, sizeIn, sizesAnswer}
 use Rattle.payload.specs.Rows.{tableRows, timeAfter}
 use Rattle.payload.specs.Payloads.{exact, body, payload, noRequest, requestOf, Rows, noRows, placedRows, payloadRows, rowsWords, rowsAnswer, askedRows}
 use Rattle.payload.specs.Room.{TableRoom, contentsWords}
 use Rattle.formats.proofs.FormatLaws.{header-small}
-use Rattle.payload.proofs.EntryLaws.{min-some}
-use Rattle.payload.proofs.ContentsLaws.{at-refused, Small, Within, within}
+use Rattle.contents.proofs.EntryLaws.{min-some}
+use Rattle.contents.proofs.ContentsLaws.{at-refused, Small, Within, within}
 use Rattle.payload.proofs.GroupLaws.{length-group}
 use Rattle.payload.proofs.FirstLaws.{sizes-passed}
 

@@ -12,18 +12,18 @@ use Rattle.rtp.specs.Sizes.{maxRows}
 use Rattle.rtp.specs.Numbers.{byteAt}
 use Rattle.rtp.proofs.TestLaws.{by-test}
 use Rattle.formats.specs.declared.frames.Coded.{Coded}
-use Rattle.payload.specs.declared.contents.Entry.{Entry}
-use Rattle.payload.specs.declared.contents.EntryRead.{EntryRead}
-use Rattle.payload.specs.declared.contents.ContentsRead.{ContentsRead}
+use Rattle.contents.specs.declared.entries.Entry.{Entry}
+use Rattle.contents.specs.declared.entries.EntryRead.{EntryRead}
+use Rattle.contents.specs.declared.entries.ContentsRead.{ContentsRead}
 use Rattle.formats.specs.Formats.{formatOf}
 use Rattle.formats.specs.Frames.{frameOf, stepOf}
 use Rattle.formats.specs.Codes.{noCode, codeFor}
-use Rattle.payload.specs.Contents.{minEntry, codeIn, blocksIn, entrySize, codedEntry, entryOf, Group, Contents, refused, groups, meaning, prepend, contentsStep, contents, passFirst, sizeIn, framesIn, sizesAnswer}
+use Rattle.contents.specs.Contents.{minEntry, codeIn, blocksIn, entrySize, codedEntry, entryOf, Group, Contents, refused, groups, meaning, prepend, contentsStep, contents, passFirst, sizeIn, framesIn, sizesAnswer}
 use Rattle.payload.specs.Rows.{Row, placed, nextPlace, timeAfter, blockRows, groupRows, tableRows}
 use Rattle.payload.specs.Payloads.{exact, body, payload, Rows, noRows, rowsOf, placedRows, payloadRows}
 use Rattle.formats.proofs.CodeLaws.{code-some}
-use Rattle.payload.proofs.EntryLaws.{code-in}
-use Rattle.payload.proofs.ContentsLaws.{contents-step, shorter, Within, within}
+use Rattle.contents.proofs.EntryLaws.{code-in}
+use Rattle.contents.proofs.ContentsLaws.{contents-step, shorter, Within, within}
 use Rattle.payload.proofs.FirstLaws.{sizes-passed}
 use Rattle.payload.proofs.PayloadLaws.{length-table, pay-headless}
 

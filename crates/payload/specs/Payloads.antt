@@ -14,7 +14,7 @@ use Rattle.rtp.specs.declared.refusal.Refusal.the-variants.{PacketLength, Lengt
 use Rattle.payload.specs.declared.reading.PayloadRead.{PayloadRead}
 use Rattle.formats.specs.Formats.{formatOf}
 use Rattle.formats.specs.Frames.{stepOf}
-use Rattle.payload.specs.Contents.{Contents, refused, groups, contents, passFirst, sizeIn, framesIn}
+use Rattle.contents.specs.Contents.{Contents, refused, groups, contents, passFirst, sizeIn, framesIn}
 use Rattle.payload.specs.Rows.{Row, words, tableRows}
 
 -- a table and just the frames that it tells of, in n bytes

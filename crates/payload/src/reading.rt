@@ -1,7 +1,7 @@
 // A payload read into frame rows.
-use crate::contents;
-use crate::contents::ContentsRead;
 use crate::rows;
+use contents::entries;
+use contents::entries::ContentsRead;
 use formats::facts;
 use rtp::refusal::Refusal;
 use rtp::settings;
@@ -36,7 +36,7 @@ pub fn check_payload(asked: Settings, done: u32, s: &[u8]) -> PayloadRead
         if s.len() < header {
             return PayloadRead::Refused(Refusal::ContentsTruncated);
         }
-        match contents::read_contents(asked.format, asked.channels, done, &s[header..]) {
+        match entries::read_contents(asked.format, asked.channels, done, &s[header..]) {
             ContentsRead::Refused(refusal) => PayloadRead::Refused(refusal),
             ContentsRead::Contents(sizes) => {
                 if header + sizes.size + sizes.frames == s.len() {
@@ -75,7 +75,7 @@ pub fn read_payload(
         if s.len() < header {
             return PayloadRead::Refused(Refusal::ContentsTruncated);
         }
-        match contents::read_contents(asked.format, asked.channels, done, &s[header..]) {
+        match entries::read_contents(asked.format, asked.channels, done, &s[header..]) {
             ContentsRead::Refused(refusal) => PayloadRead::Refused(refusal),
             ContentsRead::Contents(sizes) => {
                 if header + sizes.size + sizes.frames == s.len() {

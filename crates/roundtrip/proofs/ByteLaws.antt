@@ -8,7 +8,7 @@ use native.Mathlib.Nat.{le-mul-of-pos-right}
 use lib.ListN.{length, getD, take, drop}
 use Rattle.rtp.specs.Sizes.{maxRows}
 use Rattle.rtp.proofs.RedundancyLaws.{bytes-drop}
-use Rattle.payload.specs.Contents.{Group, rowCount}
+use Rattle.contents.specs.Contents.{Group, rowCount}
 use Rattle.payload.specs.Rows.{Row}
 use Rattle.formats.specs.Formats.{formatOf, maxGap}
 use Rattle.encoder.specs.Plans.{headGap}

@@ -13,7 +13,7 @@ use Rattle.rtp.specs.declared.settings.Settings.{Settings}
 use Rattle.rtp.specs.declared.refusal.Refusal.{Refusal}
 use Rattle.rtp.specs.declared.refusal.Refusal.the-variants.{SettingsOutOfRange, Unwritable, AreaTooShort}
 use Rattle.rtp.proofs.TestLaws.{by-test}
-use Rattle.payload.specs.Contents.{Contents, refused, groups}
+use Rattle.contents.specs.Contents.{Contents, refused, groups}
 use Rattle.payload.specs.Rows.{Row}
 use Rattle.encoder.specs.Lists.{rowsIn, whole, outside}
 use Rattle.encoder.specs.Plans.{plan}

@@ -9,7 +9,7 @@ use borrow.Author.Tests.{eq-eqb}
 use Rattle.rtp.specs.Sizes.{maxRows}
 use Rattle.rtp.specs.declared.settings.Settings.{Settings}
 use Rattle.formats.specs.Formats.{stepOf}
-use Rattle.payload.specs.Contents.{Group, Contents, refused, groups, contents, rowCount, sizeIn, framesIn}
+use Rattle.contents.specs.Contents.{Group, Contents, refused, groups, contents, rowCount, sizeIn, framesIn}
 use Rattle.payload.specs.Rows.{Row, tableRows}
 use Rattle.payload.specs.Payloads.{payload, Rows, rowsOf, placedRows, payloadRows}
 use Rattle.payload.proofs.PayloadLaws.{length-table}
@@ -17,7 +17,7 @@ use Rattle.encoder.specs.Lists.{outside, firstTime}
 use Rattle.encoder.specs.Plans.{plan}
 use Rattle.encoder.specs.Bytes.{tableBytes, frames}
 use Rattle.encoder.specs.Writings.{bytesOf, plannedBytes, encoded}
-use Rattle.payload.proofs.EntryLaws.{size-some}
+use Rattle.contents.proofs.EntryLaws.{size-some}
 use Rattle.encoder.proofs.EntryLaws.{length-table as length-table-bytes}
 use Rattle.encoder.proofs.FrameBytesLaws.{length-frames}
 use Rattle.roundtrip.specs.ReadingBack.{SameFrames}

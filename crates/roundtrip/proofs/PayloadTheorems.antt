@@ -13,10 +13,10 @@ use Rattle.rtp.specs.declared.settings.Settings.{Settings}
 use Rattle.rtp.specs.declared.refusal.Refusal.the-variants.{Unwritable, AreaTooShort}
 use Rattle.rtp.proofs.TestLaws.{by-test}
 use Rattle.formats.specs.Formats.{stepOf}
-use Rattle.payload.specs.Contents.{Group, Contents, refused, groups, contents, passFirst, rowCount, sizeIn, framesIn, sizesAnswer}
+use Rattle.contents.specs.Contents.{Group, Contents, refused, groups, contents, passFirst, rowCount, sizeIn, framesIn, sizesAnswer}
 use Rattle.payload.specs.Rows.{Row, tableRows}
 use Rattle.payload.specs.Payloads.{exact, payload, rowsOf, placedRows, payloadRows}
-use Rattle.payload.proofs.ContentsLaws.{Small, Within, within}
+use Rattle.contents.proofs.ContentsLaws.{Small, Within, within}
 use Rattle.payload.proofs.FirstLaws.{sizes-passed}
 use Rattle.payload.specs.Rows.{rowsIn}
 use Rattle.encoder.specs.Lists.{firstTime, whole, outside}

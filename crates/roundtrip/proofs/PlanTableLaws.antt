@@ -11,7 +11,7 @@ use borrow.Author.Tests.{le-ltb, ltb-false, eq-eqb}
 use Rattle.rtp.specs.Sizes.{maxRows}
 use Rattle.rtp.specs.declared.refusal.Refusal.the-variants.{Unwritable}
 use Rattle.formats.specs.Formats.{stepOf, maxGap}
-use Rattle.payload.specs.Contents.{Group, Contents, refused, groups, rowCount, sizeIn, framesIn}
+use Rattle.contents.specs.Contents.{Group, Contents, refused, groups, rowCount, sizeIn, framesIn}
 use Rattle.payload.specs.Rows.{Row, tableRows}
 use Rattle.payload.proofs.PayloadLaws.{length-table}
 use Rattle.encoder.specs.Plans.{maxPayload, gapBetween, nextChannel, follows, joins, headGap, attach, planFrom, stepBefore, fitting, plan}

@@ -11,7 +11,7 @@ use Rattle.rtp.specs.declared.settings.Settings.{Settings}
 use Rattle.formats.specs.Formats.{formatOf, maxGap}
 use Rattle.formats.specs.Codes.{codeFor}
 use Rattle.formats.proofs.FormatLaws.{each}
-use Rattle.payload.specs.Contents.{minEntry, entrySize, Group, Contents, refused, groups, halfAt, contents, sizeIn}
+use Rattle.contents.specs.Contents.{minEntry, entrySize, Group, Contents, refused, groups, halfAt, contents, sizeIn}
 use Rattle.payload.specs.Rows.{Row}
 use Rattle.encoder.specs.Lists.{rowsIn}
 use Rattle.encoder.specs.Plans.{headGap, plan}

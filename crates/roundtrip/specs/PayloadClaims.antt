@@ -11,7 +11,7 @@ use Rattle.rtp.specs.Ranges.{inRange}
 use Rattle.rtp.specs.declared.settings.Settings.{Settings}
 use Rattle.rtp.specs.declared.refusal.Refusal.the-variants.{Unwritable, AreaTooShort}
 use Rattle.formats.specs.Formats.{formatOf}
-use Rattle.payload.specs.Contents.{minEntry, Group, groups, halfAt, contents, sizeIn}
+use Rattle.contents.specs.Contents.{minEntry, Group, groups, halfAt, contents, sizeIn}
 use Rattle.encoder.specs.Lists.{rowsIn, outside}
 use Rattle.encoder.specs.Plans.{maxPayload}
 use Rattle.encoder.specs.Writings.{noBytes, bytesOf, encoded, writing, encodedNumbers, measured}

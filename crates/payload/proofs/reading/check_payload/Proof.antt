@@ -7,11 +7,12 @@ use native.Mathlib.Omega.{arith}
 use Rattle.rtp.specs.Sizes.{rowArea}
 use Rattle.formats.specs.declared.facts.Format.{Format}
 use Rattle.payload.specs.Payloads.{body, payloadRows, rowsAnswer, askedRows}
-use Rattle.payload.specs.Contents.{contents, sizesAnswer}
-use Rattle.payload.specs.declared.contents.ContentsRead.{ContentsRead}
-use Rattle.payload.proofs.ContentsLaws.{Small}
+use Rattle.contents.specs.Contents.{contents, sizesAnswer}
+use Rattle.contents.specs.declared.entries.ContentsRead.{ContentsRead}
+use Rattle.contents.proofs.ContentsLaws.{Small}
 use Rattle.payload.proofs.PayloadLaws.{pay-refused, pay-headless, pay-part, pay-rows, pay-small, asked-out, asked-long, asked-in, answer-none}
-use Rattle.payload.proofs.NumberLaws.{contents-is, rows-has}
+use Rattle.contents.proofs.NumberLaws.{contents-is}
+use Rattle.payload.proofs.NumberLaws.{rows-has}
 use borrow.Author.Needs.{needs}
 use Rattle.payload.proofs.reading.check_payload.Statement.{statement}
 use Rattle.payload.proofs.reading.check_payload.Tie as tie

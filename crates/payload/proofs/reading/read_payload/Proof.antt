@@ -10,17 +10,18 @@ use Rattle.formats.specs.declared.facts.Format.{Format}
 use Rattle.formats.proofs.FormatLaws.{maxStep, step-fine}
 use native.Mathlib.Nat.{mul-le-mul-left}
 use Rattle.payload.specs.Payloads.{body, Rows, noRows, payloadRows, rowsAnswer, payloadNumbers, rowsNumbers, rowsWords, askedRows}
-use Rattle.payload.specs.Contents.{gapAt, contents, passFirst, sizesAnswer}
+use Rattle.contents.specs.Contents.{gapAt, contents, passFirst, sizesAnswer}
 use Rattle.payload.specs.Room.{contentsWords, originOf}
-use Rattle.payload.proofs.FirstLaws.{begins, words-from, first-within}
-use Rattle.payload.specs.declared.contents.ContentsRead.{ContentsRead}
-use Rattle.payload.proofs.ContentsLaws.{Small}
+use Rattle.payload.proofs.FirstLaws.{begins, words-from}
+use Rattle.contents.specs.declared.entries.ContentsRead.{ContentsRead}
+use Rattle.contents.proofs.ContentsLaws.{Small}
 use Rattle.payload.proofs.PayloadLaws.{pay-refused, pay-headless, pay-part, pay-rows, pay-small, pay-words, pay-room, asked-out, asked-short, asked-long, asked-in, answer-none, words-none}
 use mathlib.Core.List.{List}
 use Rattle.rtp.specs.Areas.{over}
 use Rattle.rtp.specs.declared.refusal.Refusal.{Refusal}
 use Rattle.payload.specs.declared.reading.PayloadRead.{PayloadRead}
-use Rattle.payload.proofs.NumberLaws.{contents-is, rows-has}
+use Rattle.contents.proofs.NumberLaws.{contents-is}
+use Rattle.payload.proofs.NumberLaws.{rows-has}
 use borrow.Author.Needs.{needs}
 use Rattle.payload.proofs.reading.read_payload.Statement.{statement}
 use Rattle.payload.proofs.reading.read_payload.Tie as tie
@@ -131,9 +132,7 @@ part-origin-end : tie.Need-part-origin-end
 part-origin-end c = search needs
 
 origin-requires : tie.Need-origin-requires
-origin-requires c κs =
-    let a = c .before .before .before .before .before .before .before .before .before .before .before .before .before .before .before .before .before .before .before .before .args in
-    rw (body-at (c .before .before .before .before .before .before .before .before .before .before .before .before)) (first-within (a .asked .format) (a .asked .channels) (a .done) (body (a .asked .format) (now (a .s))) (c .before .before .before .before .before .before .before .before .sizes .given .0 .0) (table-at (c .before .before .before .before .before .before .before .before)))
+origin-requires c κs = search needs
 
 add-put-contents : tie.Need-add-put-contents
 add-put-contents c = search needs

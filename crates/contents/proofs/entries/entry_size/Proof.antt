@@ -1,9 +1,9 @@
-use Rattle.payload.specs.Contents.{gapsSize, entrySize}
+use Rattle.contents.specs.Contents.{gapsSize, entrySize}
 use native.Mathlib.Omega.{arith}
-use Rattle.payload.proofs.EntryLaws.{min-few}
+use Rattle.contents.proofs.EntryLaws.{min-few}
 use borrow.Author.Needs.{needs}
-use Rattle.payload.proofs.contents.entry_size.Statement.{statement}
-use Rattle.payload.proofs.contents.entry_size.Tie as tie
+use Rattle.contents.proofs.entries.entry_size.Statement.{statement}
+use Rattle.contents.proofs.entries.entry_size.Tie as tie
 
 min-entry-requires : tie.Need-min-entry-requires
 min-entry-requires c κs = search needs

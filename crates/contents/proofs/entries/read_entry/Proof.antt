@@ -1,13 +1,13 @@
 use mathlib.Core.Path.{_≡_}
 use native.Mathlib.Omega.{arith}
 use Rattle.formats.specs.Frames.{frameOf}
-use Rattle.payload.proofs.EntryLaws.{min-some}
-use Rattle.payload.specs.Contents.{entryOf}
+use Rattle.contents.proofs.EntryLaws.{min-some}
+use Rattle.contents.specs.Contents.{entryOf}
 use Rattle.formats.proofs.NumberLaws.{same-coded}
 use borrow.Author.Tests.{le-ltb, lt-ltb, eq-eqb, ne-eqb}
 use borrow.Author.Needs.{needs}
-use Rattle.payload.proofs.contents.read_entry.Statement.{statement}
-use Rattle.payload.proofs.contents.read_entry.Tie as tie
+use Rattle.contents.proofs.entries.read_entry.Statement.{statement}
+use Rattle.contents.proofs.entries.read_entry.Tie as tie
 
 -- the frame of the code
 coded-at : (c : tie.After-frame-of) → c .frame-of .result ≡ frameOf (c .before .before .before .before .before .before .before .before .before .before .args .format) (c .before .code-in .result)

@@ -2,8 +2,8 @@ use native.Mathlib.Nat.{mod-lt}
 use mathlib.Core.Path.{refl}
 use Rattle.formats.proofs.FormatLaws.{code-placed}
 use borrow.Author.Needs.{needs}
-use Rattle.payload.proofs.contents.code_in.Statement.{statement}
-use Rattle.payload.proofs.contents.code_in.Tie as tie
+use Rattle.contents.proofs.entries.code_in.Statement.{statement}
+use Rattle.contents.proofs.entries.code_in.Tie as tie
 
 format-of-requires : tie.Need-format-of-requires
 format-of-requires c κs = search needs

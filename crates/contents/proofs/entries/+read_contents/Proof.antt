@@ -4,23 +4,23 @@ use native.Mathlib.Omega.{arith}
 use native.Mathlib.Nat.{mul-le-mul-left}
 use denote.Ref.{now}
 use Rattle.rtp.proofs.AreaLaws.{part-to-end}
-use Rattle.payload.specs.declared.contents.EntryRead.{EntryRead}
-use Rattle.payload.specs.declared.contents.ContentsRead.{ContentsRead}
-use Rattle.payload.specs.Contents.{entryOf, contents, sizesAnswer}
-use Rattle.payload.proofs.EntryLaws.{Fair, fair}
-use Rattle.payload.proofs.ContentsLaws.{at-refused, at-many, at-last, at-more, ahead, within, Within, Small, shorter}
-use Rattle.payload.proofs.NumberLaws.{same-entry, contents-is, contents-has}
+use Rattle.contents.specs.declared.entries.EntryRead.{EntryRead}
+use Rattle.contents.specs.declared.entries.ContentsRead.{ContentsRead}
+use Rattle.contents.specs.Contents.{entryOf, contents, sizesAnswer}
+use Rattle.contents.proofs.EntryLaws.{Fair, fair}
+use Rattle.contents.proofs.ContentsLaws.{at-refused, at-many, at-last, at-more, ahead, within, Within, Small, shorter}
+use Rattle.contents.proofs.NumberLaws.{same-entry, contents-is, contents-has}
 use lib.ListN.{length, take, drop, length-drop}
 use borrow.Author.Needs.{needs}
 use Prim.Native.Nat.{ℕ, _<_, _*_, _+_, _≤_, _-_}
 use borrow.Fn.Kinds.{In, Out}
 use borrow.Fn.PlainCycle.{Measures, is, falls, and}
-use Rattle.payload.proofs.contents.read_contents.Reads as read-contents
-use Rattle.payload.proofs.contents.read_contents.Kinds as read-contents-kinds
-use Rattle.payload.proofs.contents.+read_contents.Lts-read_contents as read-contents-lts
-use Rattle.payload.proofs.contents.read_entry.Reads as read-entry-reads
-use Rattle.payload.proofs.contents.+read_contents.{statement}
-use Rattle.payload.proofs.contents.+read_contents.Tie.{close}
+use Rattle.contents.proofs.entries.read_contents.Reads as read-contents
+use Rattle.contents.proofs.entries.read_contents.Kinds as read-contents-kinds
+use Rattle.contents.proofs.entries.+read_contents.Lts-read_contents as read-contents-lts
+use Rattle.contents.proofs.entries.read_entry.Reads as read-entry-reads
+use Rattle.contents.proofs.entries.+read_contents.{statement}
+use Rattle.contents.proofs.entries.+read_contents.Tie.{close}
 
 abbrev μ-read-contents : Measures 1 read-contents-kinds.ps ℕ
 μ-read-contents κs a = length (a .1 .1 .1 .0 .now)

@@ -1,7 +1,7 @@
-use Rattle.payload.specs.Contents.{minEntry}
+use Rattle.contents.specs.Contents.{minEntry}
 use borrow.Author.Needs.{needs}
-use Rattle.payload.proofs.contents.min_entry.Statement.{statement}
-use Rattle.payload.proofs.contents.min_entry.Tie as tie
+use Rattle.contents.proofs.entries.min_entry.Statement.{statement}
+use Rattle.contents.proofs.entries.min_entry.Tie as tie
 
 format-of-requires : tie.Need-format-of-requires
 format-of-requires c κs = search needs

@@ -1,8 +1,8 @@
-use Rattle.payload.specs.Contents.{minEntry}
+use Rattle.contents.specs.Contents.{minEntry}
 use native.Mathlib.Omega.{arith}
 use borrow.Author.Needs.{needs}
-use Rattle.payload.proofs.contents.blocks_in.Statement.{statement}
-use Rattle.payload.proofs.contents.blocks_in.Tie as tie
+use Rattle.contents.proofs.entries.blocks_in.Statement.{statement}
+use Rattle.contents.proofs.entries.blocks_in.Tie as tie
 
 format-of-requires : tie.Need-format-of-requires
 format-of-requires c κs = search needs

@@ -8,7 +8,7 @@ use rtp::sizes::MAX_ROWS;
 ghost use mathlib.Core.Path.{_≡_};
 ghost use Prim.Native.Nat.{_+_, _<_, _≤_};
 ghost use lib.ListN.{length};
-ghost use Rattle.payload.specs.Contents.{minEntry, codeIn, blocksIn, entrySize, entryOf, entryNumbers, contents, contentsReadNumbers, contentsNumbers, gapAt};
+ghost use Rattle.contents.specs.Contents.{minEntry, codeIn, blocksIn, entrySize, entryOf, entryNumbers, contents, contentsReadNumbers, contentsNumbers, gapAt};
 ghost use Rattle.formats.specs.Formats.{formatOf};
 
 // One table entry: whether another follows, the frames' class and length, the number of frame-blocks, and the entry's own bytes.
@@ -142,15 +142,16 @@ pub fn read_contents(format: u8, channels: u8, rows: u32, s: &[u8]) -> ContentsR
     }
 }
 
-// The frame-blocks left out before frame-block k of the entry at the front of s.
-pub(crate) fn gap(format: u8, s: &[u8], k: usize) -> u32
-    requires { ⌜ entrySize format (k + 1) ≤ length (now s) ⌝ }
+// The frame-blocks left out before frame-block k of the entry at the front of s, none where s ends before.
+pub fn gap(format: u8, s: &[u8], k: usize) -> u32
     ensures { λ r. ⌜ (r ≡ gapAt format (now (s .entry)) k) × (r < 16) ⌝ }
 {
     if facts::format_of(format).displaced {
-        let pair = s[min_entry(format) + k / 2] as u32;
-        if k % 2 == 0 { pair / 16 } else { pair % 16 }
-    } else {
-        0
+        let at = min_entry(format) + k / 2;
+        if at < s.len() {
+            let pair = s[at] as u32;
+            return if k % 2 == 0 { pair / 16 } else { pair % 16 };
+        }
     }
+    0
 }

@@ -12,12 +12,12 @@ use Rattle.rtp.specs.Sizes.{maxRows, maxFrame}
 use Rattle.rtp.specs.declared.refusal.Refusal.{Refusal}
 use Rattle.rtp.specs.declared.refusal.Refusal.the-variants.{TooManyRows}
 use Rattle.rtp.proofs.TestLaws.{by-test}
-use Rattle.payload.specs.declared.contents.Entry.{Entry}
-use Rattle.payload.specs.declared.contents.EntryRead.{EntryRead}
-use Rattle.payload.specs.declared.contents.Sizes.{Sizes}
-use Rattle.payload.specs.declared.contents.ContentsRead.{ContentsRead}
-use Rattle.payload.specs.Contents.{entrySize, entryOf, Contents, refused, groups, gapsFrom, meaning, prepend, contentsStep, contentsBy, contents, rowCount, sizeIn, framesIn, sizesAnswer}
-use Rattle.payload.proofs.EntryLaws.{fair}
+use Rattle.contents.specs.declared.entries.Entry.{Entry}
+use Rattle.contents.specs.declared.entries.EntryRead.{EntryRead}
+use Rattle.contents.specs.declared.entries.Sizes.{Sizes}
+use Rattle.contents.specs.declared.entries.ContentsRead.{ContentsRead}
+use Rattle.contents.specs.Contents.{entrySize, entryOf, Contents, refused, groups, gapsFrom, meaning, prepend, contentsStep, contentsBy, contents, rowCount, sizeIn, framesIn, sizesAnswer}
+use Rattle.contents.proofs.EntryLaws.{fair}
 
 -- Fuel
 

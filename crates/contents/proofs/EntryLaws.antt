@@ -1,11 +1,12 @@
 -- Laws of one table entry.
-use mathlib.Core.Path.{_≡_, refl, subst}
+use mathlib.Core.Path.{_≡_, refl, subst, _∙_}
 use mathlib.Core.List.{List}
 use mathlib.Core.Bool.{Bool, true, false, cond}
-use Prim.Native.Nat.{ℕ, _+_, _-_, _/_, _≤_, _<_}
+use Prim.Native.Nat.{ℕ, _+_, _-_, _/_, _%_, _≤_, _<_}
 use native.Mathlib.Omega.{arith}
 use native.Mathlib.Nat.{mod-lt}
-use lib.ListN.{length}
+use lib.ListN.{length, getD, drop, List·getD-eq-default}
+use lib.Seq.{getD-drop}
 use lib.Dec.{ltb, eqb}
 use borrow.Author.Tests.{ltb-false, eqb-false}
 use Rattle.rtp.specs.Numbers.{byteAt}
@@ -15,11 +16,11 @@ use Rattle.rtp.proofs.TestLaws.{by-test}
 use Rattle.rtp.proofs.RedundancyLaws.{Bytes}
 use Rattle.formats.specs.declared.frames.Frame.{Frame}
 use Rattle.formats.specs.declared.frames.Coded.{Coded}
-use Rattle.payload.specs.declared.contents.Entry.{Entry}
-use Rattle.payload.specs.declared.contents.EntryRead.{EntryRead}
+use Rattle.contents.specs.declared.entries.Entry.{Entry}
+use Rattle.contents.specs.declared.entries.EntryRead.{EntryRead}
 use Rattle.formats.specs.Formats.{formatOf}
 use Rattle.formats.specs.Frames.{maxClass, frameOf}
-use Rattle.payload.specs.Contents.{minEntry, codeIn, blocksIn, gapsSize, entrySize, codedEntry, entryOf}
+use Rattle.contents.specs.Contents.{minEntry, codeIn, blocksIn, gapsSize, entrySize, codedEntry, entryOf, halfAt}
 use Rattle.formats.proofs.FormatLaws.{code-placed, small-frame}
 
 -- what is read past a refusal
@@ -49,11 +50,6 @@ size-some format n = omega (arith, min-some format)
 pub size-min : (format n : ℕ) → minEntry format ≤ entrySize format n
 unfolding entrySize
 size-min format n = omega arith
-
--- a displacement lies in its entry
-pub gap-within : (format k n : ℕ) → formatOf format .displaced ≡ true → entrySize format (k + 1) ≤ n → minEntry format + k / 2 < n
-unfolding entrySize gapsSize
-gap-within format k n d h = let z = rw d at h in omega arith
 
 -- the code of any first byte is one of the format's
 pub code-in : (format first : ℕ) → codeIn format first < formatOf format .codes
@@ -94,3 +90,9 @@ fair format s e h =
     let p1 = past (ltb (length s) (minEntry format)) _ _ e h in
     let p2 = past (ltb (length s) (entrySize format (blocksIn format s))) _ _ e (p1 .1) in
     coded-fair format (codeIn format (byteAt s 0)) s _ e (code-in format (byteAt s 0)) (ltb-false (length s) (entrySize format (blocksIn format s)) (p2 .0)) (frameOf format (codeIn format (byteAt s 0))) refl (p2 .1)
+
+-- a half byte past the end is 0
+pub half-past : (s : List ℕ) (n k : ℕ) → length s ≤ n + k / 2 → halfAt (drop n s) k ≡ 0
+half-past s n k h =
+    let z : getD (drop n s) (k / 2) 0 ≡ 0 = getD-drop n s (k / 2) 0 ∙ List·getD-eq-default s 0 h in
+    by-test (eqb (k % 2) 0) (λ a. rw (a, z)) (λ a. rw (a, z))
