@@ -42,8 +42,8 @@ past-entry format b before (g ∷ gs) rest l =
 -- One entry
 
 reserved-zero : (more : Bool) (format code : ℕ) → (flag more + formatOf format .unit * code) % formatOf format .unit ≡ 0
-reserved-zero true format code = each (λ f. (128 + f .unit * code) % f .unit ≡ 0) (λ b. omega arith) (omega arith) (omega arith) format
-reserved-zero false format code = each (λ f. (0 + f .unit * code) % f .unit ≡ 0) (λ b. omega arith) (omega arith) (omega arith) format
+reserved-zero true format code = each (λ f. (128 + f .unit * code) % f .unit ≡ 0) (λ b. omega arith) (omega arith) (omega arith) (omega arith) (omega arith) format
+reserved-zero false format code = each (λ f. (0 + f .unit * code) % f .unit ≡ 0) (λ b. omega arith) (omega arith) (omega arith) (omega arith) (omega arith) format
 
 padding-zero : (ns rest : List ℕ) → length ns % 2 ≡ 1 → halfAt (halves ns ++ rest) (length ns) ≡ 0
 unfolding halves
