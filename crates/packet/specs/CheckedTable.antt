@@ -41,7 +41,7 @@ filler n = replicate n 0
 -- the rows that reading came to, or its refusal
 abbrev pub rowsRead : Outcome → Rows
 rowsRead (refused r) = noRows r
-rowsRead (readAs h rs) = rowsOf rs
+rowsRead (readAs h rs request) = rowsOf rs
 
 -- the rows of a packet with this type, time and payload
 abbrev pub packetRows : ℕ → ℕ → ℕ → ℕ → List ℕ → Rows

@@ -132,11 +132,12 @@ packet-round-trip st request h counts ws bytes area rows q words sequence source
     let head = headOf h type time (length (headerBytes h type time ++ body)) in
     let m = made st request bytes time counts rs (a .blocks) (a .primary) refl (a .are) in
     let x = typed-back st request h bytes rs time g t ts (s .inside) (few-rows counts ws (s .fits)) (a .blocks) (a .primary) m (a .typed) (a .short) (head .end) in
+    let y = typed-request st request h bytes rs time g t ts (s .inside) (few-rows counts ws (s .fits)) (a .blocks) (a .primary) m (a .typed) (a .short) in
     let read = header-back h type time body (type-small st (a .blocks) g (a .typed)) sequence t source (a .short) in
     subst (λ (l : List ℕ). ReadsBack st request h counts ws bytes l rows) (a .same) (record {
       head = head;
       rows = x .rows;
-      read = reading-headed st rows (headerBytes h type time ++ body) (asked st request (s .range) .settings) room head read ∙ rw (payload-after h type time body, x .read);
+      read = reading-headed st rows (headerBytes h type time ++ body) (asked st request (s .range) .settings) room head read ∙ rw (payload-after h type time body, x .read, y);
       same = x .same;
       marker = refl;
       sequence = refl;
