@@ -50,11 +50,8 @@ fn read(r: &mut Random, cases: usize) {
         let (mut one, mut two) = (exact(&vec![7; words]), exact(&vec![7; words]));
         let answer = raw::read(settings(s), &packet, &mut one);
         let expected = reference::read(s, &packet, &mut two);
-        let numbers = (answer.refusal, answer.rows, answer.mode_request);
-        assert_eq!(
-            (numbers, one),
-            ((expected.err().unwrap_or(0), expected.map_or(0, |e| e.rows), expected.map_or(0, |e| e.mode_request)), two)
-        );
+        let numbers = expected.map_or_else(|refusal| (refusal, 0, 0), |e| (0, e.rows, e.mode_request));
+        assert_eq!(((answer.refusal, answer.rows, answer.mode_request), one), (numbers, two));
     }
     println!("exact lengths: {cases} calls of read");
 }
