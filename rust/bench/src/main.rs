@@ -563,7 +563,7 @@ fn receiver<'a>(name: &'static str, packets: usize, reports: usize, mut peer: im
     let mut sequence = 0u16;
     let mut next = move |peer: &mut dyn Receive| {
         sequence = sequence.wrapping_add(if sequence % 8 == 6 { 2 } else { 1 });
-        let time = PEER_STEP.wrapping_mul(sequence as u32);
+        let time = reference::G719_STEP.wrapping_mul(sequence as u32);
         peer.packet(black_box(sequence), black_box(time), black_box(time ^ u32::from(sequence % 64)))
     };
     // past the probation
