@@ -12,11 +12,11 @@ use rtp::sizes::MIN_PACKET;
 use rtp::sizes::ROW_WIDTH;
 use rtp::time;
 ghost use mathlib.Core.Path.{_≡_};
-ghost use Prim.Native.Nat.{_+_, _*_, _/_, _%_, _<_};
+ghost use Prim.Native.Nat.{_+_, _*_, _/_, _%_, _^_, _<_};
 ghost use lib.Dec.{eqb};
 ghost use lib.ListN.{length};
 ghost use Rattle.rtp.specs.Sizes.{rowWidth, maxRows};
-ghost use Rattle.formats.specs.Formats.{stepOf, maxGap};
+ghost use Rattle.formats.specs.Formats.{formatOf, stepOf, maxGap};
 ghost use Rattle.encoder.specs.Lists.{rowsIn};
 ghost use Rattle.encoder.specs.Plans.{ticksAfter, gapBetween, nextChannel, starts, continues, follows, joinsRun, planFrom, plan};
 ghost use Rattle.encoder.specs.Room.{rowAs, planAnswer, attachPlan, Attachable};
@@ -212,6 +212,15 @@ fn plan_from(format: u8, channels: u32, c: u32, previous: RowWords, rows: &[u32]
 // The longest payload that is written alone.
 pub const MAX_PAYLOAD: usize = MAX_PACKET - MIN_PACKET;
 
+// The bytes of a payload with a table and frames of so many.
+pub(crate) fn payload_size(format: u8, table: usize, frames: usize) -> usize
+    requires { ⌜ table + frames < 2 ^ 32 ⌝ }
+    ensures { λ r. ⌜ r ≡ formatOf format .header + table + frames ⌝ }
+{
+    let header = facts::format_of(format).header;
+    header + table + frames
+}
+
 // The plan of a whole list.
 pub(crate) fn plan_list(format: u8, channels: u8, rows: &[u32]) -> Planned
     requires { ⌜ 0 < channels ⌝ }
@@ -232,7 +241,7 @@ pub(crate) fn plan_list(format: u8, channels: u8, rows: &[u32]) -> Planned
     };
     match plan_from(format, channels as u32, 0, before, rows) {
         Planned::Table(plan) => {
-            if MAX_PAYLOAD < plan.table + plan.frames {
+            if MAX_PAYLOAD < payload_size(format, plan.table, plan.frames) {
                 return Planned::Unwritable;
             }
             Planned::Table(plan)

@@ -4,6 +4,7 @@ use encoder::writing::Written;
 use formats::tagging;
 use packet::reading;
 use packet::reading::Reading;
+use payload::reading::NO_REQUEST;
 use rtp::refusal;
 use rtp::settings::Settings;
 use rtp::sizes::MAX_PACKET;
@@ -91,7 +92,7 @@ pub(crate) fn payload(label: &[u8], settings: Settings, rows: &[u32]) {
     title(label);
     let bytes = sound();
     let mut out = area();
-    let written = writing::write_payload(settings, rows, &bytes, &mut out);
+    let written = writing::write_payload(settings, NO_REQUEST, rows, &bytes, &mut out);
     show(written, &out);
 }
 
@@ -153,6 +154,7 @@ pub(crate) fn packet(label: &[u8], settings: Settings, counts: &[u32], rows: &[u
     let mut out = area();
     let written = packets::write_packet(
         settings,
+        NO_REQUEST,
         1,
         65244,
         2712847316,
