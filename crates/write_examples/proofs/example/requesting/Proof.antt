@@ -1,10 +1,10 @@
 use native.Mathlib.Omega.{arith}
 use lib.ListN.{length-take}
 use borrow.Author.Needs.{needs}
-use Rattle.write_examples.proofs.example.packet.Statement.{statement}
-use Rattle.write_examples.proofs.example.packet.Tie as tie
-use Rattle.write_examples.proofs.example.packet.Reads as reads
-use Rattle.write_examples.proofs.example.packet.Lts as lts
+use Rattle.write_examples.proofs.example.requesting.Statement.{statement}
+use Rattle.write_examples.proofs.example.requesting.Tie as tie
+use Rattle.write_examples.proofs.example.requesting.Reads as reads
+use Rattle.write_examples.proofs.example.requesting.Lts as lts
 use Rattle.sender.proofs.packets.write_packet.Reads as write-packet-reads
 use Rattle.write_examples.proofs.example.area.Reads as area-reads
 use Rattle.write_examples.proofs.example.read_back.Reads as read-back-reads
@@ -54,8 +54,8 @@ returns-2 c = search needs
 returns-3 : tie.Need-returns-3
 returns-3 c = search needs
 
-pub packet-spec : {M : Type 1} → statement M
-packet-spec =
+pub requesting-spec : {M : Type 1} → statement M
+requesting-spec =
     tie.close
     (tie.spec
     title-requires
