@@ -1,14 +1,14 @@
 -- Frame codes for writing: the inverse of a format's frame table.
 use mathlib.Core.Path.{_≡_}
-use Prim.Native.Nat.{ℕ, zero, suc, _+_, _*_}
+use Prim.Native.Nat.{ℕ, zero, suc, _+_, _*_, _/_, _%_, _^_}
 use mathlib.Core.Bool.{Bool, false, cond}
-use lib.Dec.{eqb}
+use lib.Dec.{ltb, eqb}
 use Rattle.rtp.specs.Ranges.{amr, amrWb}
 use Rattle.formats.specs.declared.facts.Format.{Format}
 use Rattle.formats.specs.declared.facts.FrameTable.{FrameTable}
 use Rattle.formats.specs.declared.frames.Coded.{Coded}
 use Rattle.formats.specs.Formats.{g719Format, gsmFormat, amrFormat, amrWbFormat, formatOf}
-use Rattle.formats.specs.Frames.{noData, noDataType, damaged, lengthIn, goodClass, frameIn}
+use Rattle.formats.specs.Frames.{noData, noDataType, sound, sid, damaged, damagedSound, damagedSid, lengthIn, goodClass, frameIn}
 pub use Rattle.formats.specs.Formats.{noCode}
 
 -- a code stands for a frame of this class and length
@@ -70,3 +70,18 @@ gradedCode sidType type class =
     (cond (eqb type noDataType) (cond (eqb class noData) (2 * noDataType + 1) noCode)
     (cond (eqb class (goodClass sidType type)) (2 * type + 1)
     (cond (eqb class (goodClass sidType type + damaged)) (2 * type) noCode)))
+
+-- How the code asks whether there is one: the lengths of a class as the bits of a word, `sounds` those of sound; a SID has 5 bytes
+abbrev pub sidBits : ℕ
+sidBits = 2 ^ 5
+
+unfoldable pub lengthBits : ℕ → ℕ → ℕ
+lengthBits sounds class =
+    cond (eqb class noData) 1
+    (cond (eqb class sound) sounds
+    (cond (eqb class damagedSound) sounds
+    (cond (eqb class sid) sidBits
+    (cond (eqb class damagedSid) sidBits 0))))
+
+unfoldable pub hasLength : ℕ → ℕ → ℕ → Bool
+hasLength sounds class n = cond (ltb n 64) (eqb (lengthBits sounds class / 2 ^ n % 2) 1) false

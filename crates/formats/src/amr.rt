@@ -6,7 +6,8 @@ ghost use Prim.Native.Nat.{_<_, _≤_};
 ghost use Rattle.formats.specs.declared.facts.FrameTable.{FrameTable};
 ghost use Rattle.formats.specs.Formats.{amrFormat, amrWbFormat};
 ghost use Rattle.formats.specs.Frames.{goodClass, amrLength, amrWbLength};
-ghost use Rattle.formats.specs.Codes.{amrLongest, amrWbLongest, typeFor, gradedCode, highestCode};
+ghost use lib.Dec.{ltb};
+ghost use Rattle.formats.specs.Codes.{noCode, amrLongest, amrWbLongest, typeFor, gradedCode, highestCode, lengthBits, hasLength};
 
 // The types that are SIDs.
 pub(crate) const AMR_SID: usize = 8;
@@ -241,4 +242,60 @@ pub(crate) fn amr_wb_code(class: u32, n: u32) -> u32
         return graded_code(AMR_WB_SID as u8, amr_wb_type(n as usize), class);
     }
     NO_CODE
+}
+
+// The lengths of a class as the bits of a word, so that a frame is asked for without a table.
+
+// .. of sound.
+const AMR_SOUND: u64 = 0x841ab000;
+
+const AMR_WB_SOUND: u64 = 0x1404411100820000;
+
+// .. of no data and of a SID.
+const NO_DATA_BITS: u64 = 1;
+
+const SID_BITS: u64 = 32;
+
+fn length_bits(sounds: u64, class: u32) -> u64
+    ensures { λ r. ⌜ r ≡ lengthBits sounds class ⌝ }
+{
+    if class == 0 {
+        return NO_DATA_BITS;
+    }
+    if class == 1 {
+        return sounds;
+    }
+    if class == 5 {
+        return sounds;
+    }
+    if class == 2 {
+        return SID_BITS;
+    }
+    if class == 6 {
+        return SID_BITS;
+    }
+    0
+}
+
+fn has_length(sounds: u64, class: u32, n: u32) -> bool
+    ensures { λ r. ⌜ r ≡ hasLength sounds class n ⌝ }
+{
+    if n < 64 {
+        let shifted = length_bits(sounds, class) >> n;
+        return shifted % 2 == 1;
+    }
+    false
+}
+
+// Whether a class and a length have a code.
+pub(crate) fn has_amr(class: u32, n: u32) -> bool
+    ensures { λ r. ⌜ r ≡ ltb (highestCode amrFormat class n) noCode ⌝ }
+{
+    has_length(AMR_SOUND, class, n)
+}
+
+pub(crate) fn has_amr_wb(class: u32, n: u32) -> bool
+    ensures { λ r. ⌜ r ≡ ltb (highestCode amrWbFormat class n) noCode ⌝ }
+{
+    has_length(AMR_WB_SOUND, class, n)
 }

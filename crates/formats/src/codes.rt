@@ -123,8 +123,8 @@ pub fn table_has(table: FrameTable, class: u32, n: u32) -> bool
     match table {
         FrameTable::G719 => has_g719(class, n),
         FrameTable::GsmHr => has_gsm_hr(class, n),
-        FrameTable::Amr => amr::amr_code(class, n) < NO_CODE,
-        FrameTable::AmrWb => amr::amr_wb_code(class, n) < NO_CODE,
+        FrameTable::Amr => amr::has_amr(class, n),
+        FrameTable::AmrWb => amr::has_amr_wb(class, n),
         FrameTable::Empty => false,
     }
 }

@@ -24,14 +24,14 @@ has-gsm-hr-requires c κs = search needs
 enum-told-3 : tie.Need-enum-told-3
 enum-told-3 c = search needs
 
-amr-code-requires : tie.Need-amr-code-requires
-amr-code-requires c κs = search needs
+has-amr-requires : tie.Need-has-amr-requires
+has-amr-requires c κs = search needs
 
 enum-told-4 : tie.Need-enum-told-4
 enum-told-4 c = search needs
 
-amr-wb-code-requires : tie.Need-amr-wb-code-requires
-amr-wb-code-requires c κs = search needs
+has-amr-wb-requires : tie.Need-has-amr-wb-requires
+has-amr-wb-requires c κs = search needs
 
 enum-told-5 : tie.Need-enum-told-5
 enum-told-5 c = search needs
@@ -50,11 +50,11 @@ returns-2 c = let a = c .before .before .before .args in c .has-gsm-hr .ensures 
 
 returns-3 : tie.Need-returns-3
 unfolding has
-returns-3 c = let a = c .before .before .before .args in ap (λ (k : ℕ). ltb k noCode) (c .amr-code .ensures) ∙ sym (ap (has (a .class) (a .n)) (c .before .enum-told3 .given .1))
+returns-3 c = let a = c .before .before .before .args in c .has-amr .ensures ∙ sym (ap (has (a .class) (a .n)) (c .before .enum-told3 .given .1))
 
 returns-4 : tie.Need-returns-4
 unfolding has
-returns-4 c = let a = c .before .before .before .args in ap (λ (k : ℕ). ltb k noCode) (c .amr-wb-code .ensures) ∙ sym (ap (has (a .class) (a .n)) (c .before .enum-told4 .given .1))
+returns-4 c = let a = c .before .before .before .args in c .has-amr-wb .ensures ∙ sym (ap (has (a .class) (a .n)) (c .before .enum-told4 .given .1))
 
 returns-5 : tie.Need-returns-5
 unfolding has
@@ -69,9 +69,9 @@ table-has-spec =
     enum-told-2
     has-gsm-hr-requires
     enum-told-3
-    amr-code-requires
+    has-amr-requires
     enum-told-4
-    amr-wb-code-requires
+    has-amr-wb-requires
     enum-told-5
     returns
     returns-2
