@@ -1,6 +1,6 @@
 /*
- * heolstorpit: RTP packets of G.719 and GSM-HR sound, read into frame rows, gathered and handed out in time order, and
- * written; and reception reports on their sources. The functions are proved against their definitions; link
+ * heolstorpit: RTP packets of G.719, GSM-HR, AMR and AMR-WB sound, read into frame rows, gathered and handed out in
+ * time order, and written; and reception reports on their sources. The functions are proved against their definitions; link
  * target/staticlib/libheolstorpit.a (made by `rt staticlib heolstorpit`, for x86-64 Linux).
  *
  * WHO OWNS WHAT. The library has no memory of its own: no allocation, no global state, nothing kept after a call returns.
@@ -20,12 +20,12 @@
  *    3  the list of contributing sources or the header extension runs past the end of the packet
  *    4  padding count is 0, or greater than the number of bytes after the headers
  *    5  payload type is neither the payload type nor the redundancy type of the settings
- *    6  a table entry or a redundancy block header runs past the end (an empty payload too)
- *    7  reserved frame length code (G.719) or frame type (GSM-HR)
+ *    6  a table entry or a redundancy block header runs past the end (an empty payload too, and one of the mode byte alone)
+ *    7  reserved frame length code (G.719) or frame type (GSM-HR, AMR, AMR-WB)
  *    8  a table entry with 0 frame-blocks
  *    9  more than 128 rows
  *   10  after the tables or block headers there are too few bytes, or bytes are left over
- *   11  settings out of range, given or held in the buffer
+ *   11  settings out of range, given or held in the buffer; a mode request over 15
  *   12  an area is too short: see the function
  *   13  the rows cannot be written: see the function
  *   14  a row to be written has start + length over the length of the byte area
@@ -37,10 +37,12 @@
  *
  * ROWS. A frame row is four words:
  *    0  timestamp of the frame
- *    1  256 * class + channel; class 0 is no data, 1 is sound, 2 is SID (comfort noise); channels count from 0
+ *    1  256 * class + channel; class 0 is no data, 1 is sound, 2 is SID (comfort noise), 5 is damaged sound and 6 damaged SID
+ *       (formats 4 and 5, where the quality bit is 0); channels count from 0
  *    2  start: the place of the frame's first byte, in the packet (reading) or in `bytes` (writing)
  *    3  length of the frame in bytes
- * A row of no data has length 0; reading gives it as start the place where its bytes would lie.
+ * A row of no data has length 0; reading gives it as start the place where its bytes would lie. A frame of formats 4 and 5 is
+ * its bytes whole, the unused bits at its end included.
  */
 #ifndef HEOLSTORPIT_H
 #define HEOLSTORPIT_H
@@ -63,11 +65,13 @@ extern "C" {
 #define HSP_DRAW_AREA 320      /* bytes of the area that a frame is drawn to, at least */
 #define HSP_MAX_REDUNDANT 4    /* redundant lists of a packet written, at most */
 #define HSP_NO_REDUNDANCY 128  /* redundancy_type: none */
+#define HSP_NO_MODE_REQUEST 15 /* mode_request: none; the greatest there is */
 
 /*
  * What was agreed with the sender; 4 bytes.
- *   format           1 G.719 basic, 2 G.719 interleaved, 3 GSM-HR
- *   channels         1 or 2; for format 3 only 1
+ *   format           1 G.719 basic, 2 G.719 interleaved, 3 GSM-HR, 4 AMR, 5 AMR-WB (4 and 5: the octet-aligned payload of
+ *                    RFC 4867, without CRC or interleaving)
+ *   channels         1 or 2; for formats 3 to 5 only 1
  *   payload_type     RTP payload type of the sound, 0 to 127
  *   redundancy_type  RTP payload type of redundancy payloads (RFC 2198), 0 to 127 and another; or 128: none
  * Anything else is refused with 11.
@@ -76,9 +80,13 @@ typedef struct {
     uint8_t format, channels, payload_type, redundancy_type;
 } hsp_settings;
 
-/* hsp_read's answer: the number of rows written, and the packet's header. `marker` is 0 or 1; `source` is the SSRC. */
+/*
+ * hsp_read's answer: the number of rows written, and the packet's header. `marker` is 0 or 1; `source` is the SSRC;
+ * `mode_request` is the CMR of RFC 4867, 0 to 15: that of the plain payload, or of the last block with rows. It is 15,
+ * which says none, where no block has rows and in formats 1 to 3.
+ */
 typedef struct {
-    uint32_t refusal, rows, marker, sequence, timestamp, source;
+    uint32_t refusal, rows, marker, sequence, timestamp, source, mode_request;
 } hsp_reading;
 
 /* The writers' answer: the number of bytes written at the front of `out`. */
@@ -117,8 +125,8 @@ typedef struct {
  *   late      came too late: a frame was drawn, and this one is not after it
  *   far       lie 2^31 ticks or more from frames held, before any frame was drawn
  *   repeated  are held already, and this copy is no better
- *   better    are held already, and this better copy replaced the one held: sound before SID, then the longer, then the
- *             one with the greater byte where they first differ
+ *   better    are held already, and this better copy replaced the one held: good before damaged, then sound before SID, then
+ *             the longer, then the one with the greater byte where they first differ
  *   no_room   found 192 frames held
  *   inserted  are new
  */
@@ -185,33 +193,36 @@ hsp_reading hsp_read(hsp_settings settings, const uint8_t *packet, size_t packet
 
 /*
  * Writes one payload for a list of rows, with no RTP header, at the front of `out`; the bytes of `out` after it stay.
- * Read at the first row's time, it gives the rows' times, channels, classes, lengths and frame bytes again.
- *   rows   four words a row. No row, or a part of a row at the end, is refused with 13
- *   bytes  what the rows' starts and lengths point into (a row outside it, also one of no data, is refused with 14)
- *   out    at least the bytes to be written (else 12); never more than 2,036
+ * Read at the first row's time, it gives the rows' times, channels, classes, lengths and frame bytes again, and in formats 4
+ * and 5 the mode request.
+ *   mode_request  0 to 15, or 15 for none (over 15 is refused with 11 in every format); formats 1 to 3 do not write it
+ *   rows          four words a row. No row, or a part of a row at the end, is refused with 13
+ *   bytes         what the rows' starts and lengths point into (a row outside it, also one of no data, is refused with 14)
+ *   out           at least the bytes to be written (else 12); never more than 2,036
  * 13 also says that no payload of at most 2,036 bytes reads to these rows: a class or length that the format does not have,
  * channels of a frame-block that are missing, out of order or of different lengths, times that the format cannot step to,
  * more than 128 rows, or too many bytes.
  */
-hsp_written hsp_write_payload(hsp_settings settings, const uint32_t *rows, size_t rows_length, const uint8_t *bytes, size_t bytes_length,
-                              uint8_t *out, size_t out_length);
+hsp_written hsp_write_payload(hsp_settings settings, uint8_t mode_request, const uint32_t *rows, size_t rows_length, const uint8_t *bytes,
+                              size_t bytes_length, uint8_t *out, size_t out_length);
 
 /*
  * Writes one packet, its RTP header without contributing sources, extension or padding, at the front of `out`; the bytes
  * of `out` after it stay. Its timestamp is the first time of the primary list.
- *   marker  the marker bit is set if this is not 0
- *   counts  the number of rows in each list: 0 to 4 redundant lists, then the primary list. One count makes a plain
- *           packet; more make a redundancy packet
- *   rows    the rows of all lists, one list after another; the counts add up to all of them
- *   bytes   what all the rows point into (else 14)
- *   out     at least the bytes to be written (else 12); never more than 2,048
+ *   mode_request  as for hsp_write_payload; it is put into every block
+ *   marker        the marker bit is set if this is not 0
+ *   counts        the number of rows in each list: 0 to 4 redundant lists, then the primary list. One count makes a plain
+ *                 packet; more make a redundancy packet
+ *   rows          the rows of all lists, one list after another; the counts add up to all of them
+ *   bytes         what all the rows point into (else 14)
+ *   out           at least the bytes to be written (else 12); never more than 2,048
  * 13 says: no count or more than five; counts that do not add up to the rows; a list that hsp_write_payload alone would refuse
  * with 13; a redundant list whose first time is more than 16,383 ticks before the timestamp, or after it, or whose payload is
  * over 1,023 bytes; more than 128 rows or 2,048 bytes; redundant lists where the settings have no redundancy type.
  */
-hsp_written hsp_write_packet(hsp_settings settings, uint8_t marker, uint16_t sequence, uint32_t source, const uint32_t *counts,
-                             size_t counts_length, const uint32_t *rows, size_t rows_length, const uint8_t *bytes, size_t bytes_length,
-                             uint8_t *out, size_t out_length);
+hsp_written hsp_write_packet(hsp_settings settings, uint8_t mode_request, uint8_t marker, uint16_t sequence, uint32_t source,
+                             const uint32_t *counts, size_t counts_length, const uint32_t *rows, size_t rows_length, const uint8_t *bytes,
+                             size_t bytes_length, uint8_t *out, size_t out_length);
 
 /* A fresh buffer with no frame held and none drawn. With settings out of range: 11, and a buffer of zeros. */
 hsp_fresh hsp_new(hsp_settings settings);

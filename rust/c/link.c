@@ -8,7 +8,7 @@
 
 #define HOLDS(name, fact) typedef char name[(fact) ? 1 : -1]
 HOLDS(settings_size, sizeof(hsp_settings) == 4);
-HOLDS(reading_size, sizeof(hsp_reading) == 24);
+HOLDS(reading_size, sizeof(hsp_reading) == 28 && offsetof(hsp_reading, mode_request) == 24);
 HOLDS(written_size, sizeof(hsp_written) == 8);
 HOLDS(buffer_size, sizeof(hsp_buffer) == 3112);
 HOLDS(buffer_tags, offsetof(hsp_buffer, tags) == 768);
@@ -44,11 +44,16 @@ HOLDS(areas, HSP_ROW_AREA == HSP_MAX_ROWS * HSP_ROW_WORDS && HSP_STORE_BYTES == 
 /* Document 001, 6.1: three mono frames, two of 80 bytes and one of 120, behind an RTP header. */
 static uint8_t packet[12 + 284] = {0x80, 0x80 | 97, 0x12, 0x34, 0, 0, 0x10, 0, 0, 0, 0, 9, 0xA0, 2, 0x30, 1};
 
+/* RFC 4867: mode request 7; AMR frames of 12 bytes damaged, of no data, and SID of 5 bytes. */
+static uint8_t amr[12 + 4 + 17] = {0x80, 97, 0, 1, 0, 0, 0x10, 0, 0, 0, 0, 9, 0x70, 0x80, 0xFC, 0x44};
+
 int main(void) {
     hsp_settings settings = {1, 1, 97, HSP_NO_REDUNDANCY};
+    hsp_settings amr_settings = {4, 1, 97, HSP_NO_REDUNDANCY};
     uint32_t rows[HSP_ROW_AREA];
     size_t i;
     for (i = 16; i < sizeof packet; i++) packet[i] = (uint8_t)i;
+    for (i = 16; i < sizeof amr; i++) amr[i] = (uint8_t)(3 * i);
     memset(rows, 0xEE, sizeof rows);
     (void)settings;
 
@@ -56,28 +61,42 @@ int main(void) {
     {
         hsp_reading r = hsp_read(settings, packet, sizeof packet, rows, HSP_ROW_AREA);
         EXPECT(r.refusal == 0 && r.rows == 3 && r.marker == 1 && r.sequence == 0x1234 && r.timestamp == 4096 && r.source == 9);
+        EXPECT(r.mode_request == HSP_NO_MODE_REQUEST);
         EXPECT(rows[0] == 4096 && rows[1] == 256 && rows[2] == 16 && rows[3] == 80);
         EXPECT(rows[4] == 5056 && rows[5] == 256 && rows[6] == 96 && rows[7] == 80);
         EXPECT(rows[8] == 6016 && rows[9] == 256 && rows[10] == 176 && rows[11] == 120 && rows[12] == 0xEEEEEEEE);
         r = hsp_read(settings, packet, sizeof packet - 1, rows, HSP_ROW_AREA);
         EXPECT(r.refusal == 10 && r.rows == 0 && r.marker == 0 && r.sequence == 0 && r.timestamp == 0 && r.source == 0);
+        EXPECT(r.mode_request == 0);
         settings.channels = 3;
         EXPECT(hsp_read(settings, packet, sizeof packet, rows, HSP_ROW_AREA).refusal == 11);
         settings.channels = 1;
+        r = hsp_read(amr_settings, amr, sizeof amr, rows, HSP_ROW_AREA);
+        EXPECT(r.refusal == 0 && r.rows == 3 && r.mode_request == 7);
+        EXPECT(rows[0] == 4096 && rows[1] == 5 * 256 && rows[2] == 16 && rows[3] == 12);
+        EXPECT(rows[4] == 4256 && rows[5] == 0 && rows[6] == 28 && rows[7] == 0);
+        EXPECT(rows[8] == 4416 && rows[9] == 2 * 256 && rows[10] == 28 && rows[11] == 5);
         puts("hsp_read works from C");
     }
 #endif
 #ifdef HAVE_WRITE
     {
         static const uint32_t list[12] = {4096, 256, 16, 80, 5056, 256, 96, 80, 6016, 256, 176, 120};
+        static const uint32_t amr_list[12] = {4096, 5 * 256, 16, 12, 4256, 0, 28, 0, 4416, 2 * 256, 28, 5};
         static const uint32_t counts[1] = {3};
         uint8_t out[HSP_MAX_PACKET];
-        hsp_written w = hsp_write_payload(settings, list, 12, packet, sizeof packet, out, sizeof out);
+        hsp_written w = hsp_write_payload(settings, 3, list, 12, packet, sizeof packet, out, sizeof out);
         EXPECT(w.refusal == 0 && w.length == 284 && memcmp(out, packet + 12, 284) == 0);
-        w = hsp_write_packet(settings, 2, 0x1234, 9, counts, 1, list, 12, packet, sizeof packet, out, 296);
+        w = hsp_write_packet(settings, HSP_NO_MODE_REQUEST, 2, 0x1234, 9, counts, 1, list, 12, packet, sizeof packet, out, 296);
         EXPECT(w.refusal == 0 && w.length == 296 && memcmp(out, packet, 296) == 0);
-        w = hsp_write_packet(settings, 2, 0x1234, 9, counts, 1, list, 12, packet, sizeof packet, out, 295);
+        w = hsp_write_packet(settings, HSP_NO_MODE_REQUEST, 2, 0x1234, 9, counts, 1, list, 12, packet, sizeof packet, out, 295);
         EXPECT(w.refusal == 12 && w.length == 0);
+        w = hsp_write_payload(settings, HSP_NO_MODE_REQUEST + 1, list, 12, packet, sizeof packet, out, sizeof out);
+        EXPECT(w.refusal == 11 && w.length == 0);
+        w = hsp_write_payload(amr_settings, 7, amr_list, 12, amr, sizeof amr, out, sizeof out);
+        EXPECT(w.refusal == 0 && w.length == 21 && memcmp(out, amr + 12, 21) == 0);
+        w = hsp_write_packet(amr_settings, 7, 0, 1, 9, counts, 1, amr_list, 12, amr, sizeof amr, out, sizeof out);
+        EXPECT(w.refusal == 0 && w.length == 33 && memcmp(out, amr, 33) == 0);
         puts("hsp_write_payload and hsp_write_packet work from C");
     }
 #endif
@@ -102,6 +121,15 @@ int main(void) {
         EXPECT(d.time == 6016 && d.length == 120 && memcmp(area, packet + 176, 120) == 0);
         d = hsp_draw(d.buffer, store, sizeof store, area, sizeof area);
         EXPECT(d.refusal == 0 && d.empty == 1 && d.time == 0 && d.length == 0);
+        /* the first frame damaged, then good: better, and drawn as such */
+        f = hsp_new(amr_settings);
+        o = hsp_offer(f.buffer, amr, sizeof amr, rows, HSP_ROW_AREA, store, sizeof store);
+        EXPECT(o.refusal == 0 && o.inserted == 2);
+        amr[13] |= 4;
+        o = hsp_offer(o.buffer, amr, sizeof amr, rows, HSP_ROW_AREA, store, sizeof store);
+        EXPECT(o.refusal == 0 && o.better == 1 && o.repeated == 1 && o.inserted == 0);
+        d = hsp_draw(o.buffer, store, sizeof store, area, sizeof area);
+        EXPECT(d.refusal == 0 && d.time == 4096 && d.frame_class == 1 && d.length == 12 && memcmp(area, amr + 16, 12) == 0);
         d.buffer.drawn = 2;
         EXPECT(hsp_draw(d.buffer, store, sizeof store, area, sizeof area).refusal == 15);
         puts("hsp_new, hsp_offer and hsp_draw work from C");

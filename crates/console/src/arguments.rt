@@ -28,9 +28,12 @@ fn print_usage(fd: i32, program: &[u8], purpose: &[u8]) {
     io::write_all(fd, purpose);
     io::write_all(
         fd,
-        b"  FORMAT      payload format: 1 = G.719 basic, 2 = G.719 interleaved, 3 = GSM-HR\n",
+        b"  FORMAT      payload format: 1 = G.719 basic, 2 = G.719 interleaved, 3 = GSM-HR, 4 = AMR, 5 = AMR-WB\n",
     );
-    io::write_all(fd, b"  CHANNELS    1 or 2; only 1 for GSM-HR\n");
+    io::write_all(
+        fd,
+        b"  CHANNELS    1 or 2; only 1 for GSM-HR, AMR and AMR-WB\n",
+    );
     io::write_all(fd, b"  TYPE        payload type of this format, 0 to 127\n");
     io::write_all(
         fd,

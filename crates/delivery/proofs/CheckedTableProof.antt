@@ -15,14 +15,14 @@ use Rattle.rtp.specs.declared.settings.Settings.{Settings}
 use Rattle.formats.specs.Formats.{formatOf}
 use Rattle.formats.specs.Frames.{g719Length, lengthIn, frameIn}
 use Rattle.formats.specs.Codes.{codeBelow, codeFor}
-use Rattle.payload.specs.Contents.{minEntry, gapsSize, entrySize, entryOf as tableEntry, gapAt, gapsFrom, meaning, contentsBy, contents, sizeIn, framesIn}
+use Rattle.contents.specs.Contents.{minEntry, gapsSize, entrySize, entryOf as tableEntry, gapAt, gapsFrom, meaning, contentsBy, contents, sizeIn, framesIn}
 use Rattle.payload.specs.Rows.{timeAfter, blockRows, groupRows, tableRows}
 use Rattle.payload.specs.Payloads.{payload, placedRows, payloadRows}
 use Rattle.packet.specs.Readings.{headedBy, typedRows, reading}
 use Rattle.packet.proofs.CheckedTableProof.{checked-table}
 use Rattle.playout.specs.Sizes.{storeSize}
 use Rattle.playout.specs.Pairs.{ahead, after, order}
-use Rattle.playout.specs.Copies.{greater, rank, betterFrame}
+use Rattle.playout.specs.Copies.{quality, soundness, greater, rank, betterFrame}
 use Rattle.playout.specs.Entries.{view, entryOf, put, findBy, slotUsed, lowest, freeSlot, placed, stored}
 use Rattle.playout.specs.Verdicts.{allWithin, fits, judgeHeld, judge, tally, judgeAll}
 use Rattle.layout.specs.declared.buffer.Buffer.{Buffer}
@@ -91,7 +91,7 @@ over-room n v store l s =
 
 module _ (rows store : List ℕ) (a : rowArea ≤ length rows) (s : storeSize ≤ length store) where
   offer-lines : OfferLines rows store
-  unfolding newCall over inRange maxChannels payloadStart payloadEnd fields header formatOf g719Length lengthIn frameIn minEntry gapsSize entrySize tableEntry gapAt gapsFrom meaning contentsBy contents sizeIn framesIn timeAfter groupRows tableRows blockRows payload placedRows payloadRows typedRows copiesOf ahead after order greater rank betterFrame view entryOf put findBy slotUsed lowest freeSlot placed stored allWithin fits judgeHeld judge tally judgeAll ones weight wordAt padTo entriesFrom
+  unfolding newCall over inRange maxChannels payloadStart payloadEnd fields header formatOf g719Length lengthIn frameIn minEntry gapsSize entrySize tableEntry gapAt gapsFrom meaning contentsBy contents sizeIn framesIn timeAfter groupRows tableRows blockRows payload placedRows payloadRows typedRows copiesOf ahead after order quality soundness greater rank betterFrame view entryOf put findBy slotUsed lowest freeSlot placed stored allWithin fits judgeHeld judge tally judgeAll ones weight wordAt padTo entriesFrom
   offer-lines = record {
     first-80 = any-bytes 80 _ (λ v. offer-is _ _ rows store mono-range (fresh-formed mono) a s _ refl);
     first-120 = any-bytes 120 _ (λ v. offer-is _ _ rows store mono-range (fresh-formed mono) a s _ refl);

@@ -84,7 +84,7 @@ module _ (b : Buffer) (m : Machine b) (packet rows store : List ℕ) where
 
   read-leaves : wellFormed b ≡ true → (o : Outcome) → LeftByOffer b store (offerRead b packet rows store o)
   read-leaves w (unread q) x y = (refl, refl)
-  read-leaves w (readAs head rs) x y =
+  read-leaves w (readAs head rs request) x y =
       let k = judgeAll-kept (copiesOf packet rs) (decode b) store noCounts x y in
       (ap (encode (b .settings)) (k .0) ∙ encode-decode b m w, k .1)
 

@@ -102,7 +102,8 @@ module _ (st : Settings) (h : Held) (s l : List ℕ) where
     pub area : rowArea ≤ length l
     pub room : storeSize ≤ length s
     pub head : Header
-    pub same : reading st (length l) packet ≡ readAs head rs
+    pub request : ℕ
+    pub same : reading st (length l) packet ≡ readAs head rs request
 
   module _ (range : inRange st ≡ true) (g : Fine st h) where
     -- what a judged offer leaves: a well-formed buffer, and areas of their lengths
@@ -113,17 +114,17 @@ module _ (st : Settings) (h : Held) (s l : List ℕ) where
       pub judged-fine : Fine st (judgeAll h s (copiesOf packet rs) .held)
       judged-fine =
           with-room st _ _ (spare .0)
-          (judgeAll-good st (copiesOf packet rs) h s good (read-fit st range (length l) packet (readAs (r .head) rs) (r .same))) (spare .1)
+          (judgeAll-good st (copiesOf packet rs) h s good (read-fit st range (length l) packet (readAs (r .head) rs (r .request)) (r .same))) (spare .1)
 
       pub store-length : length (judgeAll h s (copiesOf packet rs) .store) ≡ length s
       store-length =
           judgeAll-length h s (copiesOf packet rs) (good-facts st h s good)
-          (fits-frames st (copiesOf packet rs) (read-fit st range (length l) packet (readAs (r .head) rs) (r .same)))
+          (fits-frames st (copiesOf packet rs) (read-fit st range (length l) packet (readAs (r .head) rs (r .request)) (r .same)))
 
       pub rows-length : length (over (words rs) l) ≡ length l
       unfolding over
       rows-length =
-          let few = rows-fine st (length l) packet (r .head) rs (r .same) .1 in
+          let few = rows-fine st (length l) packet (r .head) rs (r .request) (r .same) .1 in
           omega (arith, length-append (words rs) (drop (length (words rs)) l), length-drop (length (words rs)) l, length-words rs, few, r .area)
 
     -- a case for each way that an offer goes
@@ -133,7 +134,7 @@ module _ (st : Settings) (h : Held) (s l : List ℕ) where
       read-cases : rowArea ≤ length l → storeSize ≤ length s → (x : Outcome) → reading st (length l) packet ≡ x
           → offerRefusal st s l packet ≡ readRefusal x → P (stepOf (judgeRead h packet s x))
       read-cases a room (unread q) e r = rw (ne-eqb (number q) 0 (omega (arith, number-positive q))) (refusing q r)
-      read-cases a room (readAs x rs) e r = judging rs (record { area = a; room = room; head = x; same = e }) r
+      read-cases a room (readAs x rs request) e r = judging rs (record { area = a; room = room; head = x; request = request; same = e }) r
 
       went : (x : Result Offered) → offerTo (record { settings = st; held = h }) packet (length l) s ≡ x → P (stepOf x)
           → P (stepOf (offerTo (record { settings = st; held = h }) packet (length l) s))

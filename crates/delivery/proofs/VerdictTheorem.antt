@@ -1,25 +1,29 @@
--- Far and held are what they say: the proofs of the claims.
+-- Far, held and better are what they say: the proofs of the claims.
 use Prim.Native.Nat.{ℕ, _^_, _<_, compare, Ordering, Ordering·lt, Ordering·eq, Ordering·gt}
-use mathlib.Core.Path.{_≡_, refl, sym, ap, _∙_, subst}
-use mathlib.Core.List.{List, [], _∷_, List·Memᴰ, List·Memᴰ·head as here, List·Memᴰ·tail as there}
+use mathlib.Core.Path.{_≡_, refl, sym, ap, ap₂, _∙_, subst}
+use mathlib.Core.Logic.{inl, inr}
+use mathlib.Core.List.{List, [], _∷_, _++_, List·Memᴰ, List·Memᴰ·head as here, List·Memᴰ·tail as there}
 use mathlib.Core.Bool.{Bool, true, false, cond, not}
 use mathlib.Core.Option.{some, Option·none-ne-some as none≢some, Option·some-injective}
 use native.Mathlib.Omega.{arith}
 use borrow.Author.Tests.{eqb-true}
 use lib.Dec.{eqb}
+use lib.ListN.{length}
 use Rattle.rtp.specs.declared.settings.Settings.{Settings}
 use Rattle.rtp.proofs.RangeLaws.{few-channels}
 use Rattle.rtp.proofs.TestLaws.{by-test, not-both}
+use Rattle.formats.specs.Frames.{sound, sid, damagedSound, damagedSid}
 use Rattle.playout.specs.Pairs.{half, ahead, after, order}
-use Rattle.playout.specs.Copies.{Copy}
+use Rattle.playout.specs.Copies.{Copy, quality, soundness, greater, rank, betterFrame, better}
 use Rattle.playout.specs.Entries.{Entry, Held, entryOf, sideOfEntry, findAt, findBy}
 use Rattle.playout.specs.Verdicts.{fits, isFar}
 use Rattle.playout.proofs.InsertionLaws.{Cmp, cmp, compare-is, Asc, find-mem}
+use Rattle.playout.proofs.RankLaws.{Alike, greater-self, greater-turn, head-greater, head-same, quality-greater, soundness-greater, length-greater, length-same}
 use Rattle.playout.proofs.WrapLaws.{Near, order-place, order-after}
 use Rattle.playout.proofs.HeldLaws.{Sorted, rising-sorted, entryPlace, fits-base}
 use Rattle.playout.proofs.PlayoutLaws.{fits-stretch}
 use Rattle.layout.proofs.ModelLaws.{Facts, fine-exactly}
-use Rattle.delivery.specs.VerdictClaims.{StretchWith, Holds, FarExactly, OfPair, HeldExactly}
+use Rattle.delivery.specs.VerdictClaims.{StretchWith, Holds, FarExactly, OfPair, HeldExactly, Beats, IsGood, IsDamaged, BetterOrder}
 use Rattle.delivery.proofs.WellFormedFactsTheorem.{to-stretch}
 
 -- Held
@@ -119,3 +123,49 @@ far-exactly st h H c word = (no-stretch st h H c word, far st h H c word)
 
 pub held-exactly : HeldExactly
 held-exactly st h H c e = (found st h H c e, finds st h H c e)
+
+-- Better
+
+beats : (a b : Copy) → better a b ≡ true → Beats a b
+unfolding betterFrame
+beats a b e = (e, greater-turn (rank (a .class) (a .bytes)) (rank (b .class) (b .bytes)) e)
+
+good-quality : (k : ℕ) → IsGood k → quality k ≡ 1
+unfolding quality
+good-quality k (inl e) = rw e refl
+good-quality k (inr e) = rw e refl
+
+damaged-quality : (k : ℕ) → IsDamaged k → quality k ≡ 0
+unfolding quality
+damaged-quality k (inl e) = rw e refl
+damaged-quality k (inr e) = rw e refl
+
+module _ (a b : Copy) where
+  good-first : IsGood (a .class) → IsDamaged (b .class) → Beats a b
+  good-first g d =
+      beats a b (quality-greater (a .class) (a .bytes) (b .class) (b .bytes) (omega (arith, good-quality (a .class) g, damaged-quality (b .class) d)))
+
+  -- of two classes of one quality, of which the first is sound
+  by-soundness : (k m : ℕ) → quality k ≡ quality m → soundness m < soundness k → a .class ≡ k → b .class ≡ m → Beats a b
+  by-soundness k m q s e f =
+      beats a b
+      (soundness-greater (a .class) (a .bytes) (b .class) (b .bytes) (ap quality e ∙ q ∙ sym (ap quality f)) (rw (e, f) s))
+
+  one-class : a .class ≡ b .class → Alike (a .class) (b .class)
+  one-class e = (ap quality e, ap soundness e)
+
+first-differs : (front rest others : List ℕ) (x y : ℕ) → y < x → greater (front ++ x ∷ rest) (front ++ y ∷ others) ≡ true
+first-differs [] rest others x y l = head-greater x y rest others l
+first-differs (z ∷ front) rest others x y l = head-same z z (front ++ x ∷ rest) (front ++ y ∷ others) refl ∙ first-differs front rest others x y l
+
+pub better-order : BetterOrder
+unfolding quality soundness
+better-order = record {
+  good-first = good-first;
+  sound-first = λ a b e f. by-soundness a b sound sid refl (omega arith) e f;
+  damaged-sound-first = λ a b e f. by-soundness a b damagedSound damagedSid refl (omega arith) e f;
+  longer = λ a b e l. beats a b (length-greater (a .class) (a .bytes) (b .class) (b .bytes) (one-class a b e) l);
+  greater-byte = λ a b e n front rest others x y p q l.
+      beats a b (length-same (a .class) (a .bytes) (b .class) (b .bytes) (one-class a b e) n ∙ ap₂ greater p q ∙ first-differs front rest others x y l);
+  equal = λ a b e p. length-same (a .class) (a .bytes) (b .class) (b .bytes) (one-class a b e) (ap length p) ∙ ap (λ (l : List ℕ). greater l (b .bytes)) p ∙ greater-self (b .bytes);
+}

@@ -1,7 +1,7 @@
 -- A buffer is well-formed exactly if the plain facts hold, and it is then the encoding of what it holds: the proofs of the claims.
 use Prim.Native.Nat.{ℕ, zero, suc, _^_, _≤_, _<_}
 use mathlib.Core.Path.{_≡_, refl, ap, subst}
-use mathlib.Core.Logic.{_↔_, _⊎_, inl, inr, ⊎-elim}
+use mathlib.Core.Logic.{_↔_, _⊎_, inl, inr}
 use mathlib.Core.List.{List, [], _∷_, List·Memᴰ, List·Memᴰ·head as here, List·Memᴰ·tail as there, List·Memᴰ·not-nil as nowhere}
 use mathlib.Core.Bool.{true, false}
 use native.Mathlib.Omega.{arith}
@@ -10,11 +10,12 @@ use lib.ListN.{length, getD, drop}
 use lib.Dec.{eqb}
 use Rattle.rtp.proofs.TestLaws.{not-both, both as in-turn, and-then, either}
 use Rattle.rtp.proofs.RangeLaws.{few-channels}
-use Rattle.formats.specs.Frames.{noData, sound, sid}
+use Rattle.formats.specs.Frames.{noData}
 use Rattle.formats.specs.Codes.{noCode, codeFor}
 use Rattle.formats.proofs.CodeLaws.{code-back, code-below, code-some}
 use Rattle.playout.specs.Sizes.{slots}
 use Rattle.playout.specs.Entries.{Entry}
+use Rattle.playout.proofs.RankLaws.{frame-class}
 use Rattle.playout.proofs.DistinctLaws.{Differ}
 use Rattle.playout.proofs.HeldLaws.{Rising, Stretch, rising-sorted, sorted-stretch}
 use Rattle.layout.specs.declared.buffer.Buffer.{Buffer}
@@ -67,21 +68,15 @@ to-frame format class n h =
     let a = either (eqb class noData) _ h in
     let c = ltb-true (codeFor format class n) noCode (a .1) in
     record {
-      classes = of-class class (allowed-frame format class n h .0 .0) (allowed-frame format class n h .0 .1);
+      classes = allowed-frame format class n h .0;
       code = codeFor format class n;
       in-table = code-below format class n c;
       stands = code-back format class n c;
     }
-  where
-    of-class : (k : ℕ) → 1 ≤ k → k ≤ sid → (k ≡ sound) ⊎ (k ≡ sid)
-    of-class zero l m = absurd (omega arith)
-    of-class (suc zero) l m = inl refl
-    of-class (suc (suc zero)) l m = inr refl
-    of-class (suc (suc (suc k))) l m = absurd (omega arith)
 
 of-frame : (format class n : ℕ) → FrameAllowed format class n → allowed format class n ≡ true
 of-frame format class n f =
-    rw (ne-eqb class noData (⊎-elim (λ (e : class ≡ sound) (z : class ≡ noData). omega arith) (λ (e : class ≡ sid) (z : class ≡ noData). omega arith) (f .classes)))
+    rw (ne-eqb class noData (λ z. absurd (omega (arith, z, frame-class class (f .classes) .0))))
     (lt-ltb (codeFor format class n) noCode (code-some format class n (f .code) (f .in-table) (f .stands)))
 
 -- Unused places

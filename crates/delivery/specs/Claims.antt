@@ -28,7 +28,7 @@ use Rattle.delivery.specs.Runs.{State, lent, Offer, Call, offer, draw, Y
 
 abbrev pub readRefusal : Outcome → ℕ
 readRefusal (refused r) = number r
-readRefusal (readAs h rs) = 0
+readRefusal (readAs h rs request) = 0
 
 -- the refusal that an offer gets: an area lent to it is under its size, or reading refuses its packet; else 0
 unfoldable pub offerRefusal : Settings → List ℕ → List ℕ → List ℕ → ℕ

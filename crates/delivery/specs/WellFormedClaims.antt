@@ -9,9 +9,10 @@ use lib.ListN.{getD}
 use Rattle.rtp.specs.Ranges.{inRange}
 use Rattle.rtp.specs.declared.settings.Settings.{Settings}
 use Rattle.formats.specs.Formats.{formatOf}
-use Rattle.formats.specs.Frames.{sound, sid, frame, frameOf}
+use Rattle.formats.specs.Frames.{frame, frameOf}
 use Rattle.playout.specs.Sizes.{slots}
 use Rattle.playout.specs.Pairs.{half, ahead, order}
+use Rattle.playout.specs.Copies.{FrameClass}
 use Rattle.playout.specs.Entries.{Entry, Held, sideOfEntry}
 use Rattle.layout.specs.declared.buffer.Buffer.{Buffer}
 use Rattle.layout.specs.Bits.{markOf, heldIn}
@@ -49,9 +50,9 @@ SlotsDistinct (e ∷ es) = ((f : Entry) → List·Memᴰ f es → e .slot ≡ f 
 abbrev pub HasSlot : List Entry → ℕ → Type 0
 HasSlot es s = (e : Entry) × List·Memᴰ e es × (e .slot ≡ s)
 
--- sound or SID, and the length: what a code of the format's frame table stands for
+-- the class of a frame (1, 2, 5 or 6) and the length: what a code of the format's frame table stands for
 pub record FrameAllowed (format class n : ℕ) : Type 0 where
-  pub classes : (class ≡ sound) ⊎ (class ≡ sid)
+  pub classes : FrameClass class
   pub code : ℕ
   pub in-table : code < formatOf format .codes
   pub stands : frameOf format code ≡ frame class n
@@ -68,7 +69,7 @@ pub record WellFormedFacts (b : Buffer) : Type 0 where
   pub distinct : SlotsDistinct (entriesHeld b)
   pub slots-in : (e : Entry) → List·Memᴰ e (entriesHeld b) → e .slot < slots
   pub marked : (s : ℕ) → s < slots → markOf (b .occupied) s ≡ 1 ↔ HasSlot (entriesHeld b) s
-  -- classes 1 or 2 and lengths as the format allows
+  -- classes and lengths as the format allows
   pub frames : (e : Entry) → List·Memᴰ e (entriesHeld b) → FrameAllowed (b .settings .format) (e .class) (e .length)
   -- channels in range, the last pair's too
   pub channels : (e : Entry) → List·Memᴰ e (entriesHeld b) → e .channel < b .settings .channels

@@ -4,8 +4,10 @@ use crate::header;
 use crate::words;
 use console::lines;
 use console::refusals;
+use formats::facts;
 use packet::reading;
 use packet::reading::Reading;
+use payload::reading::NO_REQUEST;
 use rtp::refusal;
 use rtp::refusal::Refusal;
 use rtp::settings::Settings;
@@ -32,12 +34,29 @@ fn print_refusal(why: Refusal) -> bool {
     words::print(&mut line, at)
 }
 
-// The packet's frames, or its refusal.
+// The mode request, in a format with a payload header.
+fn print_request(format: u8, mode_request: u8) -> bool {
+    if facts::format_of(format).header == 0 {
+        return true;
+    }
+    let mut line = lines::blank();
+    if mode_request == NO_REQUEST {
+        let none = lines::put(&mut line, 0, b"  no mode request");
+        return words::print(&mut line, none);
+    }
+    let at = lines::put_number(&mut line, 0, b"  mode request ", mode_request as u64);
+    words::print(&mut line, at)
+}
+
+// The packet's mode request and frames, or its refusal.
 fn print_reading(settings: Settings, bytes: &[u8]) -> bool {
     let mut rows = zero_rows();
     match reading::read(settings, bytes, &mut rows) {
         Reading::Refused(why) => print_refusal(why),
-        Reading::Read(answer) => frames::print(&rows, answer.rows),
+        Reading::Read(answer) => {
+            print_request(settings.format, answer.mode_request)
+                && frames::print(settings.format, &rows, answer.rows)
+        }
     }
 }
 

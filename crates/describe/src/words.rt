@@ -1,6 +1,8 @@
-// Words for numbers and classes, put into a line, and a line printed.
+// Words for numbers, classes and frame types, put into a line, and a line printed.
 use console::lines;
 use console::lines::LINE;
+use formats::codes;
+use formats::facts;
 use libc::STDOUT_FILENO;
 
 // A number of bytes after a text.
@@ -14,8 +16,19 @@ pub(crate) fn put_class(line: &mut [u8; LINE], at: usize, class: u32) -> usize {
         0 => lines::put(line, at, b"no data"),
         1 => lines::put(line, at, b"sound"),
         2 => lines::put(line, at, b"silence descriptor (SID)"),
+        5 => lines::put(line, at, b"damaged sound"),
+        6 => lines::put(line, at, b"damaged silence descriptor (SID)"),
         _ => lines::put_number(line, at, b"class ", class as u64),
     }
+}
+
+// The frame type, in a format whose codes are a type and a quality bit: it follows from class and length.
+pub(crate) fn put_type(line: &mut [u8; LINE], at: usize, format: u8, class: u32, n: u32) -> usize {
+    if facts::format_of(format).graded {
+        let code = codes::code_for(format, class, n);
+        return lines::put_number(line, at, b", type ", (code / 2) as u64);
+    }
+    at
 }
 
 // The line's first `at` bytes and its end; answers whether the output takes them.

@@ -13,7 +13,7 @@ use Rattle.rtp.specs.Sizes.{rowWidth}
 use Rattle.rtp.specs.declared.refusal.Refusal.{Refusal}
 use Rattle.rtp.proofs.TestLaws.{by-test, not-both}
 use Rattle.formats.specs.Formats.{stepOf, maxGap}
-use Rattle.payload.specs.Contents.{Group, Contents, refused, groups, framesIn}
+use Rattle.contents.specs.Contents.{Group, Contents, refused, groups, framesIn}
 use Rattle.payload.specs.Rows.{Row}
 use Rattle.formats.specs.Codes.{noCode, codeFor}
 use Rattle.encoder.specs.Lists.{rowsIn}

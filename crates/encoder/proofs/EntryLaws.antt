@@ -10,7 +10,7 @@ use Rattle.rtp.specs.Areas.{over}
 use Rattle.rtp.proofs.AreaLaws.{over-part}
 use Rattle.rtp.proofs.TestLaws.{by-test}
 use Rattle.formats.specs.Formats.{formatOf, stepOf}
-use Rattle.payload.specs.Contents.{Group, minEntry, gapsSize, entrySize, sizeIn}
+use Rattle.contents.specs.Contents.{Group, minEntry, gapsSize, entrySize, sizeIn}
 use Rattle.formats.specs.Codes.{noCode, codeFor}
 use Rattle.encoder.specs.Bytes.{halves, flag, firstByte, startBytes, gapBytes, entryBytes, tableBytes}
 use Rattle.formats.proofs.FormatLaws.{code-placed}

@@ -16,19 +16,20 @@ use Rattle.rtp.specs.declared.refusal.Refusal.{Refusal}
 use Rattle.rtp.specs.declared.refusal.Refusal.the-variants.{Unwritable}
 use Rattle.rtp.proofs.TestLaws.{by-test}
 use Rattle.rtp.proofs.AreaLaws.{over-part}
-use Rattle.formats.specs.Formats.{stepOf, maxGap}
-use Rattle.payload.specs.Contents.{Group, Contents, refused, groups, sizeIn, framesIn}
+use Rattle.formats.specs.Formats.{formatOf, stepOf, maxGap}
+use Rattle.contents.specs.Contents.{Group, Contents, refused, groups, sizeIn, framesIn}
 use Rattle.payload.specs.Rows.{Row}
 use Rattle.encoder.specs.Lists.{rowsIn, outside}
-use Rattle.encoder.specs.Plans.{maxPayload, gapBetween, headGap, joins, attach, follows, nextChannel, planFrom, stepBefore, fitting, plan}
-use Rattle.encoder.specs.Bytes.{tableBytes, frames}
+use Rattle.encoder.specs.Plans.{maxPayload, gapBetween, headGap, joins, attach, follows, nextChannel, planFrom, stepBefore, payloadSize, fitting, plan}
+use Rattle.encoder.specs.Bytes.{requestBytes, tableBytes, frames}
 use Rattle.encoder.specs.Writings.{plannedBytes, encodedBytes}
-use Rattle.encoder.specs.Room.{rowAs, wordsAt, FramesRoom, timed, Near, PlanRoom, TableRoom, planBytes, WholePlan, PayloadRoom}
+use Rattle.encoder.specs.Room.{rowAs, wordsAt, FramesRoom, timed, Near, PlanRoom, TableRoom, planBytes, WholePlan, ListRoom, PayloadRoom}
 use Rattle.encoder.proofs.ListLaws.{rows-none, rows-more, length-rows}
 use Rattle.encoder.proofs.BlockLaws.{no-plan, plan-time, frames-all}
 use Rattle.encoder.proofs.RunLaws.{first-gap}
 use Rattle.encoder.proofs.EntryLaws.{length-table}
 use Rattle.encoder.proofs.FrameBytesLaws.{length-frames}
+use Rattle.encoder.proofs.RequestLaws.{length-request}
 
 -- Where there is no plan, the reason is 13
 
@@ -53,7 +54,7 @@ plain-from format ch c p (r ∷ rs) =
 
 plain-fitting : (format ch : ℕ) (x : Contents) → Plain x → Plain (fitting format ch x)
 plain-fitting format ch (refused q) h = h
-plain-fitting format ch (groups gs) h = by-test (ltb maxPayload (sizeIn format gs + framesIn ch gs)) (λ a. rw a refl) (λ a. rw a tt)
+plain-fitting format ch (groups gs) h = by-test (ltb maxPayload (payloadSize format ch gs)) (λ a. rw a refl) (λ a. rw a tt)
 
 plain-plan : (format ch : ℕ) (rs : List Row) → Plain (plan format ch rs)
 unfolding plan
@@ -70,17 +71,17 @@ pub record Listed (format ch : ℕ) (ws : List ℕ) (gs : List Group) : Type 0 w
   pub row : rowWidth ≤ length ws
   pub few : length ws < rowWidth * maxRows + rowWidth
   pub planned : planFrom format ch 0 (stepBefore format (rowAs (wordsAt ws 0))) (rowsIn ws) ≡ groups gs
-  pub fits : sizeIn format gs + framesIn ch gs ≤ maxPayload
+  pub fits : payloadSize format ch gs ≤ maxPayload
 
-pub fitted : (format ch : ℕ) (x : Contents) (gs : List Group) → fitting format ch x ≡ groups gs → (x ≡ groups gs) × (sizeIn format gs + framesIn ch gs ≤ maxPayload)
+pub fitted : (format ch : ℕ) (x : Contents) (gs : List Group) → fitting format ch x ≡ groups gs → (x ≡ groups gs) × (payloadSize format ch gs ≤ maxPayload)
 fitted format ch (refused q) gs h = absurd (no-plan h)
 fitted format ch (groups hs) gs h =
-    by-test (ltb maxPayload (sizeIn format hs + framesIn ch hs))
+    by-test (ltb maxPayload (payloadSize format ch hs))
     (λ a. absurd (no-plan (rw a at h)))
     (λ a.
     let e : groups hs ≡ groups gs = rw a at h in
     let s : hs ≡ gs = cc in
-    (e, subst (λ (k : List Group). sizeIn format k + framesIn ch k ≤ maxPayload) s (ltb-false maxPayload (sizeIn format hs + framesIn ch hs) a)))
+    (e, subst (λ (k : List Group). payloadSize format ch k ≤ maxPayload) s (ltb-false maxPayload (payloadSize format ch hs) a)))
 
 pub listed : (format ch : ℕ) (ws : List ℕ) (gs : List Group) → plan format ch (rowsIn ws) ≡ groups gs → Listed format ch ws gs
 unfolding plan
@@ -115,12 +116,18 @@ list-near format ch ws [] l h = tt
 list-near format ch ws (g ∷ gs) l h = omega (arith, first-gap format ch (stepBefore format (rowAs (wordsAt ws 0))) ws g gs l h ∙ gap-none (stepOf format) (getD ws 0 0))
 
 -- the bytes are as many as the plan says
-pub length-bytes : (format ch : ℕ) (ws bytes : List ℕ) (gs : List Group) → 0 < ch → outside (length bytes) (rowsIn ws) ≡ false → plan format ch (rowsIn ws) ≡ groups gs
+length-list : (format ch : ℕ) (ws bytes : List ℕ) (gs : List Group) → 0 < ch → outside (length bytes) (rowsIn ws) ≡ false → plan format ch (rowsIn ws) ≡ groups gs
     → length (tableBytes format gs ++ frames bytes (rowsIn ws)) ≡ sizeIn format gs + framesIn ch gs
-length-bytes format ch ws bytes gs l o h =
+length-list format ch ws bytes gs l o h =
     length-append (tableBytes format gs) (frames bytes (rowsIn ws))
     ∙ ap (λ (n : ℕ). n + length (frames bytes (rowsIn ws))) (length-table format gs)
     ∙ ap (λ (n : ℕ). sizeIn format gs + n) (length-frames bytes (rowsIn ws) o ∙ frames-all format ch (stepBefore format (rowAs (wordsAt ws 0))) (rowsIn ws) gs l (listed format ch ws gs h .planned))
+
+pub length-bytes : (format request ch : ℕ) (ws bytes : List ℕ) (gs : List Group) → 0 < ch → outside (length bytes) (rowsIn ws) ≡ false → plan format ch (rowsIn ws) ≡ groups gs
+    → length (requestBytes format request ++ (tableBytes format gs ++ frames bytes (rowsIn ws))) ≡ payloadSize format ch gs
+length-bytes format request ch ws bytes gs l o h =
+    length-append (requestBytes format request) (tableBytes format gs ++ frames bytes (rowsIn ws))
+    ∙ omega (arith, length-request format request, length-list format ch ws bytes gs l o h)
 
 -- The table and the frames, written one after the other
 
@@ -134,7 +141,7 @@ whole-plan : (format ch table area : ℕ) (x : Contents) → WholePlan format ch
 whole-plan format ch table area (refused q) w = absurd w
 whole-plan format ch table area (groups gs) w = record { table-groups = gs; planned = refl; size = w .0; fits = w .1 }
 
-module _ (format ch table : ℕ) (ws bytes : List ℕ) (area : ℕ) (r : PayloadRoom format ch table (length bytes) ws area) where
+module _ (format ch table : ℕ) (ws bytes : List ℕ) (area : ℕ) (r : ListRoom format ch table (length bytes) ws area) where
   it : Whole format ch table area (plan format ch (rowsIn ws))
   it = whole-plan format ch table area (plan format ch (rowsIn ws)) (r .planned)
 
@@ -163,8 +170,24 @@ module _ (format ch table : ℕ) (ws bytes : List ℕ) (area : ℕ) (r : Payload
 
   pub put-both : (l m z : List ℕ) → m ≡ over (planBytes format (planFrom format ch 0 (timed (difference (getD ws 0 0) (stepOf format))) (rowsIn ws))) l
       → z ≡ over (frames bytes (rowsIn ws)) (take (length m - table) (drop table m))
-      → putMid table (length m - table) m z ≡ over (encodedBytes (plannedBytes format bytes (rowsIn ws) (plan format ch (rowsIn ws)))) l
-  unfolding planBytes encodedBytes
+      → putMid table (length m - table) m z ≡ over (planBytes format (plan format ch (rowsIn ws)) ++ frames bytes (rowsIn ws)) l
+  unfolding planBytes
   put-both l m z p q =
       over-part (tableBytes format (it .table-groups)) (frames bytes (rowsIn ws)) l m z table (length-table format (it .table-groups) ∙ sym (it .size)) (p ∙ ap (λ (x : Contents). over (planBytes format x) l) from-before) q
-      ∙ ap (λ (x : Contents). over (encodedBytes (plannedBytes format bytes (rowsIn ws) x)) l) (sym (it .planned))
+      ∙ ap (λ (x : Contents). over (planBytes format x ++ frames bytes (rowsIn ws)) l) (sym (it .planned))
+
+-- The mode request before them
+
+whole-bytes : (format request ch table : ℕ) (bytes : List ℕ) (rs : List Row) (area : ℕ) (x : Contents) → WholePlan format ch table area x
+    → encodedBytes (plannedBytes format request bytes rs x) ≡ requestBytes format request ++ (planBytes format x ++ frames bytes rs)
+unfolding planBytes encodedBytes
+whole-bytes format request ch table bytes rs area (refused q) w = absurd w
+whole-bytes format request ch table bytes rs area (groups gs) w = refl
+
+module _ (format request ch table : ℕ) (ws bytes : List ℕ) (area : ℕ) (r : PayloadRoom format request ch table (length bytes) ws area) where
+  pub put-all : (l m z : List ℕ) (n : ℕ) → n ≡ formatOf format .header → m ≡ over (requestBytes format request) l
+      → z ≡ over (planBytes format (plan format ch (rowsIn ws)) ++ frames bytes (rowsIn ws)) (take (length m - n) (drop n m))
+      → putMid n (length m - n) m z ≡ over (encodedBytes (plannedBytes format request bytes (rowsIn ws) (plan format ch (rowsIn ws)))) l
+  put-all l m z n e p q =
+      over-part (requestBytes format request) (planBytes format (plan format ch (rowsIn ws)) ++ frames bytes (rowsIn ws)) l m z n (length-request format request ∙ sym e) p q
+      ∙ ap (λ (s : List ℕ). over s l) (sym (whole-bytes format request ch table bytes (rowsIn ws) _ (plan format ch (rowsIn ws)) (r .list .planned)))

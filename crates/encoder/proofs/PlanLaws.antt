@@ -11,15 +11,16 @@ use native.Mathlib.Numerals.{add-one}
 use borrow.Author.Tests.{lt-ltb, le-ltb, ltb-true, leb-true, eqb-true, eqb-false, eq-eqb, ne-eqb}
 use Rattle.rtp.specs.Sizes.{maxRows, maxFrame, rowWidth}
 use Rattle.rtp.proofs.TestLaws.{by-test, not-both, both}
-use Rattle.payload.specs.Contents.{Group, Contents, refused, groups, gapsSize, entrySize, sizeIn, framesIn}
+use Rattle.contents.specs.Contents.{Group, Contents, refused, groups, gapsSize, entrySize, sizeIn, framesIn}
 use Rattle.payload.specs.Rows.{Row}
 use Rattle.encoder.specs.declared.plans.Plan.{Plan}
 use Rattle.encoder.specs.declared.plans.Planned.{Planned}
 use Rattle.formats.specs.Formats.{formatOf, stepOf, maxGap}
 use Rattle.formats.specs.Codes.{noCode, codeFor}
-use Rattle.payload.proofs.EntryLaws.{min-few}
+use Rattle.contents.proofs.EntryLaws.{min-few}
+use Rattle.formats.proofs.FormatLaws.{header-small}
 use Rattle.formats.proofs.CodeLaws.{code-small}
-use Rattle.encoder.specs.Plans.{maxPayload, gapBetween, starts, headGap, joinsRun, joins, attach, follows, planFrom, plan, nextChannel, stepBefore, fitting}
+use Rattle.encoder.specs.Plans.{maxPayload, gapBetween, starts, headGap, joinsRun, joins, attach, follows, planFrom, plan, nextChannel, stepBefore, payloadSize, fitting}
 use Rattle.encoder.specs.Lists.{rowsIn}
 use Rattle.encoder.proofs.ListLaws.{rows-none, rows-more, length-rows}
 use Rattle.encoder.specs.Room.{rowAs, wordsAt, planAnswer, attachPlan, SmallPlan, Small}
@@ -163,17 +164,17 @@ module _ (format ch c : ℕ) (p : Row) (ws : List ℕ) where
 -- The plan of a whole list
 
 -- `fitting` by the numbers of the first run
-abbrev pub fittingPlan : Planned → Planned
-fittingPlan Planned.Unwritable = Planned.Unwritable
-fittingPlan Planned.Empty = Planned.Empty
-fittingPlan (Planned.Table p) = cond (ltb maxPayload (p .table + p .frames)) Planned.Unwritable (Planned.Table p)
+abbrev pub fittingPlan : ℕ → Planned → Planned
+fittingPlan format Planned.Unwritable = Planned.Unwritable
+fittingPlan format Planned.Empty = Planned.Empty
+fittingPlan format (Planned.Table p) = cond (ltb maxPayload (formatOf format .header + p .table + p .frames)) Planned.Unwritable (Planned.Table p)
 
-answer-fitting : (format ch : ℕ) (x : Contents) → planAnswer format ch (fitting format ch x) ≡ fittingPlan (planAnswer format ch x)
+answer-fitting : (format ch : ℕ) (x : Contents) → planAnswer format ch (fitting format ch x) ≡ fittingPlan format (planAnswer format ch x)
 unfolding planAnswer
 answer-fitting format ch (refused q) = refl
-answer-fitting format ch (groups []) = unfold sizeIn framesIn in refl
+answer-fitting format ch (groups []) = unfold sizeIn framesIn in rw (le-ltb maxPayload (formatOf format .header + 0 + 0) (omega (arith, header-small format)))
 answer-fitting format ch (groups (g ∷ gs)) =
-    by-test (ltb maxPayload (sizeIn format (g ∷ gs) + framesIn ch (g ∷ gs))) (λ a. rw a) (λ a. rw a)
+    by-test (ltb maxPayload (payloadSize format ch (g ∷ gs))) (λ a. rw a) (λ a. rw a)
 
 module _ (format ch : ℕ) (ws : List ℕ) where
   pub list-none : length ws < rowWidth → planAnswer format ch (plan format ch (rowsIn ws)) ≡ Planned.Unwritable
@@ -192,5 +193,5 @@ module _ (format ch : ℕ) (ws : List ℕ) where
         rw (rows-more ws h, le-ltb maxRows (length (rowAs (wordsAt ws 0) ∷ rowsIn (drop rowWidth ws))) l)
 
     pub list-answer : length ws / rowWidth ≤ maxRows → (x : Planned) → x ≡ planAnswer format ch (planFrom format ch 0 (stepBefore format (rowAs (wordsAt ws 0))) (rowsIn ws))
-        → planAnswer format ch (plan format ch (rowsIn ws)) ≡ fittingPlan x
-    list-answer m x e = ap (planAnswer format ch) (list-plan m) ∙ answer-fitting format ch (planFrom format ch 0 (stepBefore format (rowAs (wordsAt ws 0))) (rowsIn ws)) ∙ ap fittingPlan (sym e)
+        → planAnswer format ch (plan format ch (rowsIn ws)) ≡ fittingPlan format x
+    list-answer m x e = ap (planAnswer format ch) (list-plan m) ∙ answer-fitting format ch (planFrom format ch 0 (stepBefore format (rowAs (wordsAt ws 0))) (rowsIn ws)) ∙ ap (fittingPlan format) (sym e)

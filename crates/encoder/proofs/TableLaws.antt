@@ -14,7 +14,7 @@ use Rattle.rtp.specs.Areas.{over}
 use Rattle.rtp.proofs.TestLaws.{by-test}
 use Rattle.rtp.proofs.AreaLaws.{over-none, over-part}
 use Rattle.formats.specs.Formats.{stepOf}
-use Rattle.payload.specs.Contents.{Group, Contents, refused, groups, entrySize, sizeIn}
+use Rattle.contents.specs.Contents.{Group, Contents, refused, groups, entrySize, sizeIn}
 use Rattle.payload.specs.Rows.{Row}
 use Rattle.formats.proofs.FormatLaws.{gap-small}
 use Rattle.encoder.specs.Lists.{rowsIn}

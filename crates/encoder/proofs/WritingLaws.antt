@@ -2,7 +2,7 @@
 use mathlib.Core.Path.{_≡_, refl, ap, sym, _∙_, subst}
 use mathlib.Core.List.{List, [], _∷_, _++_}
 use mathlib.Core.Bool.{true, false}
-use Prim.Native.Nat.{ℕ, _+_, _%_, _≤_, _<_}
+use Prim.Native.Nat.{ℕ, _+_, _-_, _%_, _≤_, _<_}
 use native.Mathlib.Omega.{arith}
 use lib.ListN.{length}
 use borrow.Author.Tests.{lt-ltb, le-ltb, eq-eqb, ne-eqb}
@@ -14,17 +14,19 @@ use Rattle.rtp.specs.declared.refusal.Refusal.{Refusal}
 use Rattle.rtp.specs.declared.refusal.Refusal.the-variants.{SettingsOutOfRange, RowOutsideBytes, Unwritable, AreaTooShort}
 use Rattle.rtp.proofs.TestLaws.{by-test}
 use Rattle.rtp.proofs.AreaLaws.{over-none}
-use Rattle.payload.specs.Contents.{Group, Contents, refused, groups, sizeIn, framesIn}
+use Rattle.formats.specs.Formats.{formatOf}
+use Rattle.contents.specs.Contents.{Group, Contents, refused, groups, sizeIn, framesIn}
 use Rattle.encoder.specs.declared.plans.Plan.{Plan}
 use Rattle.encoder.specs.declared.plans.Planned.{Planned}
 use Rattle.encoder.specs.declared.writing.Written.{Written}
 use Rattle.encoder.specs.Lists.{rowsIn, whole, outside}
 use Rattle.encoder.specs.Plans.{maxPayload, plan}
-use Rattle.encoder.specs.Bytes.{tableBytes, frames}
-use Rattle.encoder.specs.Writings.{Encoded, noBytes, bytesOf, plannedBytes, encoded, roomFor, writing, writtenNumbers, encodedNumbers, encodedBytes, plannedNumbers, refusedNumbers, measured}
+use Rattle.encoder.specs.Bytes.{requestBytes, tableBytes, frames}
+use Rattle.encoder.specs.Writings.{Encoded, noBytes, bytesOf, maxRequest, askable, plannedBytes, encoded, roomFor, writing, writtenNumbers, encodedNumbers, encodedBytes, plannedNumbers, refusedNumbers, measured}
 use Rattle.encoder.specs.Room.{planAnswer, WholePlan, PayloadRoom}
 use Rattle.encoder.proofs.TableLaws.{some-group}
 pub use Rattle.rtp.proofs.RangeLaws.{in-range-some}
+use Rattle.encoder.proofs.RequestLaws.{asked}
 use Rattle.encoder.proofs.PayloadLaws.{plan-refused, listed, length-bytes}
 
 -- The plan that an answer stands for
@@ -73,53 +75,57 @@ pub refused-pair : (x : Encoded) (q : Refusal) (l : List ℕ) → x ≡ noBytes 
 unfolding encodedNumbers encodedBytes
 refused-pair x q l e = (rw e, rw e (sym (over-none l)))
 
-pub writing-out : (st : Settings) (ws bytes : List ℕ) (area : ℕ) → inRange st ≡ false → writing st ws bytes area ≡ noBytes SettingsOutOfRange
+pub writing-out : (st : Settings) (request : ℕ) (ws bytes : List ℕ) (area : ℕ) → askable st request ≡ false → writing st request ws bytes area ≡ noBytes SettingsOutOfRange
 unfolding writing
-writing-out st ws bytes area h = rw h
+writing-out st request ws bytes area h = rw h
 
-module _ (st : Settings) (ws bytes : List ℕ) (area : ℕ) (i : inRange st ≡ true) where
-  pub writing-outside : outside (length bytes) (rowsIn ws) ≡ true → writing st ws bytes area ≡ noBytes RowOutsideBytes
+module _ (st : Settings) (request : ℕ) (ws bytes : List ℕ) (area : ℕ) (i : askable st request ≡ true) where
+  pub writing-outside : outside (length bytes) (rowsIn ws) ≡ true → writing st request ws bytes area ≡ noBytes RowOutsideBytes
   unfolding writing
   writing-outside o = rw (i, o)
 
   module _ (o : outside (length bytes) (rowsIn ws) ≡ false) where
-    pub writing-cut : (length ws % rowWidth ≡ 0 → ⊥) → writing st ws bytes area ≡ noBytes Unwritable
+    pub writing-cut : (length ws % rowWidth ≡ 0 → ⊥) → writing st request ws bytes area ≡ noBytes Unwritable
     unfolding writing
     writing-cut w = rw (i, o, ne-eqb (length ws % rowWidth) 0 w)
 
     module _ (w : length ws % rowWidth ≡ 0) where
-      writing-planned : writing st ws bytes area ≡ roomFor area (plannedBytes (st .format) bytes (rowsIn ws) (plan (st .format) (st .channels) (rowsIn ws)))
+      writing-planned : writing st request ws bytes area ≡ roomFor area (plannedBytes (st .format) request bytes (rowsIn ws) (plan (st .format) (st .channels) (rowsIn ws)))
       unfolding writing encoded
       writing-planned = rw (i, o, eq-eqb (length ws % rowWidth) 0 w)
 
-      pub writing-none : plan (st .format) (st .channels) (rowsIn ws) ≡ refused Unwritable → writing st ws bytes area ≡ noBytes Unwritable
-      writing-none e = writing-planned ∙ ap (λ (x : Contents). roomFor area (plannedBytes (st .format) bytes (rowsIn ws) x)) e
+      pub writing-none : plan (st .format) (st .channels) (rowsIn ws) ≡ refused Unwritable → writing st request ws bytes area ≡ noBytes Unwritable
+      writing-none e = writing-planned ∙ ap (λ (x : Contents). roomFor area (plannedBytes (st .format) request bytes (rowsIn ws) x)) e
 
       module _ (p : Plan) (d : Answered (st .format) (st .channels) (plan (st .format) (st .channels) (rowsIn ws)) p) where
-        bytes-of : plannedBytes (st .format) bytes (rowsIn ws) (plan (st .format) (st .channels) (rowsIn ws)) ≡ bytesOf (tableBytes (st .format) (d .table-groups) ++ frames bytes (rowsIn ws))
-        bytes-of = ap (plannedBytes (st .format) bytes (rowsIn ws)) (d .planned)
+        bytes-of : plannedBytes (st .format) request bytes (rowsIn ws) (plan (st .format) (st .channels) (rowsIn ws)) ≡ bytesOf (requestBytes (st .format) request ++ (tableBytes (st .format) (d .table-groups) ++ frames bytes (rowsIn ws)))
+        bytes-of = ap (plannedBytes (st .format) request bytes (rowsIn ws)) (d .planned)
 
-        size-of : length (tableBytes (st .format) (d .table-groups) ++ frames bytes (rowsIn ws)) ≡ p .table + p .frames
-        size-of = length-bytes (st .format) (st .channels) ws bytes (d .table-groups) (in-range-some st i) o (d .planned) ∙ omega (arith, d .table, d .frames)
+        size-of : length (requestBytes (st .format) request ++ (tableBytes (st .format) (d .table-groups) ++ frames bytes (rowsIn ws))) ≡ formatOf (st .format) .header + p .table + p .frames
+        size-of = length-bytes (st .format) request (st .channels) ws bytes (d .table-groups) (in-range-some st (asked st request i .settings)) o (d .planned) ∙ omega (arith, d .table, d .frames)
 
-        pub writing-short : area < p .table + p .frames → writing st ws bytes area ≡ noBytes AreaTooShort
-        writing-short l = writing-planned ∙ ap (roomFor area) bytes-of ∙ rw (size-of, lt-ltb area (p .table + p .frames) l)
+        pub writing-short : area < formatOf (st .format) .header + p .table + p .frames → writing st request ws bytes area ≡ noBytes AreaTooShort
+        writing-short l = writing-planned ∙ ap (roomFor area) bytes-of ∙ rw (size-of, lt-ltb area (formatOf (st .format) .header + p .table + p .frames) l)
 
-        pub writing-all : p .table + p .frames ≤ area → writing st ws bytes area ≡ plannedBytes (st .format) bytes (rowsIn ws) (plan (st .format) (st .channels) (rowsIn ws))
+        pub writing-all : formatOf (st .format) .header + p .table + p .frames ≤ area → writing st request ws bytes area ≡ plannedBytes (st .format) request bytes (rowsIn ws) (plan (st .format) (st .channels) (rowsIn ws))
         writing-all l =
-            let n : length (tableBytes (st .format) (d .table-groups) ++ frames bytes (rowsIn ws)) ≤ area = omega (arith, size-of) in
-            writing-planned ∙ ap (roomFor area) bytes-of ∙ rw (le-ltb area (length (tableBytes (st .format) (d .table-groups) ++ frames bytes (rowsIn ws))) n) (sym bytes-of)
+            let n : length (requestBytes (st .format) request ++ (tableBytes (st .format) (d .table-groups) ++ frames bytes (rowsIn ws))) ≤ area = omega (arith, size-of) in
+            writing-planned ∙ ap (roomFor area) bytes-of ∙ rw (le-ltb area (length (requestBytes (st .format) request ++ (tableBytes (st .format) (d .table-groups) ++ frames bytes (rowsIn ws)))) n) (sym bytes-of)
 
-        pub numbers-all : p .table + p .frames ≤ area → writtenNumbers (Written.Bytes (p .table + p .frames)) ≡ encodedNumbers (writing st ws bytes area)
+        pub numbers-all : formatOf (st .format) .header + p .table + p .frames ≤ area → writtenNumbers (Written.Bytes (formatOf (st .format) .header + p .table + p .frames)) ≡ encodedNumbers (writing st request ws bytes area)
         unfolding encodedNumbers
         numbers-all l = sym (ap encodedNumbers (writing-all l ∙ bytes-of) ∙ rw size-of)
 
-        pub payload-room : st .channels < 256 → p .table + p .frames ≤ area → PayloadRoom (st .format) (st .channels) (p .table) (length bytes) ws area
+        pub payload-room : st .channels < 256 → formatOf (st .format) .header + p .table + p .frames ≤ area → PayloadRoom (st .format) request (st .channels) (p .table) (length bytes) ws area
         payload-room c l = record {
-          some = in-range-some st i;
-          channels = c;
-          inside = o;
-          planned = subst (λ (x : Contents). WholePlan (st .format) (st .channels) (p .table) area x) (sym (d .planned)) (d .table, omega (arith, d .frames));
+          small = asked st request i .small;
+          room = omega arith;
+          list = record {
+            some = in-range-some st (asked st request i .settings);
+            channels = c;
+            inside = o;
+            planned = subst (λ (x : Contents). WholePlan (st .format) (st .channels) (p .table) (area - formatOf (st .format) .header) x) (sym (d .planned)) (d .table, omega (arith, d .frames));
+          };
         }
 
 -- Measuring
@@ -141,35 +147,36 @@ module _ (st : Settings) (ws : List ℕ) (i : inRange st ≡ true) where
     pub measured-none : plan (st .format) (st .channels) (rowsIn ws) ≡ refused Unwritable → refusedNumbers Unwritable ≡ measured st ws
     measured-none e = sym (measured-plan ∙ ap (plannedNumbers (st .format) (st .channels)) e)
 
-    pub measured-all : (p : Plan) → Answered (st .format) (st .channels) (plan (st .format) (st .channels) (rowsIn ws)) p → writtenNumbers (Written.Bytes (p .table + p .frames)) ≡ measured st ws
+    pub measured-all : (p : Plan) → Answered (st .format) (st .channels) (plan (st .format) (st .channels) (rowsIn ws)) p → writtenNumbers (Written.Bytes (formatOf (st .format) .header + p .table + p .frames)) ≡ measured st ws
     measured-all p d = sym (measured-plan ∙ ap (plannedNumbers (st .format) (st .channels)) (d .planned) ∙ rw (← (d .table), ← (d .frames)))
 
 -- what is measured is what is encoded, where the rows lie inside their bytes
-pub numbers-encoded : (st : Settings) (ws bytes : List ℕ) → 0 < st .channels → outside (length bytes) (rowsIn ws) ≡ false
-    → encodedNumbers (encoded st bytes (rowsIn ws)) ≡ plannedNumbers (st .format) (st .channels) (plan (st .format) (st .channels) (rowsIn ws))
+pub numbers-encoded : (st : Settings) (request : ℕ) (ws bytes : List ℕ) → 0 < st .channels → outside (length bytes) (rowsIn ws) ≡ false
+    → encodedNumbers (encoded st request bytes (rowsIn ws)) ≡ plannedNumbers (st .format) (st .channels) (plan (st .format) (st .channels) (rowsIn ws))
 unfolding encoded encodedNumbers
-numbers-encoded st ws bytes l o = by-plan (plan (st .format) (st .channels) (rowsIn ws)) refl
+numbers-encoded st request ws bytes l o = by-plan (plan (st .format) (st .channels) (rowsIn ws)) refl
   where
-    by-plan : (x : Contents) → plan (st .format) (st .channels) (rowsIn ws) ≡ x → encodedNumbers (plannedBytes (st .format) bytes (rowsIn ws) x) ≡ plannedNumbers (st .format) (st .channels) x
+    by-plan : (x : Contents) → plan (st .format) (st .channels) (rowsIn ws) ≡ x → encodedNumbers (plannedBytes (st .format) request bytes (rowsIn ws) x) ≡ plannedNumbers (st .format) (st .channels) x
     by-plan (refused q) e = refl
-    by-plan (groups gs) e = rw (length-bytes (st .format) (st .channels) ws bytes gs l o e)
+    by-plan (groups gs) e = rw (length-bytes (st .format) request (st .channels) ws bytes gs l o e)
 
 -- and what is written, in an area that has room for any payload
-room-enough : (st : Settings) (ws bytes : List ℕ) (area : ℕ) → 0 < st .channels → outside (length bytes) (rowsIn ws) ≡ false → maxPayload ≤ area
-    → roomFor area (encoded st bytes (rowsIn ws)) ≡ encoded st bytes (rowsIn ws)
+room-enough : (st : Settings) (request : ℕ) (ws bytes : List ℕ) (area : ℕ) → 0 < st .channels → outside (length bytes) (rowsIn ws) ≡ false → maxPayload ≤ area
+    → roomFor area (encoded st request bytes (rowsIn ws)) ≡ encoded st request bytes (rowsIn ws)
 unfolding encoded
-room-enough st ws bytes area l o a = by-plan (plan (st .format) (st .channels) (rowsIn ws)) refl
+room-enough st request ws bytes area l o a = by-plan (plan (st .format) (st .channels) (rowsIn ws)) refl
   where
-    by-plan : (x : Contents) → plan (st .format) (st .channels) (rowsIn ws) ≡ x → roomFor area (plannedBytes (st .format) bytes (rowsIn ws) x) ≡ plannedBytes (st .format) bytes (rowsIn ws) x
+    by-plan : (x : Contents) → plan (st .format) (st .channels) (rowsIn ws) ≡ x → roomFor area (plannedBytes (st .format) request bytes (rowsIn ws) x) ≡ plannedBytes (st .format) request bytes (rowsIn ws) x
     by-plan (refused q) e = refl
     by-plan (groups gs) e =
-        rw (le-ltb area (length (tableBytes (st .format) gs ++ frames bytes (rowsIn ws))) (omega (arith, length-bytes (st .format) (st .channels) ws bytes gs l o e, listed (st .format) (st .channels) ws gs e .fits)))
+        rw (le-ltb area (length (requestBytes (st .format) request ++ (tableBytes (st .format) gs ++ frames bytes (rowsIn ws)))) (omega (arith, length-bytes (st .format) request (st .channels) ws bytes gs l o e, listed (st .format) (st .channels) ws gs e .fits)))
 
-pub measured-writing : (st : Settings) (ws bytes : List ℕ) (area : ℕ) → outside (length bytes) (rowsIn ws) ≡ false → maxPayload ≤ area → encodedNumbers (writing st ws bytes area) ≡ measured st ws
-unfolding writing measured encodedNumbers
-measured-writing st ws bytes area o a =
+pub measured-writing : (st : Settings) (request : ℕ) (ws bytes : List ℕ) (area : ℕ) → request ≤ maxRequest → outside (length bytes) (rowsIn ws) ≡ false → maxPayload ≤ area → encodedNumbers (writing st request ws bytes area) ≡ measured st ws
+unfolding writing askable measured encodedNumbers
+measured-writing st request ws bytes area q o a =
+    let k = le-ltb maxRequest request q in
     by-test (inRange st)
     (λ i. by-test (whole ws)
-    (λ w. rw (i, o, w, room-enough st ws bytes area (in-range-some st i) o a) (numbers-encoded st ws bytes (in-range-some st i) o))
-    (λ w. rw (i, o, w)))
-    (λ i. rw i)
+    (λ w. rw (k, i, o, w, room-enough st request ws bytes area (in-range-some st i) o a) (numbers-encoded st request ws bytes (in-range-some st i) o))
+    (λ w. rw (k, i, o, w)))
+    (λ i. rw (k, i))

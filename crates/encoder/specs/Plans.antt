@@ -9,7 +9,7 @@ use Rattle.rtp.specs.Sizes.{maxRows, minPacket, maxPacket}
 use Rattle.rtp.specs.Time.{difference}
 use Rattle.rtp.specs.declared.refusal.Refusal.the-variants.{Unwritable}
 use Rattle.formats.specs.Formats.{formatOf, stepOf, maxGap}
-use Rattle.payload.specs.Contents.{Group, Contents, refused, groups, sizeIn, framesIn}
+use Rattle.contents.specs.Contents.{Group, Contents, refused, groups, sizeIn, framesIn}
 use Rattle.payload.specs.Rows.{Row}
 use Rattle.formats.specs.Codes.{noCode, codeFor}
 
@@ -79,10 +79,14 @@ planFrom format ch c p (r ∷ rs) =
 abbrev pub stepBefore : ℕ → Row → Row
 stepBefore format r = record { time = difference (r .time) (stepOf format); class = r .class; channel = r .channel; start = r .start; length = r .length }
 
--- a table with its frames within the longest payload
+-- the bytes of a payload with this table: those before it, its own and those of its frames
+abbrev pub payloadSize : ℕ → ℕ → List Group → ℕ
+payloadSize format ch gs = formatOf format .header + sizeIn format gs + framesIn ch gs
+
+-- a table whose payload is within the longest
 abbrev pub fitting : ℕ → ℕ → Contents → Contents
 fitting format ch (refused q) = refused q
-fitting format ch (groups gs) = cond (ltb maxPayload (sizeIn format gs + framesIn ch gs)) (refused Unwritable) (groups gs)
+fitting format ch (groups gs) = cond (ltb maxPayload (payloadSize format ch gs)) (refused Unwritable) (groups gs)
 
 -- the plan of a whole list: an empty one has none, nor has one of too many rows
 unfoldable pub plan : ℕ → ℕ → List Row → Contents

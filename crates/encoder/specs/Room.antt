@@ -6,8 +6,8 @@ use mathlib.Core.Bool.{false, cond}
 use lib.ListN.{length, getD, drop}
 use lib.Dec.{leb}
 use Rattle.rtp.specs.Sizes.{maxRows, maxFrame, rowWidth}
-use Rattle.payload.specs.Contents.{Group, Contents, refused, groups, minEntry, entrySize, sizeIn, framesIn}
-use Rattle.formats.specs.Formats.{stepOf, maxGap}
+use Rattle.contents.specs.Contents.{Group, Contents, refused, groups, minEntry, entrySize, sizeIn, framesIn}
+use Rattle.formats.specs.Formats.{formatOf, stepOf, maxGap}
 use Rattle.payload.specs.Rows.{Row}
 use Rattle.encoder.specs.declared.lists.RowWords.{RowWords}
 use Rattle.encoder.specs.declared.plans.Plan.{Plan}
@@ -16,6 +16,7 @@ use Rattle.encoder.specs.Lists.{rowOf, rowsIn, outside}
 use Rattle.formats.specs.Codes.{noCode, codeFor}
 use Rattle.encoder.specs.Plans.{headGap, gapBetween, joinsRun, joins, planFrom, plan}
 use Rattle.encoder.specs.Bytes.{tableBytes}
+use Rattle.encoder.specs.Writings.{maxRequest}
 
 -- the words of the row at a word of the area
 abbrev pub wordsAt : List ℕ → ℕ → RowWords
@@ -178,13 +179,19 @@ unfoldable pub planBytes : ℕ → Contents → List ℕ
 planBytes format (refused q) = []
 planBytes format (groups gs) = tableBytes format gs
 
--- a table of so many bytes, and its frames after it, in an area
+-- what stands after the mode request: a table of so many bytes, and its frames after it, in an area
 abbrev pub WholePlan : ℕ → ℕ → ℕ → ℕ → Contents → Type 0
 WholePlan format ch table area (refused q) = ⊥
 WholePlan format ch table area (groups gs) = (table ≡ sizeIn format gs) × (table + framesIn ch gs ≤ area)
 
-pub record PayloadRoom (format ch table bytes : ℕ) (ws : List ℕ) (area : ℕ) : Type 0 where
+pub record ListRoom (format ch table bytes : ℕ) (ws : List ℕ) (area : ℕ) : Type 0 where
   pub some : 0 < ch
   pub channels : ch < 256
   pub inside : outside bytes (rowsIn ws) ≡ false
   pub planned : WholePlan format ch table area (plan format ch (rowsIn ws))
+
+-- the mode request before them
+pub record PayloadRoom (format request ch table bytes : ℕ) (ws : List ℕ) (area : ℕ) : Type 0 where
+  pub small : request ≤ maxRequest
+  pub room : formatOf format .header ≤ area
+  pub list : ListRoom format ch table bytes ws (area - formatOf format .header)

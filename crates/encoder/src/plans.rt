@@ -1,22 +1,22 @@
 // The table of contents that a frame list is written with.
 use crate::lists;
 use crate::lists::RowWords;
+use contents::entries;
 use formats::codes;
 use formats::facts;
 use formats::frames;
 use formats::tagging;
-use payload::contents;
 use rtp::sizes::MAX_PACKET;
 use rtp::sizes::MAX_ROWS;
 use rtp::sizes::MIN_PACKET;
 use rtp::sizes::ROW_WIDTH;
 use rtp::time;
 ghost use mathlib.Core.Path.{_≡_};
-ghost use Prim.Native.Nat.{_+_, _*_, _/_, _%_, _<_};
+ghost use Prim.Native.Nat.{_+_, _*_, _/_, _%_, _^_, _<_};
 ghost use lib.Dec.{eqb};
 ghost use lib.ListN.{length};
 ghost use Rattle.rtp.specs.Sizes.{rowWidth, maxRows};
-ghost use Rattle.formats.specs.Formats.{stepOf, maxGap};
+ghost use Rattle.formats.specs.Formats.{formatOf, stepOf, maxGap};
 ghost use Rattle.encoder.specs.Lists.{rowsIn};
 ghost use Rattle.encoder.specs.Plans.{ticksAfter, gapBetween, nextChannel, starts, continues, follows, joinsRun, planFrom, plan};
 ghost use Rattle.encoder.specs.Room.{rowAs, planAnswer, attachPlan, Attachable};
@@ -149,19 +149,19 @@ fn attach_block(format: u8, channels: u32, row: RowWords, gap: u32, rest: Planne
             length,
             gap,
             blocks: 1,
-            table: contents::entry_size(format, 1),
+            table: entries::entry_size(format, 1),
             frames,
         }),
         Planned::Table(plan) => {
             let all = frames + plan.frames;
             if joins_run(format, row, plan.class, plan.length, plan.gap) {
-                let others = plan.table - contents::entry_size(format, plan.blocks);
+                let others = plan.table - entries::entry_size(format, plan.blocks);
                 return Planned::Table(Plan {
                     class: plan.class,
                     length: plan.length,
                     gap,
                     blocks: plan.blocks + 1,
-                    table: contents::entry_size(format, plan.blocks + 1) + others,
+                    table: entries::entry_size(format, plan.blocks + 1) + others,
                     frames: all,
                 });
             }
@@ -171,7 +171,7 @@ fn attach_block(format: u8, channels: u32, row: RowWords, gap: u32, rest: Planne
                     length,
                     gap,
                     blocks: 1,
-                    table: contents::entry_size(format, 1) + plan.table,
+                    table: entries::entry_size(format, 1) + plan.table,
                     frames: all,
                 });
             }
@@ -212,6 +212,15 @@ fn plan_from(format: u8, channels: u32, c: u32, previous: RowWords, rows: &[u32]
 // The longest payload that is written alone.
 pub const MAX_PAYLOAD: usize = MAX_PACKET - MIN_PACKET;
 
+// The bytes of a payload with a table and frames of so many.
+pub(crate) fn payload_size(format: u8, table: usize, frames: usize) -> usize
+    requires { ⌜ table + frames < 2 ^ 32 ⌝ }
+    ensures { λ r. ⌜ r ≡ formatOf format .header + table + frames ⌝ }
+{
+    let header = facts::format_of(format).header;
+    header + table + frames
+}
+
 // The plan of a whole list.
 pub(crate) fn plan_list(format: u8, channels: u8, rows: &[u32]) -> Planned
     requires { ⌜ 0 < channels ⌝ }
@@ -232,7 +241,7 @@ pub(crate) fn plan_list(format: u8, channels: u8, rows: &[u32]) -> Planned
     };
     match plan_from(format, channels as u32, 0, before, rows) {
         Planned::Table(plan) => {
-            if MAX_PAYLOAD < plan.table + plan.frames {
+            if MAX_PAYLOAD < payload_size(format, plan.table, plan.frames) {
                 return Planned::Unwritable;
             }
             Planned::Table(plan)

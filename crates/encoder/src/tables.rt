@@ -2,10 +2,10 @@
 use crate::lists;
 use crate::lists::RowWords;
 use crate::plans;
+use contents::entries;
 use formats::codes;
 use formats::facts;
 use formats::tagging;
-use payload::contents;
 use rtp::sizes::ROW_WIDTH;
 ghost use mathlib.Core.Path.{_≡_};
 ghost use Prim.Native.Nat.{_≤_, _<_};
@@ -141,7 +141,7 @@ fn put_entry(
         out,
     );
     if facts::format_of(format).displaced {
-        let start = contents::min_entry(format);
+        let start = entries::min_entry(format);
         put_gaps(format, width, blocks, previous, rows, &mut out[start..]);
     }
 }
@@ -160,7 +160,7 @@ pub(crate) fn put_table(format: u8, channels: usize, previous: u32, rows: &[u32]
     let end = width * blocks;
     let more = ROW_WIDTH <= rows.len() - end;
     put_entry(format, width, blocks, more, previous, rows, out);
-    let size = contents::entry_size(format, blocks);
+    let size = entries::entry_size(format, blocks);
     let last = rows[end - width];
     put_table(format, channels, last, &rows[end..], &mut out[size..]);
 }

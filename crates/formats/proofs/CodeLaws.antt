@@ -62,7 +62,7 @@ module _ (f : Format) (class n : ℕ) where
   kept p t h = let i = found (f .codes) h in keeps-at f p t (highestCode f class n) (i .below) (record { class = class; length = n }) (i .back)
 
   -- what breaks a rule of the format has no code
-  none : (p : ℕ → ℕ → Bool) → T (keeps f p) → f .codes ≤ noCode → p class n ≡ false → noCode ≡ highestCode f class n
+  pub none : (p : ℕ → ℕ → Bool) → T (keeps f p) → f .codes ≤ noCode → p class n ≡ false → noCode ≡ highestCode f class n
   none p t few o =
       by-test (ltb (highestCode f class n) noCode)
       (λ a. absurd (rw o at (kept p t (ltb-true (highestCode f class n) noCode a))))
@@ -205,4 +205,4 @@ gsm-has class n =
 pub table-code : (format class n : ℕ) (t : FrameTable) → formatOf format .table ≡ t → tableCode t class n ≡ codeFor format class n
 unfolding codeFor codeBelow frameIn lengthIn
 table-code format class n t h = subst (λ (u : FrameTable). tableCode u class n ≡ codeFor format class n) h
-    (each (λ f. tableCode (f .table) class n ≡ highestCode f class n) (λ b. refl) refl refl format)
+    (each (λ f. tableCode (f .table) class n ≡ highestCode f class n) (λ b. refl) refl refl refl refl format)

@@ -1,12 +1,14 @@
 -- Frame codes for writing: the inverse of a format's frame table.
-use Prim.Native.Nat.{ℕ, zero, suc}
+use mathlib.Core.Path.{_≡_}
+use Prim.Native.Nat.{ℕ, zero, suc, _+_, _*_, _/_, _%_, _^_}
 use mathlib.Core.Bool.{Bool, false, cond}
-use lib.Dec.{eqb}
+use lib.Dec.{ltb, eqb}
+use Rattle.rtp.specs.Ranges.{amr, amrWb}
 use Rattle.formats.specs.declared.facts.Format.{Format}
 use Rattle.formats.specs.declared.facts.FrameTable.{FrameTable}
 use Rattle.formats.specs.declared.frames.Coded.{Coded}
-use Rattle.formats.specs.Formats.{g719Format, gsmFormat, formatOf}
-use Rattle.formats.specs.Frames.{frameIn}
+use Rattle.formats.specs.Formats.{g719Format, gsmFormat, amrFormat, amrWbFormat, formatOf}
+use Rattle.formats.specs.Frames.{noData, noDataType, sound, sid, damaged, damagedSound, damagedSid, lengthIn, goodClass, frameIn}
 pub use Rattle.formats.specs.Formats.{noCode}
 
 -- a code stands for a frame of this class and length
@@ -27,8 +29,59 @@ highestCode f class n = codeBelow f class n (f .codes)
 abbrev pub tableCode : FrameTable → ℕ → ℕ → ℕ
 tableCode FrameTable.G719 class n = highestCode (g719Format false) class n
 tableCode FrameTable.GsmHr class n = highestCode gsmFormat class n
+tableCode FrameTable.Amr class n = highestCode amrFormat class n
+tableCode FrameTable.AmrWb class n = highestCode amrWbFormat class n
 tableCode FrameTable.Empty class n = noCode
 
 -- the code of a class and a length; a class and a length that the format has not have none
 unfoldable pub codeFor : ℕ → ℕ → ℕ → ℕ
 codeFor format class n = highestCode (formatOf format) class n
+
+-- Document 02, P1: no data of AMR and AMR-WB is written as type 15 with the quality bit set
+abbrev pub NoDataCodes : Type 0
+NoDataCodes = (codeFor amr noData 0 ≡ 2 * noDataType + 1) × (codeFor amrWb noData 0 ≡ 2 * noDataType + 1)
+
+-- How the code finds the codes of AMR and AMR-WB: each length is that of one type at most, but for no data
+
+-- the longest frames
+abbrev pub amrLongest : ℕ
+amrLongest = 31
+
+abbrev pub amrWbLongest : ℕ
+amrWbLongest = 60
+
+-- no type: over every type
+abbrev pub noType : ℕ
+noType = 16
+
+-- the highest type below k that has this length, or none
+unfoldable pub typeBelow : FrameTable → ℕ → ℕ → ℕ
+typeBelow t n zero = noType
+typeBelow t n (suc k) = cond (eqb (lengthIn t k) n) k (typeBelow t n k)
+
+-- .. of all types
+abbrev pub typeFor : FrameTable → ℕ → ℕ
+typeFor t n = typeBelow t n noType
+
+-- the code of a type and a class, where `sidType` is the type that is a SID
+unfoldable pub gradedCode : ℕ → ℕ → ℕ → ℕ
+gradedCode sidType type class =
+    cond (eqb type noType) noCode
+    (cond (eqb type noDataType) (cond (eqb class noData) (2 * noDataType + 1) noCode)
+    (cond (eqb class (goodClass sidType type)) (2 * type + 1)
+    (cond (eqb class (goodClass sidType type + damaged)) (2 * type) noCode)))
+
+-- How the code asks whether there is one: the lengths of a class as the bits of a word, `sounds` those of sound; a SID has 5 bytes
+abbrev pub sidBits : ℕ
+sidBits = 2 ^ 5
+
+unfoldable pub lengthBits : ℕ → ℕ → ℕ
+lengthBits sounds class =
+    cond (eqb class noData) 1
+    (cond (eqb class sound) sounds
+    (cond (eqb class damagedSound) sounds
+    (cond (eqb class sid) sidBits
+    (cond (eqb class damagedSid) sidBits 0))))
+
+unfoldable pub hasLength : ℕ → ℕ → ℕ → Bool
+hasLength sounds class n = cond (ltb n 64) (eqb (lengthBits sounds class / 2 ^ n % 2) 1) false

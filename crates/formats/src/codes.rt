@@ -1,4 +1,5 @@
 // Frame codes for writing.
+use crate::amr;
 use crate::facts;
 use crate::facts::FrameTable;
 use crate::frames::GSM_HR_FRAME;
@@ -85,6 +86,8 @@ pub fn code_for(format: u8, class: u32, n: u32) -> u32
     match table {
         FrameTable::G719 => g719_code(class, n),
         FrameTable::GsmHr => gsm_hr_code(class, n),
+        FrameTable::Amr => amr::amr_code(class, n),
+        FrameTable::AmrWb => amr::amr_wb_code(class, n),
         FrameTable::Empty => NO_CODE,
     }
 }
@@ -120,6 +123,8 @@ pub fn table_has(table: FrameTable, class: u32, n: u32) -> bool
     match table {
         FrameTable::G719 => has_g719(class, n),
         FrameTable::GsmHr => has_gsm_hr(class, n),
+        FrameTable::Amr => amr::has_amr(class, n),
+        FrameTable::AmrWb => amr::has_amr_wb(class, n),
         FrameTable::Empty => false,
     }
 }

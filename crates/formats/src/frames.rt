@@ -1,17 +1,25 @@
 // Frame tables: class and length of the frames of each format, and its step.
+use crate::amr;
 use crate::facts;
 use crate::facts::FrameTable;
 ghost use mathlib.Core.Path.{_≡_};
-ghost use Prim.Native.Nat.{_<_};
-ghost use Rattle.formats.specs.Frames.{stepOf, g719Length, lengthIn, frameOf, codedNumbers};
+ghost use Prim.Native.Nat.{_<_, _≤_};
+ghost use Rattle.formats.specs.Frames.{stepOf, damaged, g719Length, lengthIn, typeOf, damageOf, frameOf, codedNumbers};
 ghost use Rattle.formats.specs.Room.{InTable};
 
-// Frame classes: no data, sound, and a description of silence.
+// Frame classes: no data, sound, and a description of silence (SID).
 pub const NO_DATA: usize = 0;
 
 pub const SOUND: usize = 1;
 
 pub const SID: usize = 2;
+
+// What the class of a damaged frame has more, and the two such classes.
+pub const DAMAGED: usize = 4;
+
+pub const DAMAGED_SOUND: usize = DAMAGED + SOUND;
+
+pub const DAMAGED_SID: usize = DAMAGED + SID;
 
 // The length that marks a reserved code.
 const RESERVED: usize = 65535;
@@ -88,16 +96,40 @@ fn gsm_hr_length(code: usize) -> usize
     RESERVED
 }
 
-// The length of a code in a frame table.
-fn length_in(table: FrameTable, code: usize) -> usize
-    requires { ⌜ InTable table code ⌝ }
-    ensures { λ r. ⌜ r ≡ lengthIn table code ⌝ }
+// The length of a frame type in a frame table.
+fn length_in(table: FrameTable, kind: usize) -> usize
+    requires { ⌜ InTable table kind ⌝ }
+    ensures { λ r. ⌜ r ≡ lengthIn table kind ⌝ }
 {
     match table {
-        FrameTable::G719 => g719_length(code),
-        FrameTable::GsmHr => gsm_hr_length(code),
+        FrameTable::G719 => g719_length(kind),
+        FrameTable::GsmHr => gsm_hr_length(kind),
+        FrameTable::Amr => amr::amr_length(kind),
+        FrameTable::AmrWb => amr::amr_wb_length(kind),
         FrameTable::Empty => RESERVED,
     }
+}
+
+// The frame type of a code: in a graded format it stands above the quality bit.
+fn type_of(graded: bool, code: usize) -> usize
+    ensures { λ r. ⌜ r ≡ typeOf graded code ⌝ }
+{
+    if graded {
+        return code / 2;
+    }
+    code
+}
+
+// What a damaged frame's class has more: in a graded format a frame is damaged where the quality bit is 0.
+fn damage_of(graded: bool, code: usize) -> usize
+    ensures { λ r. ⌜ (r ≡ damageOf graded code) × (r ≤ damaged) ⌝ }
+{
+    if graded {
+        if code % 2 == 0 {
+            return DAMAGED;
+        }
+    }
+    0
 }
 
 // The frame that a code of a format stands for.
@@ -109,7 +141,8 @@ pub fn frame_of(format: u8, code: usize) -> Coded
         return Coded::Reserved;
     }
     let table = facts.table;
-    let length = length_in(table, code);
+    let kind = type_of(facts.graded, code);
+    let length = length_in(table, kind);
     if length == RESERVED {
         return Coded::Reserved;
     }
@@ -119,11 +152,15 @@ pub fn frame_of(format: u8, code: usize) -> Coded
             length: 0,
         });
     }
-    if code == facts.sid {
-        return Coded::Frame(Frame { class: SID, length });
+    let damage = damage_of(facts.graded, code);
+    if kind == facts.sid {
+        return Coded::Frame(Frame {
+            class: damage + SID,
+            length,
+        });
     }
     Coded::Frame(Frame {
-        class: SOUND,
+        class: damage + SOUND,
         length,
     })
 }

@@ -21,11 +21,11 @@ use Rattle.heolstorpit.specs.Answers.{readingAnswer, writtenAnswer}
 -- Reading
 
 pub refused-numbers : (x : Reading) (r : Refusal) (n : ℕ) → x ≡ Reading.Refused r → n ≡ number r
-    → readingAnswer (record { refusal = n; rows = 0; marker = 0; sequence = 0; timestamp = 0; source = 0 }) ≡ readingNumbers x
+    → readingAnswer (record { refusal = n; rows = 0; marker = 0; sequence = 0; timestamp = 0; source = 0; «mode_request» = 0 }) ≡ readingNumbers x
 refused-numbers x r n h k = rw (h, k)
 
 pub read-numbers : (x : Reading) (p : Packet) → x ≡ Reading.Read p
-    → readingAnswer (record { refusal = 0; rows = p .rows; marker = p .marker; sequence = p .sequence; timestamp = p .timestamp; source = p .source }) ≡ readingNumbers x
+    → readingAnswer (record { refusal = 0; rows = p .rows; marker = p .marker; sequence = p .sequence; timestamp = p .timestamp; source = p .source; «mode_request» = p .«mode_request» }) ≡ readingNumbers x
 read-numbers x p h = rw h
 
 -- Writing

@@ -8,15 +8,15 @@ use lib.ListN.{length}
 use lib.Dec.{ltb}
 use borrow.Author.Tests.{ltb-false}
 use Rattle.rtp.specs.Sizes.{maxPacket}
-use Rattle.rtp.specs.Ranges.{inRange}
 use Rattle.rtp.specs.declared.settings.Settings.{Settings}
 use Rattle.rtp.proofs.TestLaws.{by-test}
-use Rattle.payload.specs.Contents.{Contents, refused, groups}
+use Rattle.contents.specs.Contents.{Contents, refused, groups}
 use Rattle.encoder.specs.Lists.{rowsIn, whole, outside}
 use Rattle.encoder.specs.Plans.{maxPayload, plan}
 use Rattle.encoder.specs.declared.writing.Written.{Written}
-use Rattle.encoder.specs.Writings.{Encoded, noBytes, bytesOf, plannedBytes, encoded, roomFor, writing, writtenNumbers, encodedNumbers}
+use Rattle.encoder.specs.Writings.{Encoded, noBytes, bytesOf, askable, plannedBytes, encoded, roomFor, writing, writtenNumbers, encodedNumbers}
 use Rattle.encoder.proofs.PayloadLaws.{listed, length-bytes}
+use Rattle.encoder.proofs.RequestLaws.{asked}
 use Rattle.encoder.proofs.WritingLaws.{in-range-some}
 use Rattle.sender.specs.Parts.{Parts, noParts, partsOf, primaryTime, parts}
 use Rattle.sender.specs.Packets.{Heading, headerBytes, bodyBytes, packetType, redundancyMissing, withinPacket, assembledFrom, assembled, countsFit, sending}
@@ -36,25 +36,25 @@ count-short m n (bytesOf p) s g = let c : n ≡ length p = ap (λ k. k .count) g
 
 -- Payloads
 
-encoded-short : (st : Settings) (ws bytes : List ℕ) → 0 < st .channels → outside (length bytes) (rowsIn ws) ≡ false → Short maxPayload (encoded st bytes (rowsIn ws))
+encoded-short : (st : Settings) (request : ℕ) (ws bytes : List ℕ) → 0 < st .channels → outside (length bytes) (rowsIn ws) ≡ false → Short maxPayload (encoded st request bytes (rowsIn ws))
 unfolding encoded
-encoded-short st ws bytes l o = by-plan (plan (st .format) (st .channels) (rowsIn ws)) refl
+encoded-short st request ws bytes l o = by-plan (plan (st .format) (st .channels) (rowsIn ws)) refl
   where
-    by-plan : (x : Contents) → plan (st .format) (st .channels) (rowsIn ws) ≡ x → Short maxPayload (plannedBytes (st .format) bytes (rowsIn ws) x)
+    by-plan : (x : Contents) → plan (st .format) (st .channels) (rowsIn ws) ≡ x → Short maxPayload (plannedBytes (st .format) request bytes (rowsIn ws) x)
     by-plan (refused q) e = tt
-    by-plan (groups gs) e = omega (arith, length-bytes (st .format) (st .channels) ws bytes gs l o e, listed (st .format) (st .channels) ws gs e .fits)
+    by-plan (groups gs) e = omega (arith, length-bytes (st .format) request (st .channels) ws bytes gs l o e, listed (st .format) (st .channels) ws gs e .fits)
 
-writing-short : (st : Settings) (ws bytes : List ℕ) (area : ℕ) → Short maxPayload (writing st ws bytes area)
+writing-short : (st : Settings) (request : ℕ) (ws bytes : List ℕ) (area : ℕ) → Short maxPayload (writing st request ws bytes area)
 unfolding writing
-writing-short st ws bytes area =
-    by-test (inRange st)
+writing-short st request ws bytes area =
+    by-test (askable st request)
     (λ a. by-test (outside (length bytes) (rowsIn ws)) (λ b. rw (a, b) tt)
-    (λ b. by-test (whole ws) (λ c. rw (a, b, c) (room-short maxPayload area (encoded st bytes (rowsIn ws)) (encoded-short st ws bytes (in-range-some st a) b))) (λ c. rw (a, b, c) tt)))
+    (λ b. by-test (whole ws) (λ c. rw (a, b, c) (room-short maxPayload area (encoded st request bytes (rowsIn ws)) (encoded-short st request ws bytes (in-range-some st (asked st request a .settings)) b))) (λ c. rw (a, b, c) tt)))
     (λ a. rw a tt)
 
-pub payload-count-fits : (st : Settings) (ws bytes : List ℕ) (area : ℕ) (x : Written) (n : ℕ) → x ≡ Written.Bytes n
-    → writtenNumbers x ≡ encodedNumbers (writing st ws bytes area) → n ≤ maxPayload
-payload-count-fits st ws bytes area x n e k = count-short maxPayload n (writing st ws bytes area) (writing-short st ws bytes area) (rw e at k)
+pub payload-count-fits : (st : Settings) (request : ℕ) (ws bytes : List ℕ) (area : ℕ) (x : Written) (n : ℕ) → x ≡ Written.Bytes n
+    → writtenNumbers x ≡ encodedNumbers (writing st request ws bytes area) → n ≤ maxPayload
+payload-count-fits st request ws bytes area x n e k = count-short maxPayload n (writing st request ws bytes area) (writing-short st request ws bytes area) (rw e at k)
 
 -- Packets
 
@@ -65,14 +65,14 @@ assembled-short : (st : Settings) (h : Heading) (time : ℕ) (x : Parts) → Sho
 assembled-short st h time noParts = tt
 assembled-short st h time (partsOf bs p) = by-test (redundancyMissing st bs) (λ a. rw a tt) (λ a. rw a (within-short (headerBytes h (packetType st bs) time ++ bodyBytes st bs p)))
 
-sending-short : (st : Settings) (h : Heading) (counts ws bytes : List ℕ) (area : ℕ) → Short maxPacket (sending st h counts ws bytes area)
+sending-short : (st : Settings) (request : ℕ) (h : Heading) (counts ws bytes : List ℕ) (area : ℕ) → Short maxPacket (sending st request h counts ws bytes area)
 unfolding sending assembled
-sending-short st h counts ws bytes area =
-    by-test (inRange st)
+sending-short st request h counts ws bytes area =
+    by-test (askable st request)
     (λ a. by-test (outside (length bytes) (rowsIn ws)) (λ b. rw (a, b) tt)
-    (λ b. by-test (countsFit counts ws) (λ c. rw (a, b, c) (room-short maxPacket area (assembled st h counts bytes (rowsIn ws)) (assembled-short st h (primaryTime counts (rowsIn ws)) (parts st bytes (primaryTime counts (rowsIn ws)) counts (rowsIn ws))))) (λ c. rw (a, b, c) tt)))
+    (λ b. by-test (countsFit counts ws) (λ c. rw (a, b, c) (room-short maxPacket area (assembled st request h counts bytes (rowsIn ws)) (assembled-short st h (primaryTime counts (rowsIn ws)) (parts st request bytes (primaryTime counts (rowsIn ws)) counts (rowsIn ws))))) (λ c. rw (a, b, c) tt)))
     (λ a. rw a tt)
 
-pub packet-count-fits : (st : Settings) (h : Heading) (counts ws bytes : List ℕ) (area : ℕ) (x : Written) (n : ℕ) → x ≡ Written.Bytes n
-    → writtenNumbers x ≡ encodedNumbers (sending st h counts ws bytes area) → n ≤ maxPacket
-packet-count-fits st h counts ws bytes area x n e k = count-short maxPacket n (sending st h counts ws bytes area) (sending-short st h counts ws bytes area) (rw e at k)
+pub packet-count-fits : (st : Settings) (request : ℕ) (h : Heading) (counts ws bytes : List ℕ) (area : ℕ) (x : Written) (n : ℕ) → x ≡ Written.Bytes n
+    → writtenNumbers x ≡ encodedNumbers (sending st request h counts ws bytes area) → n ≤ maxPacket
+packet-count-fits st request h counts ws bytes area x n e k = count-short maxPacket n (sending st request h counts ws bytes area) (sending-short st request h counts ws bytes area) (rw e at k)

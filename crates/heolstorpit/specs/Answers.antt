@@ -12,7 +12,8 @@ use Rattle.heolstorpit.specs.declared.buffers.HspDrawn.{HspDrawn}
 
 -- hsp_reading
 abbrev pub readingAnswer : HspReading → Numbers
-readingAnswer r = record { refusal = r .refusal; rows = r .rows; marker = r .marker; sequence = r .sequence; timestamp = r .timestamp; source = r .source }
+readingAnswer r =
+    record { refusal = r .refusal; rows = r .rows; marker = r .marker; sequence = r .sequence; timestamp = r .timestamp; source = r .source; «mode_request» = r .«mode_request» }
 
 -- hsp_written
 abbrev pub writtenAnswer : HspWritten → WrittenNumbers

@@ -15,6 +15,7 @@ ghost use Rattle.heolstorpit.specs.Answers.{writtenAnswer};
 #[no_mangle]
 pub extern "C" fn hsp_write_packet(
     settings: Settings,
+    mode_request: u8,
     marker: u8,
     sequence: u16,
     source: u32,
@@ -24,13 +25,23 @@ pub extern "C" fn hsp_write_packet(
     out: &mut [u8],
 ) -> HspWritten
     ensures { λ r. ⌜ (writtenAnswer r ≡
-        encodedNumbers (sending settings (record { marker = marker; sequence = sequence; source = source }) (now (counts .entry)) (now (rows .entry))
+        encodedNumbers (sending settings «mode_request» (record { marker = marker; sequence = sequence; source = source }) (now (counts .entry)) (now (rows .entry))
         (now (bytes .entry)) (length (now (out .entry)))))
         × (now (out .exit) ≡ over
-        (encodedBytes (sending settings (record { marker = marker; sequence = sequence; source = source }) (now (counts .entry))
+        (encodedBytes (sending settings «mode_request» (record { marker = marker; sequence = sequence; source = source }) (now (counts .entry))
         (now (rows .entry)) (now (bytes .entry)) (length (now (out .entry))))) (now (out .entry))) ⌝ }
 {
-    match packets::write_packet(settings, marker, sequence, source, counts, rows, bytes, out) {
+    match packets::write_packet(
+        settings,
+        mode_request,
+        marker,
+        sequence,
+        source,
+        counts,
+        rows,
+        bytes,
+        out,
+    ) {
         Written::Refused(reason) => HspWritten {
             refusal: refusal::refusal_number(reason),
             length: 0,

@@ -9,7 +9,7 @@ ghost use Rattle.rtp.specs.Areas.{over};
 ghost use Rattle.packet.specs.Readings.{reading, outcomeNumbers, outcomeWords};
 ghost use Rattle.heolstorpit.specs.Answers.{readingAnswer};
 
-// hsp_reading: the refusal number or 0; then the row count and the header's fields, all 0 on refusal.
+// hsp_reading: the refusal number or 0; then the row count, the header's fields and the mode request, all 0 on refusal.
 #[repr(C)]
 pub struct HspReading {
     pub refusal: u32,
@@ -18,6 +18,7 @@ pub struct HspReading {
     pub sequence: u32,
     pub timestamp: u32,
     pub source: u32,
+    pub mode_request: u32,
 }
 
 #[no_mangle]
@@ -33,6 +34,7 @@ pub extern "C" fn hsp_read(settings: Settings, packet: &[u8], rows: &mut [u32]) 
             sequence: 0,
             timestamp: 0,
             source: 0,
+            mode_request: 0,
         },
         Reading::Read(found) => HspReading {
             refusal: 0,
@@ -41,6 +43,7 @@ pub extern "C" fn hsp_read(settings: Settings, packet: &[u8], rows: &mut [u32]) 
             sequence: found.sequence as u32,
             timestamp: found.timestamp,
             source: found.source,
+            mode_request: found.mode_request as u32,
         },
     }
 }

@@ -19,14 +19,17 @@ pub struct HspWritten {
 #[no_mangle]
 pub extern "C" fn hsp_write_payload(
     settings: Settings,
+    mode_request: u8,
     rows: &[u32],
     bytes: &[u8],
     out: &mut [u8],
 ) -> HspWritten
-    ensures { λ r. ⌜ (writtenAnswer r ≡ encodedNumbers (writing settings (now (rows .entry)) (now (bytes .entry)) (length (now (out .entry)))))
-        × (now (out .exit) ≡ over (encodedBytes (writing settings (now (rows .entry)) (now (bytes .entry)) (length (now (out .entry))))) (now (out .entry))) ⌝ }
+    ensures { λ r. ⌜ (writtenAnswer r ≡
+        encodedNumbers (writing settings «mode_request» (now (rows .entry)) (now (bytes .entry)) (length (now (out .entry)))))
+        × (now (out .exit) ≡ over
+        (encodedBytes (writing settings «mode_request» (now (rows .entry)) (now (bytes .entry)) (length (now (out .entry))))) (now (out .entry))) ⌝ }
 {
-    match writing::write_payload(settings, rows, bytes, out) {
+    match writing::write_payload(settings, mode_request, rows, bytes, out) {
         Written::Refused(reason) => HspWritten {
             refusal: refusal::refusal_number(reason),
             length: 0,

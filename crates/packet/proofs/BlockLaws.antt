@@ -21,11 +21,12 @@ use Rattle.rtp.specs.declared.redundancy.HeadersRead.{HeadersRead}
 use Rattle.rtp.proofs.TestLaws.{by-test}
 use Rattle.rtp.proofs.AreaLaws.{over-part}
 use Rattle.rtp.proofs.RedundancyLaws.{headers-step, at-redundant, ahead}
-use Rattle.payload.specs.declared.contents.ContentsRead.{ContentsRead}
+use Rattle.contents.specs.declared.entries.ContentsRead.{ContentsRead}
 use Rattle.payload.specs.declared.reading.PayloadRead.{PayloadRead}
+use Rattle.formats.specs.Formats.{formatOf}
 use Rattle.formats.specs.Frames.{stepOf}
-use Rattle.payload.specs.Contents.{Contents, refused as unread, groups, contents, sizeIn, sizesAnswer}
-use Rattle.payload.specs.Payloads.{payload, Rows, noRows, rowsOf, placedRows, payloadRows, rowsAnswer, rowsWords, askedRows}
+use Rattle.contents.specs.Contents.{Contents, refused as unread, groups, contents, sizeIn, sizesAnswer}
+use Rattle.payload.specs.Payloads.{body, payload, Rows, noRows, rowsOf, placedRows, payloadRows, rowsAnswer, rowsWords, askedRows}
 use Rattle.payload.proofs.PayloadLaws.{length-table, pay-refused, pay-part, pay-rows, pay-small, asked-in}
 use Rattle.packet.specs.Blocks.{Block, cut, typedBlockRows, thenRows, blocksRows}
 use Rattle.packet.specs.Room.{askedBlock, headedRows, blocksFrom, Headed, BlocksAsked, Taken, BlocksRoom}
@@ -51,7 +52,7 @@ module _ (st : Settings) where
       by-test (eqb type (st .«payload_type»))
       (λ a. by-test (eqb (length s) 0)
       (λ b. rw (a, b))
-      (λ b. rw (a, b) (placed-same (st .format) (st .channels) (difference time offset) (difference time' offset') at at' (payload (st .format) (st .channels) done s))))
+      (λ b. rw (a, b) (placed-same (st .format) (st .channels) (difference time offset) (difference time' offset') (at + formatOf (st .format) .header) (at' + formatOf (st .format) .header) (payload (st .format) (st .channels) done s))))
       (λ a. rw a)
 
   blocks-same : (bs : List Redundant) (done time time' type at at' : ℕ) (d : List ℕ)
@@ -74,13 +75,13 @@ module _ (st : Settings) where
 
   pay-few : (done time at : ℕ) (s : List ℕ) → Few done (rowsAnswer (payloadRows (st .format) (st .channels) done time at s))
   unfolding rowsAnswer
-  pay-few done time at s = table-few (sizesAnswer (st .format) (st .channels) (contents (st .format) (st .channels) done s)) refl
+  pay-few done time at s = table-few (sizesAnswer (st .format) (st .channels) (contents (st .format) (st .channels) done (body (st .format) s))) refl
     where
-      table-few : (r : ContentsRead) → sizesAnswer (st .format) (st .channels) (contents (st .format) (st .channels) done s) ≡ r
+      table-few : (r : ContentsRead) → sizesAnswer (st .format) (st .channels) (contents (st .format) (st .channels) done (body (st .format) s)) ≡ r
           → Few done (rowsAnswer (payloadRows (st .format) (st .channels) done time at s))
       table-few (ContentsRead.Refused r) h = rw (pay-refused (st .format) (st .channels) done time at s r h) tt
       table-few (ContentsRead.Contents t) h =
-          by-test (eqb (t .size + t .frames) (length s))
+          by-test (eqb (t .size + t .frames) (length (body (st .format) s)))
           (λ a. rw (pay-rows (st .format) (st .channels) done time at s t h (eqb-true _ _ a)) (pay-small (st .format) (st .channels) done time at s t h .few))
           (λ a. rw (pay-part (st .format) (st .channels) done time at s t h (eqb-false _ _ a)) tt)
 

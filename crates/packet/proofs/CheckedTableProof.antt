@@ -5,7 +5,7 @@ use Rattle.rtp.specs.Header.{payloadStart, payloadEnd, fields, header}
 use Rattle.rtp.specs.Redundancy.{blockHeader, headersBy, headers, redundancyHeaders, headersSize, redundantSize}
 use Rattle.formats.specs.Formats.{formatOf}
 use Rattle.formats.specs.Frames.{g719Length, lengthIn, frameIn}
-use Rattle.payload.specs.Contents.{minEntry, gapsSize, entrySize, entryOf, gapAt, gapsFrom, meaning, contentsBy, contents, sizeIn, framesIn}
+use Rattle.contents.specs.Contents.{minEntry, gapsSize, entrySize, entryOf, gapAt, gapsFrom, meaning, contentsBy, contents, sizeIn, framesIn}
 use Rattle.payload.specs.Rows.{timeAfter, groupRows, tableRows}
 use Rattle.payload.specs.Rows.{blockRows}
 use Rattle.payload.specs.Payloads.{payload, placedRows, payloadRows}

@@ -1,5 +1,6 @@
 pub mod AnswerLaws
 pub mod BlockLaws
+pub mod RequestLaws
 pub mod SplitLaws
 pub mod ReadingLaws
 pub mod RowFactLaws

@@ -22,6 +22,7 @@ use Rattle.payload.specs.Payloads.{Rows, noRows, rowsOf, rowsAnswer, rowsWords,
 use Rattle.payload.proofs.PayloadLaws.{asked-in}
 use Rattle.packet.specs.declared.reading.Reading.{Reading}
 use Rattle.packet.specs.Blocks.{redundantRows}
+use Rattle.packet.specs.Requests.{typedRequest}
 use Rattle.packet.specs.Readings.{payloadIn, typedRows, Outcome, refused, outcomeOf, reading, readingNumbers, outcomeNumbers, outcomeWords}
 use Rattle.packet.proofs.AnswerLaws.{Gives}
 
@@ -60,7 +61,7 @@ module _ (st : Settings) (area : ℕ) (s : List ℕ) (i : inRange st ≡ true) w
     unfolding reading
     reading-refused r q = rw (i, le-ltb area rowArea f, q)
 
-    pub reading-headed : (h : Header) → header s ≡ HeaderRead.Header h → reading st area s ≡ outcomeOf h (typedRows st h (payloadIn s h))
+    pub reading-headed : (h : Header) → header s ≡ HeaderRead.Header h → reading st area s ≡ outcomeOf h (typedRequest st (h .«payload_type») (payloadIn s h)) (typedRows st h (payloadIn s h))
     unfolding reading
     reading-headed h q = rw (i, le-ltb area rowArea f, q)
 
@@ -73,15 +74,17 @@ pub comes-refused : (r : Refusal) (l : List ℕ) (x : Outcome) → x ≡ refused
 unfolding outcomeNumbers outcomeWords
 comes-refused r l x h = (rw h, rw h (sym (over-none l)))
 
--- the answer under this header, from the payload's
-abbrev pub answerAs : Header → PayloadRead → Reading
-answerAs h (PayloadRead.Refused r) = Reading.Refused r
-answerAs h (PayloadRead.Rows n) = Reading.Read (record { rows = n; marker = h .marker; sequence = h .sequence; timestamp = h .timestamp; source = h .source })
+-- the answer under this header and with this mode request, from the payload's
+abbrev pub answerAs : Header → ℕ → PayloadRead → Reading
+answerAs h request (PayloadRead.Refused r) = Reading.Refused r
+answerAs h request (PayloadRead.Rows n) =
+    Reading.Read (record { rows = n; marker = h .marker; sequence = h .sequence; timestamp = h .timestamp; source = h .source; «mode_request» = request })
 
-typed-comes : (h : Header) (p : PayloadRead) (l m : List ℕ) (x : Rows) → Gives p l m x → Comes (answerAs h p) l m (outcomeOf h x)
+typed-comes : (h : Header) (request : ℕ) (p : PayloadRead) (l m : List ℕ) (x : Rows) → Gives p l m x → Comes (answerAs h request p) l m (outcomeOf h request x)
 unfolding rowsAnswer rowsWords outcomeNumbers outcomeWords
-typed-comes h p l m (noRows r) g = (ap (λ (q : PayloadRead). readingNumbers (answerAs h q)) (g .0), g .1)
-typed-comes h p l m (rowsOf rs) g = (ap (λ (q : PayloadRead). readingNumbers (answerAs h q)) (g .0), g .1)
+typed-comes h request p l m (noRows r) g = (ap (λ (q : PayloadRead). readingNumbers (answerAs h request q)) (g .0), g .1)
+typed-comes h request p l m (rowsOf rs) g = (ap (λ (q : PayloadRead). readingNumbers (answerAs h request q)) (g .0), g .1)
 
-pub comes-typed : (h : Header) (p q : PayloadRead) (l m : List ℕ) (x : Rows) (y : Outcome) → y ≡ outcomeOf h x → Gives p l m x → p ≡ q → Comes (answerAs h q) l m y
-comes-typed h p q l m x y e g k = rw e (typed-comes h q l m x (sym k ∙ g .0, g .1))
+pub comes-typed : (h : Header) (request : ℕ) (p q : PayloadRead) (l m : List ℕ) (x : Rows) (y : Outcome) → y ≡ outcomeOf h request x → Gives p l m x → p ≡ q
+    → Comes (answerAs h request q) l m y
+comes-typed h request p q l m x y e g k = rw e (typed-comes h request q l m x (sym k ∙ g .0, g .1))

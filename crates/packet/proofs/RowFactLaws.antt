@@ -86,11 +86,11 @@ module _ (st : Settings) (n : ℕ) where
 
 abbrev FineOutcome : ℕ → ℕ → ℕ → Outcome → Type 0
 FineOutcome format ch n (refused r) = Unit {0}
-FineOutcome format ch n (readAs h rs) = AllRows (RowFine format ch n) rs × (length rs ≤ maxRows)
+FineOutcome format ch n (readAs h rs request) = AllRows (RowFine format ch n) rs × (length rs ≤ maxRows)
 
-outcome-fine : (format ch n : ℕ) (h : Header) (x : Rows) → FineRows format ch n 0 x → FineOutcome format ch n (outcomeOf h x)
-outcome-fine format ch n h (noRows r) k = tt
-outcome-fine format ch n h (rowsOf rs) k = (k .0, omega (arith, k .1))
+outcome-fine : (format ch n : ℕ) (h : Header) (request : ℕ) (x : Rows) → FineRows format ch n 0 x → FineOutcome format ch n (outcomeOf h request x)
+outcome-fine format ch n h request (noRows r) k = tt
+outcome-fine format ch n h request (rowsOf rs) k = (k .0, omega (arith, k .1))
 
 reading-fine : (st : Settings) (area : ℕ) (s : List ℕ) → FineOutcome (st .format) (st .channels) (length s) (reading st area s)
 unfolding reading
@@ -103,9 +103,9 @@ reading-fine st area s =
     headed (HeaderRead.Refused r) q = tt
     headed (HeaderRead.Header h) q =
         let w = within s h q in
-        outcome-fine (st .format) (st .channels) (length s) h (typedRows st h (payloadIn s h))
+        outcome-fine (st .format) (st .channels) (length s) h _ (typedRows st h (payloadIn s h))
         (typed-fine st (length s) h (payloadIn s h) (simp (length-take, length-drop) (omega arith)))
 
-pub rows-fine : (st : Settings) (area : ℕ) (packet : List ℕ) (h : Header) (rs : List Row) → reading st area packet ≡ readAs h rs
+pub rows-fine : (st : Settings) (area : ℕ) (packet : List ℕ) (h : Header) (rs : List Row) (request : ℕ) → reading st area packet ≡ readAs h rs request
     → AllRows (RowFine (st .format) (st .channels) (length packet)) rs × (length rs ≤ maxRows)
-rows-fine st area packet h rs e = subst (FineOutcome (st .format) (st .channels) (length packet)) e (reading-fine st area packet)
+rows-fine st area packet h rs request e = subst (FineOutcome (st .format) (st .channels) (length packet)) e (reading-fine st area packet)

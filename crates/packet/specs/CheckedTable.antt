@@ -12,9 +12,9 @@ use Rattle.rtp.specs.declared.settings.Settings.{Settings}
 use Rattle.rtp.specs.declared.refusal.Refusal.the-variants.{ReservedCode}
 use Rattle.rtp.specs.declared.redundancy.Redundant.{Redundant}
 use Rattle.rtp.specs.declared.redundancy.BlockHeader.{BlockHeader}
-use Rattle.payload.specs.declared.contents.EntryRead.{EntryRead}
+use Rattle.contents.specs.declared.entries.EntryRead.{EntryRead}
 use Rattle.formats.specs.Frames.{g719Length, noData, sound}
-use Rattle.payload.specs.Contents.{entryOf}
+use Rattle.contents.specs.Contents.{entryOf}
 use Rattle.payload.specs.Rows.{Row}
 use Rattle.payload.specs.Payloads.{Rows, noRows, rowsOf}
 use Rattle.packet.specs.Readings.{Outcome, refused, readAs, reading}
@@ -41,7 +41,7 @@ filler n = replicate n 0
 -- the rows that reading came to, or its refusal
 abbrev pub rowsRead : Outcome → Rows
 rowsRead (refused r) = noRows r
-rowsRead (readAs h rs) = rowsOf rs
+rowsRead (readAs h rs request) = rowsOf rs
 
 -- the rows of a packet with this type, time and payload
 abbrev pub packetRows : ℕ → ℕ → ℕ → ℕ → List ℕ → Rows

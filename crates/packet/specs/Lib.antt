@@ -1,4 +1,5 @@
 pub mod Blocks
+pub mod Requests
 pub mod Room
 pub mod Readings
 pub mod CheckedTable

@@ -17,6 +17,7 @@ use Rattle.payload.specs.Rows.{Row, words}
 use Rattle.payload.specs.Payloads.{Rows, noRows, rowsOf, payloadRows}
 use Rattle.packet.specs.declared.reading.Reading.{Reading}
 use Rattle.packet.specs.Blocks.{redundantRows}
+use Rattle.packet.specs.Requests.{typedRequest}
 
 -- the payload of a packet: what lies between its headers and its padding
 abbrev pub payloadIn : List ℕ → Header → List ℕ
@@ -28,19 +29,19 @@ typedRows st h p =
     cond (eqb (h .«payload_type») (st .«payload_type»)) (payloadRows (st .format) (st .channels) 0 (h .timestamp) (h .start) p)
     (cond (eqb (h .«payload_type») (st .«redundancy_type»)) (redundantRows st (h .timestamp) (h .start) p) (noRows UnknownPayloadType))
 
--- what reading a packet comes to: a refusal, or the header and the rows
+-- what reading a packet comes to: a refusal, or the header, the rows and the mode request
 pub data Outcome : Type 0 where
   refused : Refusal → Outcome
-  readAs : Header → List Row → Outcome
+  readAs : Header → List Row → ℕ → Outcome
 
-abbrev pub outcomeOf : Header → Rows → Outcome
-outcomeOf h (noRows r) = refused r
-outcomeOf h (rowsOf rs) = readAs h rs
+abbrev pub outcomeOf : Header → ℕ → Rows → Outcome
+outcomeOf h request (noRows r) = refused r
+outcomeOf h request (rowsOf rs) = readAs h rs request
 
 -- reading a packet under settings in range
 abbrev pub headedBy : Settings → List ℕ → HeaderRead → Outcome
 headedBy st s (HeaderRead.Refused r) = refused r
-headedBy st s (HeaderRead.Header h) = outcomeOf h (typedRows st h (payloadIn s h))
+headedBy st s (HeaderRead.Header h) = outcomeOf h (typedRequest st (h .«payload_type») (payloadIn s h)) (typedRows st h (payloadIn s h))
 
 -- reading the packet s into an area of so many words
 unfoldable pub reading : Settings → ℕ → List ℕ → Outcome
@@ -49,7 +50,7 @@ reading st area s =
     (cond (ltb area rowArea) (refused AreaTooShort) (headedBy st s (header s)))
     (refused SettingsOutOfRange)
 
--- The answer in numbers: the refusal number or 0, then row count, M, sequence, timestamp and source, all 0 on refusal
+-- The answer in numbers: the refusal number or 0, then row count, M, sequence, timestamp, source and mode request, all 0 on refusal
 pub record Numbers : Type 0 where
   pub refusal : ℕ
   pub rows : ℕ
@@ -57,21 +58,24 @@ pub record Numbers : Type 0 where
   pub sequence : ℕ
   pub timestamp : ℕ
   pub source : ℕ
+  pub «mode_request» : ℕ
 
 abbrev pub refusedNumbers : Refusal → Numbers
-refusedNumbers r = record { refusal = number r; rows = 0; marker = 0; sequence = 0; timestamp = 0; source = 0 }
+refusedNumbers r = record { refusal = number r; rows = 0; marker = 0; sequence = 0; timestamp = 0; source = 0; «mode_request» = 0 }
 
 -- of the code's answer, case by case
 abbrev pub readingNumbers : Reading → Numbers
 readingNumbers (Reading.Refused r) = refusedNumbers r
-readingNumbers (Reading.Read p) = record { refusal = 0; rows = p .rows; marker = p .marker; sequence = p .sequence; timestamp = p .timestamp; source = p .source }
+readingNumbers (Reading.Read p) =
+    record { refusal = 0; rows = p .rows; marker = p .marker; sequence = p .sequence; timestamp = p .timestamp; source = p .source; «mode_request» = p .«mode_request» }
 
 -- of what reading comes to
 unfoldable pub outcomeNumbers : Outcome → Numbers
 outcomeNumbers (refused r) = refusedNumbers r
-outcomeNumbers (readAs h rs) = record { refusal = 0; rows = length rs; marker = h .marker; sequence = h .sequence; timestamp = h .timestamp; source = h .source }
+outcomeNumbers (readAs h rs request) =
+    record { refusal = 0; rows = length rs; marker = h .marker; sequence = h .sequence; timestamp = h .timestamp; source = h .source; «mode_request» = request }
 
 -- the words written over the front of the row area: none on refusal
 unfoldable pub outcomeWords : Outcome → List ℕ
 outcomeWords (refused r) = []
-outcomeWords (readAs h rs) = words rs
+outcomeWords (readAs h rs request) = words rs

@@ -11,9 +11,10 @@ use Rattle.rtp.specs.Time.{difference}
 use Rattle.rtp.specs.Redundancy.{Headers, refused, headersOf, headers, headersAnswer}
 use Rattle.rtp.specs.declared.settings.Settings.{Settings}
 use Rattle.rtp.specs.declared.redundancy.HeadersRead.{HeadersRead}
-use Rattle.payload.specs.Payloads.{Rows, noRows, rowsOf, askedRows, rowsAnswer}
+use Rattle.payload.specs.Payloads.{Rows, noRows, rowsOf, noRequest, askedRows, rowsAnswer}
 use Rattle.payload.specs.declared.reading.PayloadRead.{PayloadRead}
 use Rattle.packet.specs.Blocks.{cut, blocksRows}
+use Rattle.packet.specs.Requests.{blocksRequest}
 
 -- a block's rows as a payload of a call: the same as `typedBlockRows` where settings, area and length are in order
 unfoldable pub askedBlock : Settings → ℕ → ℕ → ℕ → ℕ → ℕ → ℕ → List ℕ → Rows
@@ -50,3 +51,11 @@ pub record BlocksRoom (st : Settings) (done time at : ℕ) (h d : List ℕ) (are
   pub asked : BlocksAsked st done at h (length d)
   pub taken : Taken (rowsAnswer (blocksFrom st done time at h d))
   pub area-fits : rowArea ≤ rowWidth * done + area
+
+-- the mode request of the blocks whose headers are these, or stand at the front of h, and whose bytes are d, after the request `found`
+abbrev pub headedRequest : Settings → ℕ → List ℕ → Headers → ℕ
+headedRequest st found d (refused r) = noRequest
+headedRequest st found d (headersOf bs type) = blocksRequest st found (cut bs type 0 d)
+
+unfoldable pub requestFrom : Settings → ℕ → List ℕ → List ℕ → ℕ
+requestFrom st found h d = headedRequest st found d (headers h)

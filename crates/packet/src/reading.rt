@@ -1,5 +1,6 @@
 // A packet read into frame rows.
 use crate::blocks;
+use crate::requests;
 use payload::reading;
 use payload::reading::PayloadRead;
 use rtp::header;
@@ -20,13 +21,14 @@ ghost use Rattle.payload.specs.Payloads.{rowsAnswer, rowsWords};
 ghost use Rattle.rtp.specs.declared.header.HeaderRead.{HeaderRead};
 ghost use Rattle.packet.specs.Readings.{payloadIn, typedRows, reading, readingNumbers, outcomeNumbers, outcomeWords};
 
-// What a packet that was read says of itself: the number of its rows, and its header.
+// What a packet that was read says of itself: the number of its rows, its header, and its mode request.
 pub struct Packet {
     pub rows: u32,
     pub marker: u8,
     pub sequence: u16,
     pub timestamp: u32,
     pub source: u32,
+    pub mode_request: u8,
 }
 
 pub enum Reading {
@@ -59,7 +61,7 @@ fn read_typed(settings: Settings, head: Header, packet: &[u8], rows: &mut [u32])
     PayloadRead::Refused(Refusal::UnknownPayloadType)
 }
 
-// The packet's rows at the front of the area, with the row count and the header; or a refusal, and the area unchanged.
+// The packet's rows at the front of the area, with the row count, the header and the mode request; or a refusal, and the area unchanged.
 pub fn read(settings: Settings, packet: &[u8], rows: &mut [u32]) -> Reading
     ensures { λ r. ⌜ (readingNumbers r ≡ outcomeNumbers (reading settings (length (now (rows .entry))) (now (packet .entry))))
         × (now (rows .exit) ≡ over (outcomeWords (reading settings (length (now (rows .entry))) (now (packet .entry)))) (now (rows .entry))) ⌝ }
@@ -72,13 +74,22 @@ pub fn read(settings: Settings, packet: &[u8], rows: &mut [u32]) -> Reading
             HeaderRead::Refused(refusal) => Reading::Refused(refusal),
             HeaderRead::Header(head) => match read_typed(settings, head, packet, rows) {
                 PayloadRead::Refused(refusal) => Reading::Refused(refusal),
-                PayloadRead::Rows(count) => Reading::Read(Packet {
-                    rows: count,
-                    marker: head.marker,
-                    sequence: head.sequence,
-                    timestamp: head.timestamp,
-                    source: head.source,
-                }),
+                PayloadRead::Rows(count) => {
+                    let start = head.start;
+                    let end = head.end;
+                    Reading::Read(Packet {
+                        rows: count,
+                        marker: head.marker,
+                        sequence: head.sequence,
+                        timestamp: head.timestamp,
+                        source: head.source,
+                        mode_request: requests::mode_request(
+                            settings,
+                            head.payload_type,
+                            &packet[start..end],
+                        ),
+                    })
+                }
             },
         }
     } else {

@@ -12,16 +12,16 @@ use Rattle.rtp.specs.Time.{difference}
 use Rattle.rtp.specs.declared.refusal.Refusal.the-variants.{TooManyRows}
 use Rattle.rtp.proofs.TestLaws.{by-test}
 use Rattle.formats.specs.Frames.{stepOf}
-use Rattle.payload.specs.declared.contents.Entry.{Entry}
-use Rattle.payload.specs.declared.contents.EntryRead.{EntryRead}
-use Rattle.payload.specs.declared.contents.Sizes.{Sizes}
-use Rattle.payload.specs.declared.contents.ContentsRead.{ContentsRead}
-use Rattle.payload.specs.Contents.{entrySize, entryOf, Group, Contents, refused, groups, gapAt, gapsFrom, meaning, prepend, contents, direct, passFirst, rowCount, sizeIn, framesIn, sizesAnswer}
+use Rattle.contents.specs.declared.entries.Entry.{Entry}
+use Rattle.contents.specs.declared.entries.EntryRead.{EntryRead}
+use Rattle.contents.specs.declared.entries.Sizes.{Sizes}
+use Rattle.contents.specs.declared.entries.ContentsRead.{ContentsRead}
+use Rattle.contents.specs.Contents.{entrySize, entryOf, Group, Contents, refused, groups, gapAt, gapsFrom, meaning, prepend, contents, direct, passFirst, rowCount, sizeIn, framesIn, sizesAnswer}
 use Rattle.payload.specs.Rows.{placed, timeAfter, blockRows, groupRows, tableRows, words}
 use Rattle.payload.specs.Room.{contentsWords, originOf}
-use Rattle.payload.proofs.EntryLaws.{fair}
+use Rattle.contents.proofs.EntryLaws.{fair}
 use Rattle.payload.proofs.GroupLaws.{size-more}
-use Rattle.payload.proofs.ContentsLaws.{contents-step, contents-refused, contents-last, contents-more, at-refused}
+use Rattle.contents.proofs.ContentsLaws.{contents-step, contents-refused, contents-last, contents-more, at-refused}
 
 pub length-direct : (gaps : List ℕ) → length (direct gaps) ≡ length gaps
 length-direct [] = refl
@@ -68,16 +68,6 @@ module _ (format ch done : ℕ) (s : List ℕ) where
           (λ a. by-test (e .more)
           (λ m. rw (contents-more format ch done s e q (ltb-false _ _ a) m) (begins-prepend (gapAt format s 0) (meaning format s e) (contents format ch (done + e .blocks * ch) (drop (e .size) s)) b))
           (λ m. rw (contents-last format ch done s e q (ltb-false _ _ a) m) b))
-
-  -- a table that was read has a first displacement, if its format has any
-  pub first-within : (t : Sizes) → sizesAnswer format ch (contents format ch done s) ≡ ContentsRead.Contents t → entrySize format 1 ≤ length s
-  first-within t h = go (entryOf format s) refl
-    where
-      go : (r : EntryRead) → entryOf format s ≡ r → entrySize format 1 ≤ length s
-      go (EntryRead.Refused n) q =
-          let z : ContentsRead.Refused n ≡ ContentsRead.Contents t = rw (at-refused format ch done s n q) at h in
-          let y : _≡_ {A = ℕ} 0 1 = cc in absurd (omega arith)
-      go (EntryRead.Entry e) q = let f = fair format s e q in omega (arith, f .within, f .sized, size-more format 1 (e .blocks) (f .blocks-some))
 
 -- Rows counted from a time before
 

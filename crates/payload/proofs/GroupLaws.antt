@@ -12,7 +12,7 @@ use Rattle.rtp.specs.Areas.{over}
 use Rattle.rtp.proofs.AreaLaws.{over-none, over-part}
 use Rattle.rtp.proofs.TestLaws.{by-test}
 use Rattle.formats.specs.Formats.{formatOf}
-use Rattle.payload.specs.Contents.{gapsSize, entrySize, gapAt, gapsFrom}
+use Rattle.contents.specs.Contents.{gapsSize, entrySize, gapAt, gapsFrom}
 use Rattle.payload.specs.Rows.{words, placed, nextPlace, timeAfter, blockRows, groupRows}
 use Rattle.payload.specs.Room.{BlockRoom, GroupRoom}
 use Rattle.payload.proofs.RowLaws.{length-words, words-append, length-block, one-more}
@@ -34,16 +34,12 @@ module _ (format : ℕ) (s : List ℕ) (k n ch class start len area : ℕ) (r : 
   pub group-block : BlockRoom ch 0 class start len area
   group-block = record { area-fits = group-area; classes = r .classes; channels = omega arith; frames-fit = group-frames }
 
-  pub group-entry : entrySize format (k + 1) ≤ length s
-  group-entry = omega (arith, size-more format (k + 1) (k + n) (omega arith))
-
   pub group-next : GroupRoom format s (k + 1) (n - 1) ch class (start + ch * len) len (area - rowWidth * ch)
   group-next = record {
     area-fits = omega (arith, one-more n ch h);
     classes = r .classes;
     channels = r .channels;
     frames-fit = omega (arith, one-more-frames n ch len h);
-    entry-fits = omega (arith, size-more format (k + 1 + (n - 1)) (k + n) (omega arith));
     few = omega arith;
   }
 

@@ -1,5 +1,3 @@
-pub mod EntryLaws
-pub mod ContentsLaws
 pub mod RowLaws
 pub mod GroupLaws
 pub mod TableLaws

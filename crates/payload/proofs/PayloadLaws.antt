@@ -2,26 +2,30 @@
 use mathlib.Core.Path.{_≡_, refl, ap, sym, subst, _∙_}
 use mathlib.Core.List.{List, [], _∷_}
 use mathlib.Core.Bool.{true, false}
-use Prim.Native.Nat.{ℕ, _+_, _-_, _*_, _≤_, _<_}
+use Prim.Native.Nat.{ℕ, _+_, _-_, _*_, _/_, _≤_, _<_}
 use native.Mathlib.Omega.{arith}
-use lib.ListN.{length, length-append}
+use lib.ListN.{length, length-append, length-drop}
 use borrow.Author.Tests.{eq-eqb, ne-eqb, lt-ltb, le-ltb}
 use Rattle.rtp.specs.Sizes.{rowWidth, rowArea, maxPacket}
+use Rattle.rtp.specs.Numbers.{byteAt}
 use Rattle.rtp.specs.Areas.{over}
 use Rattle.rtp.specs.Ranges.{inRange}
 use Rattle.rtp.specs.declared.settings.Settings.{Settings}
 use Rattle.rtp.specs.declared.refusal.Refusal.{Refusal}
-use Rattle.rtp.specs.declared.refusal.Refusal.the-variants.{PacketLength, LengthMismatch, SettingsOutOfRange, AreaTooShort}
+use Rattle.rtp.specs.declared.refusal.Refusal.the-variants.{PacketLength, ContentsTruncated, LengthMismatch, SettingsOutOfRange, AreaTooShort}
 use Rattle.rtp.proofs.AreaLaws.{over-none}
-use Rattle.payload.specs.declared.contents.Sizes.{Sizes}
-use Rattle.payload.specs.declared.contents.ContentsRead.{ContentsRead}
+use Rattle.contents.specs.declared.entries.Sizes.{Sizes}
+use Rattle.contents.specs.declared.entries.ContentsRead.{ContentsRead}
 use Rattle.payload.specs.declared.reading.PayloadRead.{PayloadRead}
+use Rattle.formats.specs.Formats.{formatOf}
 use Rattle.formats.specs.Frames.{stepOf}
-use Rattle.payload.specs.Contents.{Group, Contents, refused, groups, contents, passFirst, rowCount, sizeIn, sizesAnswer}
+use Rattle.contents.specs.Contents.{minEntry, entryOf, Group, Contents, refused, groups, contents, passFirst, rowCount, sizeIn, sizesAnswer}
 use Rattle.payload.specs.Rows.{tableRows, timeAfter}
-use Rattle.payload.specs.Payloads.{exact, payload, Rows, noRows, placedRows, payloadRows, rowsWords, rowsAnswer, askedRows}
+use Rattle.payload.specs.Payloads.{exact, body, payload, noRequest, requestOf, Rows, noRows, placedRows, payloadRows, rowsWords, rowsAnswer, askedRows}
 use Rattle.payload.specs.Room.{TableRoom, contentsWords}
-use Rattle.payload.proofs.ContentsLaws.{Small, Within, within}
+use Rattle.formats.proofs.FormatLaws.{header-small}
+use Rattle.contents.proofs.EntryLaws.{min-some}
+use Rattle.contents.proofs.ContentsLaws.{at-refused, Small, Within, within}
 use Rattle.payload.proofs.GroupLaws.{length-group}
 use Rattle.payload.proofs.FirstLaws.{sizes-passed}
 
@@ -60,32 +64,52 @@ is format ch n time at t (groups gs) h = subst (λ (x : Sizes). Is format ch n t
 
 -- the rows of a payload, by what reading its table answered
 module _ (format ch done time at : ℕ) (s : List ℕ) where
-  pub pay-refused : (r : Refusal) → sizesAnswer format ch (contents format ch done s) ≡ ContentsRead.Refused r → payloadRows format ch done time at s ≡ noRows r
+  abbrev Table : Contents
+  Table = contents format ch done (body format s)
+
+  pub pay-refused : (r : Refusal) → sizesAnswer format ch (contents format ch done (body format s)) ≡ ContentsRead.Refused r → payloadRows format ch done time at s ≡ noRows r
   unfolding payloadRows payload placedRows
-  pay-refused r h = rw (exact-refused format ch (length s) r (passFirst (contents format ch done s)) (sizes-passed format ch (contents format ch done s) ∙ h))
+  pay-refused r h = rw (exact-refused format ch (length (body format s)) r (passFirst Table) (sizes-passed format ch Table ∙ h))
 
-  module _ (t : Sizes) (h : sizesAnswer format ch (contents format ch done s) ≡ ContentsRead.Contents t) where
-    passed : sizesAnswer format ch (passFirst (contents format ch done s)) ≡ ContentsRead.Contents t
-    passed = sizes-passed format ch (contents format ch done s) ∙ h
+  -- no table follows a header that is cut short
+  pub pay-headless : length s < formatOf format .header → payloadRows format ch done time at s ≡ noRows ContentsTruncated
+  unfolding entryOf
+  pay-headless l =
+      let z : length (body format s) ≡ 0 = rw length-drop (omega arith) in
+      pay-refused ContentsTruncated (at-refused format ch done (body format s) ContentsTruncated (rw (lt-ltb (length (body format s)) (minEntry format) (omega (arith, min-some format)))))
 
-    pub pay-part : (t .size + t .frames ≡ length s → ⊥) → payloadRows format ch done time at s ≡ noRows LengthMismatch
+  module _ (t : Sizes) (h : sizesAnswer format ch (contents format ch done (body format s)) ≡ ContentsRead.Contents t) where
+    passed : sizesAnswer format ch (passFirst Table) ≡ ContentsRead.Contents t
+    passed = sizes-passed format ch Table ∙ h
+
+    abbrev What : Type 0
+    What = Is format ch (length (body format s)) time (at + formatOf format .header) (passFirst Table) t
+
+    table-is : What
+    table-is = is format ch (length (body format s)) time (at + formatOf format .header) t (passFirst Table) passed
+
+    pub pay-part : (t .size + t .frames ≡ length (body format s) → ⊥) → payloadRows format ch done time at s ≡ noRows LengthMismatch
     unfolding payloadRows payload placedRows
-    pay-part f = rw (is format ch (length s) time at t (passFirst (contents format ch done s)) passed .part f)
+    pay-part f = rw (table-is .part f)
 
-    pub pay-rows : t .size + t .frames ≡ length s → rowsAnswer (payloadRows format ch done time at s) ≡ PayloadRead.Rows (t .rows)
+    pub pay-rows : t .size + t .frames ≡ length (body format s) → rowsAnswer (payloadRows format ch done time at s) ≡ PayloadRead.Rows (t .rows)
     unfolding payloadRows payload
-    pay-rows f = let i = is format ch (length s) time at t (passFirst (contents format ch done s)) passed in rw (i .whole f) (i .rows)
+    pay-rows f = rw (table-is .whole f) (table-is .rows)
 
-    pub pay-words : t .size + t .frames ≡ length s → rowsWords (payloadRows format ch done time at s) ≡ contentsWords format ch time (at + t .size) (passFirst (contents format ch done s))
+    pub pay-words : t .size + t .frames ≡ length (body format s)
+        → rowsWords (payloadRows format ch done time at s) ≡ contentsWords format ch time (at + formatOf format .header + t .size) (passFirst Table)
     unfolding payloadRows payload
-    pay-words f = let i = is format ch (length s) time at t (passFirst (contents format ch done s)) passed in rw (i .whole f) (i .words)
+    pay-words f = rw (table-is .whole f) (table-is .words)
 
-    pub pay-small : Small done (length s) t
-    pay-small = subst (λ (r : ContentsRead). Within done (length s) r) h (within format ch done s)
+    pub pay-small : Small done (length (body format s)) t
+    pay-small = subst (λ (r : ContentsRead). Within done (length (body format s)) r) h (within format ch done (body format s))
 
-    pub pay-room : (area : ℕ) → ch ≤ 256 → rowArea ≤ rowWidth * done + area → at + length s ≤ maxPacket → t .size + t .frames ≡ length s
-        → TableRoom ch (at + t .size) area (sizesAnswer format ch (contents format ch done s))
-    pay-room area few a b f = let w = pay-small in rw h (omega arith, omega arith, few)
+    pub pay-room : (area start : ℕ) → ch ≤ 256 → rowArea ≤ rowWidth * done + area → at + length s ≤ maxPacket → t .size + t .frames ≡ length (body format s)
+        → start ≡ at + formatOf format .header + t .size → TableRoom ch start area (sizesAnswer format ch (contents format ch done (body format s)))
+    pay-room area start few a b f e =
+        let w = pay-small in
+        let n : length (body format s) ≤ length s = rw length-drop (omega arith) in
+        rw h (omega arith, omega (arith, header-small format), few)
 
 -- The payload of a call
 
@@ -114,3 +138,18 @@ answer-none x r h = rw h
 pub words-none : (x : Rows) (r : Refusal) (l : List ℕ) → x ≡ noRows r → l ≡ over (rowsWords x) l
 unfolding rowsWords
 words-none x r l h = rw h (sym (over-none l))
+
+-- The mode request
+
+module _ (format : ℕ) (s : List ℕ) where
+  pub request-none : formatOf format .header ≡ 0 → requestOf format s ≡ noRequest
+  unfolding requestOf
+  request-none h = rw (eq-eqb _ _ h)
+
+  pub request-some : (formatOf format .header ≡ 0 → ⊥) → requestOf format s ≡ byteAt s 0 / 16
+  unfolding requestOf
+  request-some h = rw (ne-eqb _ _ h)
+
+pub no-byte : (s : List ℕ) → length s ≡ 0 → byteAt s 0 ≡ 0
+no-byte [] h = refl
+no-byte (b ∷ s) h = absurd (omega arith)

@@ -5,27 +5,27 @@ use mathlib.Core.Bool.{Bool}
 use Prim.Native.Nat.{ℕ, zero, suc, _+_, _*_, _^_, _≤_, _<_}
 use native.Mathlib.Omega.{arith}
 use native.Mathlib.Nat.{suc-mul, add-mul}
-use lib.ListN.{length, drop}
+use lib.ListN.{length, drop, length-drop}
 use lib.Dec.{ltb, eqb}
-use borrow.Author.Tests.{eqb-true}
+use borrow.Author.Tests.{ltb-true, ltb-false, eqb-true}
 use Rattle.rtp.specs.Sizes.{maxRows}
 use Rattle.rtp.specs.Numbers.{byteAt}
 use Rattle.rtp.proofs.TestLaws.{by-test}
 use Rattle.formats.specs.declared.frames.Coded.{Coded}
-use Rattle.payload.specs.declared.contents.Entry.{Entry}
-use Rattle.payload.specs.declared.contents.EntryRead.{EntryRead}
-use Rattle.payload.specs.declared.contents.ContentsRead.{ContentsRead}
+use Rattle.contents.specs.declared.entries.Entry.{Entry}
+use Rattle.contents.specs.declared.entries.EntryRead.{EntryRead}
+use Rattle.contents.specs.declared.entries.ContentsRead.{ContentsRead}
 use Rattle.formats.specs.Formats.{formatOf}
 use Rattle.formats.specs.Frames.{frameOf, stepOf}
 use Rattle.formats.specs.Codes.{noCode, codeFor}
-use Rattle.payload.specs.Contents.{minEntry, codeIn, blocksIn, entrySize, codedEntry, entryOf, Group, Contents, refused, groups, meaning, prepend, contentsStep, contents, passFirst, sizeIn, framesIn, sizesAnswer}
+use Rattle.contents.specs.Contents.{minEntry, codeIn, blocksIn, entrySize, codedEntry, entryOf, Group, Contents, refused, groups, meaning, prepend, contentsStep, contents, passFirst, sizeIn, framesIn, sizesAnswer}
 use Rattle.payload.specs.Rows.{Row, placed, nextPlace, timeAfter, blockRows, groupRows, tableRows}
-use Rattle.payload.specs.Payloads.{exact, payload, Rows, noRows, rowsOf, placedRows, payloadRows}
+use Rattle.payload.specs.Payloads.{exact, body, payload, Rows, noRows, rowsOf, placedRows, payloadRows}
 use Rattle.formats.proofs.CodeLaws.{code-some}
-use Rattle.payload.proofs.EntryLaws.{code-in}
-use Rattle.payload.proofs.ContentsLaws.{contents-step, shorter, Within, within}
+use Rattle.contents.proofs.EntryLaws.{code-in}
+use Rattle.contents.proofs.ContentsLaws.{contents-step, shorter, Within, within}
 use Rattle.payload.proofs.FirstLaws.{sizes-passed}
-use Rattle.payload.proofs.PayloadLaws.{length-table}
+use Rattle.payload.proofs.PayloadLaws.{length-table, pay-headless}
 
 -- a row that was read: its frame is one of the format, its channel one of ch, its time a word, and its bytes lie within n
 pub record RowFine (format ch n : ℕ) (r : Row) : Type 0 where
@@ -144,6 +144,10 @@ placed-fine format ch n done time at size (groups gs) e h w =
 pub payload-fine : (format ch n done time at : ℕ) (s : List ℕ) → at + length s ≤ n → FineRows format ch n done (payloadRows format ch done time at s)
 unfolding payloadRows payload
 payload-fine format ch n done time at s e =
-    let p = contents format ch done s in
-    placed-fine format ch n done time at (length s) (passFirst p) e (coded-passed format p (coded-by (suc (length s)) format ch done s (omega arith)))
-    (subst (λ (x : ContentsRead). Within done (length s) x) (sym (sizes-passed format ch p)) (within format ch done s))
+    let b = body format s in
+    let p = contents format ch done b in
+    by-test (ltb (length s) (formatOf format .header))
+    (λ a. rw (pay-headless format ch done time at s (ltb-true (length s) (formatOf format .header) a)) tt)
+    (λ a. placed-fine format ch n done time (at + formatOf format .header) (length b) (passFirst p) (rw length-drop (omega (arith, ltb-false (length s) (formatOf format .header) a)))
+    (coded-passed format p (coded-by (suc (length b)) format ch done b (omega arith)))
+    (subst (λ (x : ContentsRead). Within done (length b) x) (sym (sizes-passed format ch p)) (within format ch done b)))

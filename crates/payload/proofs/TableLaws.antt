@@ -15,15 +15,15 @@ use Rattle.rtp.specs.declared.refusal.Refusal.{Refusal}
 use Rattle.rtp.proofs.TestLaws.{by-test}
 use Rattle.rtp.proofs.RedundancyLaws.{Bytes}
 use Rattle.rtp.proofs.AreaLaws.{over-none, over-part, part-to-end}
-use Rattle.payload.specs.declared.contents.Entry.{Entry}
-use Rattle.payload.specs.declared.contents.EntryRead.{EntryRead}
-use Rattle.payload.specs.declared.contents.ContentsRead.{ContentsRead}
+use Rattle.contents.specs.declared.entries.Entry.{Entry}
+use Rattle.contents.specs.declared.entries.EntryRead.{EntryRead}
+use Rattle.contents.specs.declared.entries.ContentsRead.{ContentsRead}
 use Rattle.formats.specs.Frames.{stepOf}
-use Rattle.payload.specs.Contents.{entryOf, gapsFrom, Contents, refused, groups, meaning, prepend, contents, sizesAnswer}
+use Rattle.contents.specs.Contents.{entryOf, gapsFrom, Contents, refused, groups, meaning, prepend, contents, sizesAnswer}
 use Rattle.payload.specs.Rows.{words, timeAfter, groupRows, tableRows}
 use Rattle.payload.specs.Room.{GroupRoom, TableRoom, contentsWords}
-use Rattle.payload.proofs.EntryLaws.{fair}
-use Rattle.payload.proofs.ContentsLaws.{contents-refused, contents-last, contents-more, length-gaps, at-many, at-last, at-more, ahead}
+use Rattle.contents.proofs.EntryLaws.{fair}
+use Rattle.contents.proofs.ContentsLaws.{contents-refused, contents-last, contents-more, length-gaps, at-many, at-last, at-more, ahead}
 use Rattle.payload.proofs.RowLaws.{length-words, words-append}
 use Rattle.payload.proofs.GroupLaws.{length-group}
 
@@ -69,7 +69,6 @@ module _ (format ch rows start area : ℕ) (s : List ℕ) (e : Entry) (h : entry
         classes = f .classes;
         channels = room-channels;
         frames-fit = room-here .1;
-        entry-fits = simp zero-add (rw (f .sized) at (f .within));
         few = omega (arith, f .few bs);
       }
 

@@ -1,4 +1,3 @@
-pub mod Contents
 pub mod Rows
 pub mod Payloads
 pub mod Room

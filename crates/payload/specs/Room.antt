@@ -3,10 +3,10 @@ use Prim.Native.Nat.{ℕ, _+_, _*_, _≤_, _<_, _^_}
 use mathlib.Core.List.{List, []}
 use lib.ListN.{length}
 use Rattle.rtp.specs.Sizes.{rowWidth}
-use Rattle.payload.specs.declared.contents.ContentsRead.{ContentsRead}
+use Rattle.contents.specs.declared.entries.ContentsRead.{ContentsRead}
 use Rattle.formats.specs.Frames.{stepOf, maxClass}
 use Rattle.rtp.specs.Time.{difference}
-use Rattle.payload.specs.Contents.{entrySize, gapAt, Contents, refused, groups}
+use Rattle.contents.specs.Contents.{entrySize, gapAt, Contents, refused, groups}
 use Rattle.payload.specs.Rows.{words, tableRows}
 
 pub record RowRoom (channel class start size area : ℕ) : Type 0 where
@@ -26,7 +26,6 @@ pub record GroupRoom (format : ℕ) (s : List ℕ) (k count ch class start size 
   pub classes : class ≤ maxClass
   pub channels : ch ≤ 256
   pub frames-fit : start + count * ch * size < 2 ^ 32
-  pub entry-fits : entrySize format (k + count) ≤ length s
   pub few : k + count < 256
 
 abbrev pub TableRoom : ℕ → ℕ → ℕ → ContentsRead → Type 0

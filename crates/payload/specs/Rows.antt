@@ -3,7 +3,7 @@ use Prim.Native.Nat.{ℕ, zero, suc, _+_, _*_, _^_, _%_}
 use mathlib.Core.List.{List, [], _∷_, _++_}
 use lib.ListN.{length}
 use Rattle.formats.specs.Tags.{tagOf, tagClass, tagChannel}
-use Rattle.payload.specs.Contents.{Group}
+use Rattle.contents.specs.Contents.{Group}
 
 -- timestamp, class (document 01's sort), channel, start in the packet and length
 pub record Row : Type 0 where

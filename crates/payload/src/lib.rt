@@ -1,4 +1,3 @@
-// The payload formats: frame tables, tables of contents, and a payload read into frame rows.
-pub mod contents;
+// The payload formats: a payload read into frame rows.
 pub mod reading;
 pub mod rows;

@@ -1,7 +1,8 @@
 // A payload read into frame rows.
-use crate::contents;
-use crate::contents::ContentsRead;
 use crate::rows;
+use contents::entries;
+use contents::entries::ContentsRead;
+use formats::facts;
 use rtp::refusal::Refusal;
 use rtp::settings;
 use rtp::settings::Settings;
@@ -12,7 +13,10 @@ ghost use mathlib.Core.Path.{_≡_};
 ghost use lib.ListN.{length};
 ghost use Rattle.rtp.specs.Sizes.{rowArea};
 ghost use Rattle.rtp.specs.Areas.{over};
-ghost use Rattle.payload.specs.Payloads.{askedRows, payloadNumbers, rowsNumbers, rowsWords};
+ghost use Rattle.payload.specs.Payloads.{requestOf, askedRows, payloadNumbers, rowsNumbers, rowsWords};
+
+// The mode request of a payload without one.
+pub const NO_REQUEST: u8 = 15;
 
 // The number of rows, or why there are none.
 pub enum PayloadRead {
@@ -28,10 +32,14 @@ pub fn check_payload(asked: Settings, done: u32, s: &[u8]) -> PayloadRead
         if MAX_PACKET < s.len() {
             return PayloadRead::Refused(Refusal::PacketLength);
         }
-        match contents::read_contents(asked.format, asked.channels, done, &s[0..]) {
+        let header = facts::format_of(asked.format).header;
+        if s.len() < header {
+            return PayloadRead::Refused(Refusal::ContentsTruncated);
+        }
+        match entries::read_contents(asked.format, asked.channels, done, &s[header..]) {
             ContentsRead::Refused(refusal) => PayloadRead::Refused(refusal),
             ContentsRead::Contents(sizes) => {
-                if sizes.size + sizes.frames == s.len() {
+                if header + sizes.size + sizes.frames == s.len() {
                     PayloadRead::Rows(sizes.rows as u32)
                 } else {
                     PayloadRead::Refused(Refusal::LengthMismatch)
@@ -63,18 +71,22 @@ pub fn read_payload(
         if MAX_PACKET < (at as usize) + s.len() {
             return PayloadRead::Refused(Refusal::PacketLength);
         }
-        match contents::read_contents(asked.format, asked.channels, done, &s[0..]) {
+        let header = facts::format_of(asked.format).header;
+        if s.len() < header {
+            return PayloadRead::Refused(Refusal::ContentsTruncated);
+        }
+        match entries::read_contents(asked.format, asked.channels, done, &s[header..]) {
             ContentsRead::Refused(refusal) => PayloadRead::Refused(refusal),
             ContentsRead::Contents(sizes) => {
-                if sizes.size + sizes.frames == s.len() {
+                if header + sizes.size + sizes.frames == s.len() {
                     rows::put_contents(
                         area,
-                        &s[0..],
+                        &s[header..],
                         asked.format,
                         asked.channels as usize,
                         done as usize,
-                        rows::origin(asked.format, time, s),
-                        (at as usize) + sizes.size,
+                        rows::origin(asked.format, time, &s[header..]),
+                        (at as usize) + header + sizes.size,
                     );
                     PayloadRead::Rows(sizes.rows as u32)
                 } else {
@@ -85,4 +97,17 @@ pub fn read_payload(
     } else {
         PayloadRead::Refused(Refusal::SettingsOutOfRange)
     }
+}
+
+// The mode request in the payload's header.
+pub fn mode_request(format: u8, s: &[u8]) -> u8
+    ensures { λ r. ⌜ r ≡ requestOf format (now (s .entry)) ⌝ }
+{
+    if facts::format_of(format).header == 0 {
+        return NO_REQUEST;
+    }
+    if s.len() == 0 {
+        return 0;
+    }
+    s[0] / 16
 }

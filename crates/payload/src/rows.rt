@@ -1,6 +1,6 @@
 // Frame rows, written into a row area.
-use crate::contents;
-use crate::contents::EntryRead;
+use contents::entries;
+use contents::entries::EntryRead;
 use formats::frames;
 use formats::tagging;
 use rtp::sizes::ROW_WIDTH;
@@ -10,7 +10,7 @@ ghost use Prim.Native.Nat.{_*_, _≤_, _<_};
 ghost use lib.ListN.{length};
 ghost use Rattle.rtp.specs.Areas.{over};
 ghost use Rattle.formats.specs.Frames.{stepOf};
-ghost use Rattle.payload.specs.Contents.{entrySize, gapAt, gapsFrom, contents, sizesAnswer};
+ghost use Rattle.contents.specs.Contents.{entrySize, gapAt, gapsFrom, contents, sizesAnswer};
 ghost use Rattle.payload.specs.Rows.{rowWords, words, blockRows, groupRows, timeAfter};
 ghost use Rattle.payload.specs.Room.{RowRoom, BlockRoom, GroupRoom, TableRoom, contentsWords, originOf};
 
@@ -76,7 +76,7 @@ fn put_group(
         return time;
     }
     let step = frames::step_of(format);
-    let skipped = contents::gap(format, s, k) * step;
+    let skipped = entries::gap(format, s, k) * step;
     let here = std::num::wrapping_add_u32(time, skipped);
     put_block(rows, channels, 0, here, class, start, size);
     let next = std::num::wrapping_add_u32(here, step);
@@ -97,10 +97,9 @@ fn put_group(
 
 // The time from which the rows of a payload at `time` are counted: its first entry's DIS1 is passed over.
 pub(crate) fn origin(format: u8, time: u32, s: &[u8]) -> u32
-    requires { ⌜ entrySize format 1 ≤ length (now s) ⌝ }
     ensures { λ r. ⌜ (r ≡ originOf format time (now (s .entry))) × (gapAt format (now (s .entry)) 0 < 16) ⌝ }
 {
-    let skipped = contents::gap(format, s, 0) * frames::step_of(format);
+    let skipped = entries::gap(format, s, 0) * frames::step_of(format);
     time::difference(time, skipped)
 }
 
@@ -118,7 +117,7 @@ pub(crate) fn put_contents(
     requires { ⌜ TableRoom channels start (length (now rows)) (sizesAnswer format channels (contents format channels done (now s))) ⌝ }
     ensures { λ _. ⌜ now (rows .exit) ≡ over (contentsWords format channels time start (contents format channels done (now (s .entry)))) (now (rows .entry)) ⌝ }
 {
-    match contents::read_entry(format, &s[0..]) {
+    match entries::read_entry(format, &s[0..]) {
         EntryRead::Refused(_) => {}
         EntryRead::Entry(entry) => {
             let next = put_group(

@@ -1,5 +1,5 @@
 -- `greater` is a linear order on lists of numbers, and `better` one on copies of a pair.
-use mathlib.Core.Path.{_≡_, refl, sym, ap, ap₂, _∙_}
+use mathlib.Core.Path.{_≡_, refl, sym, ap₂, _∙_}
 use mathlib.Core.Logic.{_⊎_, inl, inr}
 use mathlib.Core.List.{List, [], _∷_}
 use mathlib.Core.Bool.{Bool, true, false, cond, true≢false, false≢true}
@@ -9,9 +9,8 @@ use native.Mathlib.Numerals.{add-one}
 use lib.ListN.{length, drop, getD, drop-of-length-le}
 use lib.Seq.{drop-cons}
 use lib.Dec.{eqb}
-use borrow.Author.Tests.{eqb-true, eqb-false, eq-eqb, ne-eqb}
-use Rattle.formats.specs.Frames.{maxClass}
-use Rattle.playout.specs.Copies.{Copy, greaterAt, greater, rank, betterFrame, better}
+use Rattle.formats.specs.Frames.{noData, sound, sid, damagedSound, damagedSid, maxClass}
+use Rattle.playout.specs.Copies.{Copy, FrameClass, quality, soundness, greaterAt, greater, rank, betterFrame, better}
 use Rattle.playout.specs.Lists.{SamePair}
 use Rattle.playout.proofs.InsertionLaws.{Cmp, cmp}
 
@@ -85,27 +84,36 @@ greater-equal (x ∷ xs) (y ∷ ys) p q = go (greater-equal xs ys) (at-false x y
     go ih (inr l) (inl m) = absurd (omega (arith, l .0))
     go ih (inr l) (inr m) = ap₂ _∷_ (l .0) (ih (l .1) (m .1))
 
--- the class of a frame: sound or SID
-abbrev pub FrameClass : ℕ → Type 0
-FrameClass k = (1 ≤ k) × (k ≤ maxClass)
+-- it is above that of no data, and small
+pub frame-class : (k : ℕ) → FrameClass k → (noData < k) × (k ≤ maxClass)
+frame-class k (inl e) = (omega arith, omega arith)
+frame-class k (inr (inl e)) = (omega arith, omega arith)
+frame-class k (inr (inr (inl e))) = (omega arith, omega arith)
+frame-class k (inr (inr (inr e))) = (omega arith, omega arith)
 
-class-of : (m n : ℕ) → FrameClass m → FrameClass n → _≡_ {A = ℕ} (cond (eqb m 1) 1 0) (cond (eqb n 1) 1 0) → m ≡ n
-class-of m n p q e = go (eqb m 1) (eqb n 1) refl refl e
-  where
-    go : (b d : Bool) → eqb m 1 ≡ b → eqb n 1 ≡ d → _≡_ {A = ℕ} (cond b 1 0) (cond d 1 0) → m ≡ n
-    go true true u v e = eqb-true m 1 u ∙ sym (eqb-true n 1 v)
-    go true false u v e = absurd (omega (arith, e))
-    go false true u v e = absurd (omega (arith, e))
-    go false false u v e = omega (arith, eqb-false m 1 u, eqb-false n 1 v)
+-- quality and soundness tell the class of a frame
+abbrev classFrom : ℕ → ℕ → ℕ
+classFrom q s = cond (eqb q 1) (cond (eqb s 1) sound sid) (cond (eqb s 1) damagedSound damagedSid)
+
+class-from : (k : ℕ) → FrameClass k → classFrom (quality k) (soundness k) ≡ k
+unfolding quality soundness
+class-from k (inl e) = rw e refl
+class-from k (inr (inl e)) = rw e refl
+class-from k (inr (inr (inl e))) = rw e refl
+class-from k (inr (inr (inr e))) = rw e refl
+
+class-of : (m n : ℕ) → FrameClass m → FrameClass n → quality m ≡ quality n → soundness m ≡ soundness n → m ≡ n
+class-of m n p q e f = sym (class-from m p) ∙ ap₂ classFrom e f ∙ class-from n q
 
 -- of two copies of a pair neither of which is better, both are the same
 pub better-equal : (a b : Copy) → FrameClass (a .class) → FrameClass (b .class) → SamePair a b → better a b ≡ false → better b a ≡ false → a ≡ b
 unfolding betterFrame rank
 better-equal a b ca cb p u v =
     let e : rank (a .class) (a .bytes) ≡ rank (b .class) (b .bytes) = greater-equal (rank (a .class) (a .bytes)) (rank (b .class) (b .bytes)) u v in
-    let s : _≡_ {A = ℕ} (cond (eqb (a .class) 1) 1 0) (cond (eqb (b .class) 1) 1 0) = cc in
+    let q : quality (a .class) ≡ quality (b .class) = cc in
+    let s : soundness (a .class) ≡ soundness (b .class) = cc in
     let c : a .bytes ≡ b .bytes = cc in
-    let t : a .class ≡ b .class = class-of (a .class) (b .class) ca cb s in
+    let t : a .class ≡ b .class = class-of (a .class) (b .class) ca cb q s in
     λ i. record { time = p .0 i; channel = p .1 i; class = t i; bytes = c i }
 
 -- ---- step by step, as code compares
@@ -146,23 +154,31 @@ pub from-none : (a b : List ℕ) (i : ℕ) → length a ≤ i → greater (drop 
 unfolding greater
 from-none a b i l = rw (drop-of-length-le a {i = i} l)
 
--- both classes are sound, or none is
+-- both classes are good, or none is; and both are sound, or none is
 abbrev pub Alike : ℕ → ℕ → Type 0
-Alike c d = eqb c 1 ≡ eqb d 1
+Alike c d = (quality c ≡ quality d) × (soundness c ≡ soundness d)
 
 module _ (c : ℕ) (a : List ℕ) (d : ℕ) (b : List ℕ) where
-  -- one of the two is sound
-  pub class-greater : c ≡ 1 → (d ≡ 1 → ⊥) → betterFrame c a d b ≡ true
+  pub quality-greater : quality d < quality c → betterFrame c a d b ≡ true
   unfolding betterFrame rank
-  class-greater e n = rw (eq-eqb c 1 e, ne-eqb d 1 n) (head-greater 1 0 (length a ∷ a) (length b ∷ b) (omega arith))
+  quality-greater l = head-greater (quality c) (quality d) (soundness c ∷ length a ∷ a) (soundness d ∷ length b ∷ b) l
 
-  pub class-less : (c ≡ 1 → ⊥) → d ≡ 1 → betterFrame c a d b ≡ false
+  pub quality-less : quality c < quality d → betterFrame c a d b ≡ false
   unfolding betterFrame rank
-  class-less n e = rw (ne-eqb c 1 n, eq-eqb d 1 e) (head-less 0 1 (length a ∷ a) (length b ∷ b) (omega arith))
+  quality-less l = head-less (quality c) (quality d) (soundness c ∷ length a ∷ a) (soundness d ∷ length b ∷ b) l
+
+  quality-same : quality c ≡ quality d → betterFrame c a d b ≡ greater (soundness c ∷ length a ∷ a) (soundness d ∷ length b ∷ b)
+  unfolding betterFrame rank
+  quality-same e = head-same (quality c) (quality d) (soundness c ∷ length a ∷ a) (soundness d ∷ length b ∷ b) e
+
+  pub soundness-greater : quality c ≡ quality d → soundness d < soundness c → betterFrame c a d b ≡ true
+  soundness-greater e l = quality-same e ∙ head-greater (soundness c) (soundness d) (length a ∷ a) (length b ∷ b) l
+
+  pub soundness-less : quality c ≡ quality d → soundness c < soundness d → betterFrame c a d b ≡ false
+  soundness-less e l = quality-same e ∙ head-less (soundness c) (soundness d) (length a ∷ a) (length b ∷ b) l
 
   class-same : Alike c d → betterFrame c a d b ≡ greater (length a ∷ a) (length b ∷ b)
-  unfolding betterFrame rank
-  class-same e = head-same (cond (eqb c 1) 1 0) (cond (eqb d 1) 1 0) (length a ∷ a) (length b ∷ b) (ap (λ (t : Bool). cond t 1 0) e)
+  class-same e = quality-same (e .0) ∙ head-same (soundness c) (soundness d) (length a ∷ a) (length b ∷ b) (e .1)
 
   pub length-greater : Alike c d → length b < length a → betterFrame c a d b ≡ true
   length-greater e l = class-same e ∙ head-greater (length a) (length b) a b l

@@ -1,10 +1,12 @@
--- Document 01, "Better": copies of a frame, and which is better.
+-- Document 01, "Better", and document 02, P1: copies of a frame, and which is better.
 use Prim.Native.Nat.{ℕ, compare, Ordering, Ordering·lt, Ordering·eq, Ordering·gt}
 use mathlib.Core.List.{List, [], _∷_}
 use mathlib.Core.Bool.{Bool, true, false, cond}
+use mathlib.Core.Path.{_≡_}
+use mathlib.Core.Logic.{_⊎_}
 use lib.ListN.{length}
-use lib.Dec.{eqb}
-use Rattle.formats.specs.Frames.{sound}
+use lib.Dec.{leb, eqb}
+use Rattle.formats.specs.Frames.{sound, sid, damagedSound, damagedSid}
 use Rattle.playout.specs.Pairs.{order}
 
 -- a copy of a frame: its pair (time, channel), its class and its bytes
@@ -29,9 +31,21 @@ greater [] ys = false
 greater (x ∷ xs) [] = true
 greater (x ∷ xs) (y ∷ ys) = greaterAt (compare x y) (greater xs ys)
 
--- what is compared, in turn: sound above SID, then the length, then the bytes
+-- the class of a frame: sound or SID, good or damaged
+abbrev pub FrameClass : ℕ → Type 0
+FrameClass class = (class ≡ sound) ⊎ ((class ≡ sid) ⊎ ((class ≡ damagedSound) ⊎ (class ≡ damagedSid)))
+
+-- 1 of a good frame, 0 of a damaged one: the damaged classes are those over `sid`
+unfoldable pub quality : ℕ → ℕ
+quality class = cond (leb class sid) 1 0
+
+-- 1 of sound, 0 of a SID
+unfoldable pub soundness : ℕ → ℕ
+soundness class = cond (eqb class sound) 1 (cond (eqb class damagedSound) 1 0)
+
+-- what is compared, in turn: good above damaged, sound above SID, then the length, then the bytes
 unfoldable pub rank : ℕ → List ℕ → List ℕ
-rank class bytes = cond (eqb class sound) 1 0 ∷ length bytes ∷ bytes
+rank class bytes = quality class ∷ soundness class ∷ length bytes ∷ bytes
 
 unfoldable pub betterFrame : ℕ → List ℕ → ℕ → List ℕ → Bool
 betterFrame c a d b = greater (rank c a) (rank d b)

@@ -1,4 +1,4 @@
-// A receiver of interleaved mono, and packets for it, printed.
+// A receiver of one channel, and packets of interleaved mono for it, printed.
 use layout::buffer::Buffer;
 use layout::buffer::SLOT_SIZE;
 use layout::buffer::STORE_SIZE;
@@ -8,12 +8,10 @@ use reorder::calls::DrawnFrame;
 use reorder::calls::OfferAnswer;
 use reorder::tally::Tally;
 use rtp::refusal;
-use rtp::settings::G719_INTERLEAVED;
-use rtp::settings::NO_REDUNDANCY;
 use rtp::settings::Settings;
 use rtp::sizes::ROW_AREA;
 
-fn print(text: &[u8], value: u32) {
+pub(crate) fn print(text: &[u8], value: u32) {
     io::write_all(1, text);
     io::print_decimal(1, value as u64);
 }
@@ -23,14 +21,14 @@ pub(crate) fn zero_store() -> [u8; STORE_SIZE] {
 }
 
 // A fresh buffer, under a label.
-pub(crate) fn begin(label: &[u8]) -> Buffer {
+pub(crate) fn begin(label: &[u8], format: u8) -> Buffer {
     io::write_all(1, label);
     io::write_all(1, b"\n");
     let fresh = calls::new(Settings {
-        format: G719_INTERLEAVED,
+        format,
         channels: 1,
         payload_type: 97,
-        redundancy_type: NO_REDUNDANCY,
+        redundancy_type: 98,
     });
     fresh.buffer
 }
@@ -78,11 +76,11 @@ fn zero_rows() -> [u32; ROW_AREA] {
     [0; ROW_AREA]
 }
 
-fn offer(buffer: Buffer, store: &mut [u8], base: u32, k: u8) -> Buffer {
-    let bytes = packet_of(base, k);
+// A packet offered, and how it was judged.
+pub(crate) fn offer(label: &[u8], buffer: Buffer, store: &mut [u8], packet: &[u8]) -> Buffer {
     let mut rows = zero_rows();
-    print(b"offer ", k as u32);
-    let offered = calls::offer(buffer, &bytes, &mut rows, store);
+    io::write_all(1, label);
+    let offered = calls::offer(buffer, packet, &mut rows, store);
     let answer = offered.answer;
     match answer {
         OfferAnswer::Refused(why) => print(b" refusal ", refusal::refusal_number(why)),
@@ -91,13 +89,19 @@ fn offer(buffer: Buffer, store: &mut [u8], base: u32, k: u8) -> Buffer {
     offered.buffer
 }
 
-pub(crate) fn three(buffer: Buffer, store: &mut [u8], base: u32, a: u8, b: u8, c: u8) -> Buffer {
-    let first = offer(buffer, store, base, a);
-    let second = offer(first, store, base, b);
-    offer(second, store, base, c)
+fn offer_number(buffer: Buffer, store: &mut [u8], base: u32, k: u8) -> Buffer {
+    let bytes = packet_of(base, k);
+    print(b"offer ", k as u32);
+    offer(b"", buffer, store, &bytes)
 }
 
-fn zero_frame() -> [u8; SLOT_SIZE] {
+pub(crate) fn three(buffer: Buffer, store: &mut [u8], base: u32, a: u8, b: u8, c: u8) -> Buffer {
+    let first = offer_number(buffer, store, base, a);
+    let second = offer_number(first, store, base, b);
+    offer_number(second, store, base, c)
+}
+
+pub(crate) fn zero_frame() -> [u8; SLOT_SIZE] {
     [0; SLOT_SIZE]
 }
 

@@ -1,5 +1,7 @@
 // Document 001's six interleaved packets, each of four frame-blocks five apart, offered to a fresh buffer in several orders, then drawn
-// until the buffer is empty. Prints for each offer how often each verdict was given, and the frame-blocks drawn.
+// until the buffer is empty; then packets of AMR and AMR-WB. Prints for each offer how often each verdict was given, and the frame-blocks
+// drawn.
+mod amr;
 mod example;
 mod orders;
 
@@ -10,4 +12,8 @@ fn main() {
     orders::twice();
     orders::across_the_wrap();
     orders::after_a_draw();
+    amr::damaged();
+    amr::as_before();
+    amr::times();
+    amr::redundancy();
 }

@@ -4,6 +4,7 @@ use packet::reading;
 use packet::reading::Packet;
 use packet::reading::Reading;
 use rtp::refusal;
+use rtp::settings::AMR;
 use rtp::settings::Settings;
 use rtp::sizes::MAX_PACKET;
 use rtp::sizes::MAX_ROWS;
@@ -76,12 +77,16 @@ fn print(text: &[u8], value: u32) {
     io::print_decimal(1, value as u64);
 }
 
-fn print_header(packet: Packet) {
+// The mode request is printed for the formats that have one.
+fn print_header(format: u8, packet: Packet) {
     print(b"count ", packet.rows);
     print(b" marker ", packet.marker as u32);
     print(b" sequence ", packet.sequence as u32);
     print(b" timestamp ", packet.timestamp);
     print(b" source ", packet.source);
+    if AMR <= format {
+        print(b" mode request ", packet.mode_request as u32);
+    }
     io::write_all(1, b"\n");
 }
 
@@ -106,14 +111,14 @@ fn print_rows(rows: &[u32; ROW_AREA], count: u32) {
     }
 }
 
-fn print_reading(answer: Reading, rows: &[u32; ROW_AREA]) {
+fn print_reading(format: u8, answer: Reading, rows: &[u32; ROW_AREA]) {
     match answer {
         Reading::Refused(why) => {
             print(b"refusal ", refusal::refusal_number(why));
             io::write_all(1, b"\n");
         }
         Reading::Read(packet) => {
-            print_header(packet);
+            print_header(format, packet);
             print_rows(rows, packet.rows);
         }
     }
@@ -148,7 +153,7 @@ pub(crate) fn read_into(
     io::write_all(1, b"\n");
     let mut rows = zero_rows();
     let answer = read_part(settings, bytes, size, &mut rows, words);
-    print_reading(answer, &rows);
+    print_reading(settings.format, answer, &rows);
 }
 
 pub(crate) fn read(label: &[u8], settings: Settings, bytes: &[u8; LONGEST], size: usize) {

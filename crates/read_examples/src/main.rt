@@ -1,6 +1,8 @@
 // Reads packets, whole and damaged, and prints for each what reading answers: the refusal's number; or row count, marker,
-// sequence, timestamp and source, and a line for each row with its time, class, channel, start and length.
+// sequence, timestamp and source, in AMR and AMR-WB the mode request, and a line for each row with its time, class, channel, start and
+// length.
 mod accepted;
+mod amr;
 mod example;
 mod groups;
 mod refused;
@@ -20,6 +22,15 @@ fn main() {
     groups::two();
     groups::more();
     groups::in_a_block();
+    amr::each_type();
+    amr::one_frame();
+    amr::several();
+    amr::redundancy();
+    amr::last_with_rows();
+    amr::truncated();
+    amr::reserved();
+    amr::rows();
+    amr::sizes();
     refused::lengths_and_version();
     refused::headers();
     refused::padding();

@@ -138,7 +138,7 @@ fn types_of(label: &[u8], payload_type: u8, redundancy_type: u8) {
 // 11.
 pub(crate) fn settings() {
     example::plain(b"11: format 0", example::agreed(0, 1), b"\x20\x01", 94);
-    example::plain(b"11: format 4", example::agreed(4, 1), b"\x20\x01", 94);
+    example::plain(b"11: format 6", example::agreed(6, 1), b"\x20\x01", 94);
     example::plain(b"11: no channels", example::agreed(1, 0), b"\x20\x01", 94);
     example::plain(
         b"11: three channels",

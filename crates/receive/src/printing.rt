@@ -7,6 +7,8 @@ use crate::totals::Totals;
 use console::lines;
 use console::lines::LINE;
 use console::refusals;
+use formats::frames::DAMAGED_SID;
+use formats::frames::DAMAGED_SOUND;
 use formats::frames::SID;
 use layout::buffer::SLOT_SIZE;
 use libc::STDERR_FILENO;
@@ -35,6 +37,12 @@ fn say(line: &mut [u8; LINE], at: usize) {
 fn put_class(line: &mut [u8; LINE], at: usize, class: u32) -> usize {
     if class == SID as u32 {
         return lines::put(line, at, b" sid");
+    }
+    if class == DAMAGED_SOUND as u32 {
+        return lines::put(line, at, b" damaged-sound");
+    }
+    if class == DAMAGED_SID as u32 {
+        return lines::put(line, at, b" damaged-sid");
     }
     lines::put(line, at, b" sound")
 }

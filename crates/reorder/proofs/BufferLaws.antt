@@ -12,6 +12,7 @@ use Rattle.rtp.proofs.TestLaws.{by-test}
 use Rattle.rtp.proofs.RangeLaws.{few-channels}
 use Rattle.playout.specs.Sizes.{slots, storeSize}
 use Rattle.playout.specs.Entries.{Entry, Held}
+use Rattle.playout.proofs.RankLaws.{frame-class}
 use Rattle.layout.specs.declared.buffer.Buffer.{Buffer}
 use Rattle.layout.specs.Layout.{entryTag, padTo, column, encode, decode}
 use Rattle.layout.specs.WellFormed.{wellFormed}
@@ -57,7 +58,7 @@ module _ (st : Settings) (h : Held) (s : List ℕ) (g : Good st h s) where
       let S = good-facts st h s g in
       record {
         times = column-word (λ e. e .time) (h .entries) (g .words);
-        tags = column-word entryTag (h .entries) (λ e m. let i = S .each e m in omega (arith, i .octet, i .class .1));
+        tags = column-word entryTag (h .entries) (λ e m. let i = S .each e m in omega (arith, i .octet, frame-class (e .class) (i .class) .1));
         lengths = column-word (λ e. e .length) (h .entries) (λ e m. let i = S .each e m in omega (arith, i .size));
         slots-column = column-word (λ e. e .slot) (h .entries) (λ e m. let i = S .each e m in omega (arith, i .slot));
         occupied = refl;

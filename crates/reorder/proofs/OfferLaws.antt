@@ -40,26 +40,27 @@ use Rattle.reorder.proofs.CopyLaws.{rows-allowed}
 pub refused-words : (o : Outcome) (r : Refusal) → refusedNumbers r ≡ outcomeNumbers o → outcomeWords o ≡ []
 unfolding outcomeNumbers outcomeWords
 refused-words (refused q) r e = refl
-refused-words (readAs h rs) r e = let z : number r ≡ 0 = ap (λ (n : Numbers). n .refusal) e in absurd (omega (arith, number-positive r))
+refused-words (readAs h rs request) r e = let z : number r ≡ 0 = ap (λ (n : Numbers). n .refusal) e in absurd (omega (arith, number-positive r))
 
 pub refused-offer : (b : Buffer) (packet rows store : List ℕ) (o : Outcome) (r : Refusal) → refusedNumbers r ≡ outcomeNumbers o
     → offerRefused r b rows store ≡ offerRead b packet rows store o
 unfolding outcomeNumbers
 refused-offer b packet rows store (refused q) r e =
     ap (λ (n : ℕ). record { answer = countNumbers n noCounts; buffer = b; rows = rows; store = store }) (ap (λ (n : Numbers). n .refusal) e)
-refused-offer b packet rows store (readAs h rs) r e = let z : number r ≡ 0 = ap (λ (n : Numbers). n .refusal) e in absurd (omega (arith, number-positive r))
+refused-offer b packet rows store (readAs h rs request) r e = let z : number r ≡ 0 = ap (λ (n : Numbers). n .refusal) e in absurd (omega (arith, number-positive r))
 
 -- an outcome whose numbers are those of rows is rows
 pub record IsRead (o : Outcome) (n : ℕ) : Type 0 where
   pub head : Header
   pub rows : List Row
-  pub same : o ≡ readAs head rows
+  pub request : ℕ
+  pub same : o ≡ readAs head rows request
   pub count : n ≡ length rows
 
 pub is-read : (o : Outcome) (p : Packet) → readingNumbers (Reading.Read p) ≡ outcomeNumbers o → IsRead o (p .rows)
 unfolding outcomeNumbers
 is-read (refused q) p e = let z : 0 ≡ number q = ap (λ (n : Numbers). n .refusal) e in absurd (omega (arith, number-positive q))
-is-read (readAs h rs) p e = record { head = h; rows = rs; same = refl; count = ap (λ (n : Numbers). n .rows) e }
+is-read (readAs h rs request) p e = record { head = h; rows = rs; request = request; same = refl; count = ap (λ (n : Numbers). n .rows) e }
 
 -- the rows of an offer judged, from none judged
 pub rows-offer : (at : List ℕ → Buffer) (occupied : List ℕ) (sum : Judged) → sum ≡ record { tally = noTally; occupied = occupied }
@@ -84,7 +85,7 @@ module _ (b : Buffer) (packet rows store : List ℕ) (h : inRange (b .settings) 
   rs = is .rows
 
   fine : AllRows (RowFine (b .settings .format) (b .settings .channels) (length packet)) rs × (length rs ≤ maxRows)
-  fine = rows-fine (b .settings) (length rows) packet (is .head) rs (is .same)
+  fine = rows-fine (b .settings) (length rows) packet (is .head) rs (is .request) (is .same)
 
   pub words-fit : rowWidth * p .rows ≤ length rows
   words-fit = omega (arith, fine .1, is .count)
@@ -121,6 +122,6 @@ module _ (b : Buffer) (packet rows store : List ℕ) (h : inRange (b .settings) 
       j .answer ∙ ap (λ (x : Gathered). countNumbers 0 (tally noCounts (x .judgements))) g in
       let u : b' ≡ encode (b .settings) (judgeAll (decode b) store (copiesOf packet rs) .held) = j .buffer ∙ ap (λ (x : Gathered). encode (b .settings) (x .held)) g in
       let s : store' ≡ judgeAll (decode b) store (copiesOf packet rs) .store = j .store-left ∙ ap (λ (x : Gathered). x .store) g in
-      let z : record { answer = offerNumbers a; buffer = b'; rows = rows'; store = store' } ≡ offerRead b packet rows store (readAs (is .head) rs) =
+      let z : record { answer = offerNumbers a; buffer = b'; rows = rows'; store = store' } ≡ offerRead b packet rows store (readAs (is .head) rs (is .request)) =
       λ i. record { answer = c i; buffer = u i; rows = rows-are i; store = s i } in
       z ∙ sym (offer-reads b packet rows store h w area room ∙ ap (offerRead b packet rows store) (is .same))

@@ -31,7 +31,7 @@ pub record Offered : Type 0 where
 -- a packet that was read, or not
 abbrev pub judgeRead : Held → List ℕ → List ℕ → Outcome → Result Offered
 judgeRead h packet store (unread r) = refused r
-judgeRead h packet store (readAs x rs) = done (record { rows = rs; gathered = judgeAll h store (copiesOf packet rs) })
+judgeRead h packet store (readAs x rs request) = done (record { rows = rs; gathered = judgeAll h store (copiesOf packet rs) })
 
 -- a packet offered with a row area of so many words: 12, then reading's own refusals
 unfoldable pub offerTo : Model → List ℕ → ℕ → List ℕ → Result Offered

@@ -29,4 +29,4 @@ copiesOf packet (r ∷ rs) = cond (eqb (r .class) noData) (copiesOf packet rs) (
 -- the copies of a packet that is read
 abbrev pub readCopies : List ℕ → Outcome → List Copy
 readCopies packet (refused r) = []
-readCopies packet (readAs h rs) = copiesOf packet rs
+readCopies packet (readAs h rs request) = copiesOf packet rs

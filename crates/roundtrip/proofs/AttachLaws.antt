@@ -9,7 +9,7 @@ use lib.Dec.{leb}
 use borrow.Author.Tests.{le-leb, eq-eqb, leb-true}
 use Rattle.rtp.proofs.TestLaws.{by-test, not-both}
 use Rattle.formats.specs.Formats.{formatOf, maxGap}
-use Rattle.payload.specs.Contents.{Group, groups}
+use Rattle.contents.specs.Contents.{Group, groups}
 use Rattle.payload.specs.Rows.{Row}
 use Rattle.formats.specs.Codes.{noCode, codeFor}
 use Rattle.encoder.specs.Plans.{headGap, single, joins, attach}

@@ -15,13 +15,14 @@ use Rattle.rtp.specs.declared.redundancy.Redundant.{Redundant}
 use Rattle.rtp.specs.declared.redundancy.BlockHeader.{BlockHeader}
 use Rattle.rtp.proofs.RedundancyLaws.{headers-step}
 use Rattle.payload.specs.Rows.{Row}
-use Rattle.payload.specs.Payloads.{Rows}
+use Rattle.payload.specs.Payloads.{Rows, noRequest, requestOf}
 use Rattle.packet.specs.Blocks.{cut, typedBlockRows, thenRows, blocksRows, redundantRows}
+use Rattle.packet.specs.Requests.{blockRequest, blocksRequest, redundantRequest}
 use Rattle.packet.proofs.AnswerLaws.{then-none}
 use Rattle.packet.proofs.BlockLaws.{block}
 use Rattle.encoder.specs.Lists.{outside, firstTime}
 use Rattle.sender.proofs.WordLaws.{outside-take, outside-drop}
-use Rattle.roundtrip.specs.ReadingBack.{SameFrames}
+use Rattle.roundtrip.specs.ReadingBack.{readRequest, SameFrames}
 use Rattle.roundtrip.proofs.PlanRowLaws.{Times}
 use Rattle.sender.specs.Parts.{maxOffset, maxBlock, Part}
 use Rattle.sender.specs.Packets.{blockHeaderBytes, headersBytes, blocksBytes}
@@ -68,8 +69,8 @@ unfolding redundantSize blocksBytes
 within-blocks type [] p = omega arith
 within-blocks type (b ∷ bs) p = let e = within-blocks type bs p in rw length-append (omega arith)
 
-module _ (st : Settings) (bytes : List ℕ) (time type : ℕ) (small : type < 128) where
-  headers-back : (bs : List Part) (p rest : List ℕ) (rs : List Row) → Made st bytes time bs p rs → headers (headersBytes type bs ++ rest) ≡ headersOf (redundantsOf type bs) type
+module _ (st : Settings) (request : ℕ) (bytes : List ℕ) (time type : ℕ) (small : type < 128) where
+  headers-back : (bs : List Part) (p rest : List ℕ) (rs : List Row) → Made st request bytes time bs p rs → headers (headersBytes type bs ++ rest) ≡ headersOf (redundantsOf type bs) type
   unfolding headersBytes
   headers-back [] p rest rs m = rw (headers-step (type ∷ rest), last-header-back type rest small)
   headers-back (b ∷ bs) p rest rs m =
@@ -102,21 +103,29 @@ first-block : (st : Settings) (done time type at : ℕ) (b : Part) (hs : List Re
 unfolding blocksRows cut
 first-block st done time type at b hs c = rw (take-append-seam (b .bytes) c, drop-append-seam (b .bytes) c)
 
-module _ (st : Settings) (bytes : List ℕ) (time : ℕ) (some : 1 ≤ st .channels) (t : time < 2 ^ 32) where
+-- the mode request of the blocks is that of the last, which is not empty
+blocks-request : (st : Settings) (found at : ℕ) (bs : List Part) (p : List ℕ) → 1 ≤ length p
+    → blocksRequest st found (cut (redundantsOf (st .«payload_type») bs) (st .«payload_type») at (blocksBytes bs p)) ≡ requestOf (st .format) p
+unfolding blocksRequest blockRequest cut blocksBytes
+blocks-request st found at [] p h = rw (eq-eqb (st .«payload_type») (st .«payload_type») refl, ne-eqb (length p) 0 (omega arith))
+blocks-request st found at (b ∷ bs) p h =
+    rw (take-append-seam (b .bytes) (blocksBytes bs p), drop-append-seam (b .bytes) (blocksBytes bs p)) (blocks-request st _ (at + length (b .bytes)) bs p h)
+
+module _ (st : Settings) (request : ℕ) (bytes : List ℕ) (time : ℕ) (some : 1 ≤ st .channels) (t : time < 2 ^ 32) where
   -- a block whose time is its list's, anywhere
-  block-back : (offset : ℕ) (p : List ℕ) (rs : List Row) → Reads st bytes p rs → difference time offset ≡ firstTime rs → (front rest : List ℕ) (done : ℕ) → done + length rs ≤ maxRows
+  block-back : (offset : ℕ) (p : List ℕ) (rs : List Row) → Reads st request bytes p rs → difference time offset ≡ firstTime rs → (front rest : List ℕ) (done : ℕ) → done + length rs ≤ maxRows
       → Back (front ++ (p ++ rest)) bytes rs (typedBlockRows st done time (block (st .«payload_type») offset (length front) p))
   unfolding typedBlockRows
   block-back offset p rs r e front rest done few =
       let b = r .back front rest done few in
       record { rows = b .rows; read = rw (eq-eqb (st .«payload_type») (st .«payload_type») refl, ne-eqb (length p) 0 (omega (arith, r .some)), e) (b .read); same = b .same }
 
-  blocks-back : (bs : List Part) (p : List ℕ) (rs : List Row) → Made st bytes time bs p rs → Times rs → outside (length bytes) rs ≡ false
+  blocks-back : (bs : List Part) (p : List ℕ) (rs : List Row) → Made st request bytes time bs p rs → Times rs → outside (length bytes) rs ≡ false
       → (front : List ℕ) (done : ℕ) → done + length rs ≤ maxRows
       → Back (front ++ blocksBytes bs p) bytes rs (blocksRows st done time (cut (redundantsOf (st .«payload_type») bs) (st .«payload_type») (length front) (blocksBytes bs p)))
   unfolding blocksBytes
   blocks-back [] p rs m times inside front done few =
-      let x = block-back 0 p rs (payload-back st bytes p rs some times inside (m .0)) (difference-none time t ∙ sym (m .1)) front [] done few in
+      let x = block-back 0 p rs (payload-back st request bytes p rs some times inside (m .0)) (difference-none time t ∙ sym (m .1)) front [] done few in
       rw (last-block st done time (st .«payload_type») (length front) p) (rw (append-nil p) at x)
   blocks-back (b ∷ bs) p rs m times inside front done few =
       let n = m .0 in
@@ -125,7 +134,7 @@ module _ (st : Settings) (bytes : List ℕ) (time : ℕ) (some : 1 ≤ st .chann
       let size : length (take n rs) + length (drop n rs) ≡ length rs = sym (length-append (take n rs) (drop n rs)) ∙ ap (λ (l : List Row). length l) (take-append-drop n rs) in
       let x =
       block-back (b .offset) (b .bytes) (take n rs)
-      (payload-back st bytes (b .bytes) (take n rs) some first (outside-take (length bytes) n rs inside) (m .1 .payload))
+      (payload-back st request bytes (b .bytes) (take n rs) some first (outside-take (length bytes) n rs inside) (m .1 .payload))
       (ap (difference time) (m .1 .offset) ∙ difference-back time (firstTime (take n rs)) t (first-small (take n rs) first)) front c done (omega arith) in
       let y =
       blocks-back bs p (drop n rs) (m .2) (times-drop n rs times) (outside-drop (length bytes) n rs inside) (front ++ b .bytes) (done + length (take n rs)) (omega arith) in
@@ -133,7 +142,7 @@ module _ (st : Settings) (bytes : List ℕ) (time : ℕ) (some : 1 ≤ st .chann
       (back-then (front ++ (b .bytes ++ c)) bytes n rs _ _ x (rw (append-assoc front (b .bytes) c, length-append front (b .bytes)) at y))
 
   -- the whole payload, after a front
-  pub redundant-back : (bs : List Part) (p : List ℕ) (rs : List Row) → Made st bytes time bs p rs → Times rs → outside (length bytes) rs ≡ false → st .«payload_type» < 128
+  pub redundant-back : (bs : List Part) (p : List ℕ) (rs : List Row) → Made st request bytes time bs p rs → Times rs → outside (length bytes) rs ≡ false → st .«payload_type» < 128
       → length rs ≤ maxRows → length (headersBytes (st .«payload_type») bs ++ blocksBytes bs p) ≤ maxPacket → (front : List ℕ)
       → Back (front ++ (headersBytes (st .«payload_type») bs ++ blocksBytes bs p)) bytes rs (redundantRows st time (length front) (headersBytes (st .«payload_type») bs ++ blocksBytes bs p))
   unfolding redundantRows redundancyHeaders
@@ -145,5 +154,24 @@ module _ (st : Settings) (bytes : List ℕ) (time : ℕ) (some : 1 ≤ st .chann
       let n = length-headers type bs in
       let room : redundantSize hs ≤ length (a ++ c) - headersSize hs = rw (length-append a c, ← n) (omega (arith, within-blocks type bs p)) in
       let x = blocks-back bs p rs m times inside (front ++ a) 0 (omega arith) in
-      rw (le-ltb maxPacket (length (a ++ c)) short, headers-back st bytes time type small bs p c rs m)
+      rw (le-ltb maxPacket (length (a ++ c)) short, headers-back st request bytes time type small bs p c rs m)
       (rw (le-ltb (length (a ++ c) - headersSize hs) (redundantSize hs) room, ← n, drop-append-seam a c) (rw (append-assoc front a c, length-append front a) at x))
+
+  -- the mode request of a made packet is that of its primary payload, the last
+  pub primary-request : (bs : List Part) (p : List ℕ) (rs : List Row) → Made st request bytes time bs p rs → Times rs → outside (length bytes) rs ≡ false
+      → (1 ≤ length p) × (requestOf (st .format) p ≡ readRequest (st .format) request)
+  primary-request [] p rs m times inside = let r = payload-back st request bytes p rs some times inside (m .0) in (r .some, r .asked)
+  primary-request (b ∷ bs) p rs m times inside =
+      primary-request bs p (drop (m .0) rs) (m .2) (times-drop (m .0) rs times) (outside-drop (length bytes) (m .0) rs inside)
+
+  pub redundant-request : (bs : List Part) (p : List ℕ) (rs : List Row) → Made st request bytes time bs p rs → Times rs → outside (length bytes) rs ≡ false → st .«payload_type» < 128
+      → length (headersBytes (st .«payload_type») bs ++ blocksBytes bs p) ≤ maxPacket
+      → redundantRequest st (headersBytes (st .«payload_type») bs ++ blocksBytes bs p) ≡ readRequest (st .format) request
+  unfolding redundantRequest redundancyHeaders
+  redundant-request bs p rs m times inside small short =
+      let type = st .«payload_type» in
+      let a = headersBytes type bs in
+      let c = blocksBytes bs p in
+      let r = primary-request bs p rs m times inside in
+      rw (le-ltb maxPacket (length (a ++ c)) short, headers-back st request bytes time type small bs p c rs m, ← (length-headers type bs), drop-append-seam a c)
+      (blocks-request st noRequest 0 bs p (r .0) ∙ r .1)

@@ -6,13 +6,15 @@ use Prim.Native.Nat.{ℕ, zero, suc, _+_, _*_, _≤_, _<_}
 use native.Mathlib.Omega.{arith}
 use native.Mathlib.Nat.{le-mul-of-pos-right}
 use lib.ListN.{length, getD, take, drop}
+use lib.Dec.{eqb}
 use Rattle.rtp.specs.Sizes.{maxRows}
 use Rattle.rtp.proofs.RedundancyLaws.{bytes-drop}
-use Rattle.payload.specs.Contents.{Group, rowCount}
+use Rattle.contents.specs.Contents.{Group, rowCount}
 use Rattle.payload.specs.Rows.{Row}
 use Rattle.formats.specs.Formats.{formatOf, maxGap}
 use Rattle.encoder.specs.Plans.{headGap}
-use Rattle.encoder.specs.Bytes.{halves, firstByte, startBytes, gapBytes, entryBytes, tableBytes, frameIn, frames}
+use Rattle.encoder.specs.Bytes.{requestBytes, halves, firstByte, startBytes, gapBytes, entryBytes, tableBytes, frameIn, frames}
+use Rattle.encoder.specs.Writings.{maxRequest}
 use Rattle.roundtrip.specs.ReadingBack.{Bytes}
 use Rattle.encoder.proofs.EntryLaws.{first-small}
 use Rattle.roundtrip.proofs.EntryBackLaws.{Run, small-gaps}
@@ -51,6 +53,11 @@ bytes-entry format more g r f few =
     (bytes-one (firstByte format more (g .class) (g .length)) (cond (formatOf format .counted) (length (g .gaps) ∷ []) []) (first-small format more (g .class) (g .length) (r .code))
     (bytes-either (formatOf format .counted) (length (g .gaps) ∷ []) [] (λ a. bytes-one (length (g .gaps)) [] few bytes-none) (λ a. bytes-none)))
     (bytes-either (formatOf format .displaced) (halves (g .gaps)) [] (λ b. bytes-halves (g .gaps) (small-gaps format more g [] r f)) (λ b. bytes-none))
+
+-- the mode request
+pub bytes-request : (format request : ℕ) → request ≤ maxRequest → Bytes (requestBytes format request)
+unfolding requestBytes
+bytes-request format request h = bytes-either (eqb (formatOf format .header) 0) [] (16 * request ∷ []) (λ a. bytes-none) (λ a. bytes-one (16 * request) [] (omega arith) bytes-none)
 
 -- a table of at most 128 rows
 pub bytes-table : (format ch : ℕ) (gs : List Group) → 1 ≤ ch → Runs format gs → rowCount ch gs ≤ maxRows → Bytes (tableBytes format gs)

@@ -11,16 +11,16 @@ use borrow.Author.Tests.{le-ltb, le-leb, lt-leb, ne-eqb}
 use Rattle.rtp.specs.Numbers.{byteAt}
 use Rattle.rtp.proofs.TestLaws.{by-test}
 use Rattle.formats.specs.Formats.{formatOf, maxGap}
-use Rattle.payload.specs.declared.contents.Entry.{Entry}
-use Rattle.payload.specs.declared.contents.EntryRead.{EntryRead}
-use Rattle.payload.specs.Contents.{minEntry, codeIn, blocksIn, entrySize, entryOf, Group, halfAt, gapAt, gapsFrom, meaning}
+use Rattle.contents.specs.declared.entries.Entry.{Entry}
+use Rattle.contents.specs.declared.entries.EntryRead.{EntryRead}
+use Rattle.contents.specs.Contents.{minEntry, codeIn, blocksIn, entrySize, entryOf, Group, halfAt, gapAt, gapsFrom, meaning}
 use Rattle.formats.specs.Codes.{noCode, codeFor}
 use Rattle.encoder.specs.Plans.{headGap}
 use Rattle.encoder.specs.Bytes.{halves, flag, firstByte, gapBytes, entryBytes}
 use Rattle.encoder.proofs.EntryLaws.{length-entry}
 use Rattle.formats.proofs.CodeLaws.{code-back, code-below}
 use Rattle.formats.proofs.FormatLaws.{code-placed, gap-small}
-use Rattle.payload.proofs.EntryLaws.{size-min}
+use Rattle.contents.proofs.EntryLaws.{size-min}
 
 -- a run of frame-blocks that an entry can say, but for the gap before it
 pub record Run (format : ℕ) (g : Group) : Type 0 where

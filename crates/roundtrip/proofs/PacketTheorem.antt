@@ -8,26 +8,28 @@ use lib.ListN.{length}
 use lib.Dec.{ltb, eqb}
 use borrow.Author.Tests.{eq-eqb, ne-eqb, ltb-false, eqb-true}
 use Rattle.rtp.specs.Sizes.{maxPacket, maxRows, rowWidth}
-use Rattle.rtp.specs.Ranges.{inRange}
 use Rattle.rtp.specs.declared.settings.Settings.{Settings}
 use Rattle.rtp.specs.declared.refusal.Refusal.{Refusal}
 use Rattle.rtp.proofs.TestLaws.{both, either}
 use Rattle.payload.specs.Rows.{Row}
 use Rattle.packet.specs.Readings.{typedRows}
+use Rattle.packet.specs.Requests.{typedRequest}
 use Rattle.packet.proofs.ReadingLaws.{reading-headed}
 use Rattle.encoder.specs.Lists.{rowsIn, outside}
 use Rattle.roundtrip.proofs.PayloadTheorems.{times}
-use Rattle.encoder.specs.Writings.{Encoded, noBytes, bytesOf, roomFor}
+use Rattle.encoder.specs.Writings.{Encoded, noBytes, bytesOf, askable, roomFor}
+use Rattle.encoder.proofs.RequestLaws.{asked}
 use Rattle.encoder.proofs.ListLaws.{length-rows}
 use Rattle.roundtrip.proofs.PlanRowLaws.{Times}
 use Rattle.sender.specs.Parts.{maxRedundant, total, primaryTime, Part, Parts, noParts, partsOf, parts}
 use Rattle.sender.specs.Packets.{Heading, headerBytes, bodyBytes, packetType, redundancyMissing, assembledFrom, assembled, countsFit, sending}
+use Rattle.roundtrip.specs.ReadingBack.{readRequest}
 use Rattle.roundtrip.specs.PacketClaims.{ReadsBack, PacketRoundTrip}
 use Rattle.rtp.proofs.RangeLaws.{Ranged, ranged}
 use Rattle.roundtrip.proofs.HeaderBackLaws.{headOf, header-back, payload-after}
 use Rattle.roundtrip.proofs.PayloadBackLaws.{Back, payload-back}
 use Rattle.roundtrip.proofs.PartLaws.{Made, made, primary-small}
-use Rattle.roundtrip.proofs.BlocksBackLaws.{redundant-back}
+use Rattle.roundtrip.proofs.BlocksBackLaws.{redundant-back, primary-request, redundant-request}
 
 -- What the counts say
 
@@ -74,16 +76,16 @@ of-parts st h time (partsOf bs p) q k =
     let b = past (ltb maxPacket (length (packet st h time bs p))) _ _ q (a .1) in
     record { blocks = bs; primary = p; are = refl; typed = a .0; short = ltb-false _ _ (b .0); same = same-bytes _ q (b .1) }
 
-record Sent (st : Settings) (h : Heading) (counts ws bytes q : List ℕ) : Type 0 where
-  range : inRange st ≡ true
+record Sent (st : Settings) (request : ℕ) (h : Heading) (counts ws bytes q : List ℕ) : Type 0 where
+  range : askable st request ≡ true
   inside : outside (length bytes) (rowsIn ws) ≡ false
   fits : countsFit counts ws ≡ true
-  made : Assembled st h (primaryTime counts (rowsIn ws)) (parts st bytes (primaryTime counts (rowsIn ws)) counts (rowsIn ws)) q
+  made : Assembled st h (primaryTime counts (rowsIn ws)) (parts st request bytes (primaryTime counts (rowsIn ws)) counts (rowsIn ws)) q
 
-sent : (st : Settings) (h : Heading) (counts ws bytes : List ℕ) (area : ℕ) (q : List ℕ) → sending st h counts ws bytes area ≡ bytesOf q → Sent st h counts ws bytes q
+sent : (st : Settings) (request : ℕ) (h : Heading) (counts ws bytes : List ℕ) (area : ℕ) (q : List ℕ) → sending st request h counts ws bytes area ≡ bytesOf q → Sent st request h counts ws bytes q
 unfolding sending assembled
-sent st h counts ws bytes area q k =
-    let a = passed (inRange st) _ _ q k in
+sent st request h counts ws bytes area q k =
+    let a = passed (askable st request) _ _ q k in
     let b = past (outside (length bytes) (rowsIn ws)) _ _ q (a .1) in
     let c = passed (countsFit counts ws) _ _ q (b .1) in
     record { range = a .0; inside = b .0; fits = c .0; made = of-parts st h _ _ q (room area _ q (c .1)) }
@@ -95,37 +97,47 @@ type-small st [] g k = g .plain
 type-small st (b ∷ bs) g k = g .redundant k .0
 
 -- a packet of the list rs gives its rows, plain or redundant
-module _ (st : Settings) (h : Heading) (bytes : List ℕ) (rs : List Row) (time : ℕ) (g : Ranged st) (t : time < 2 ^ 32) (ts : Times rs) (inside : outside (length bytes) rs ≡ false) (few : length rs ≤ maxRows) where
-  typed-back : (bs : List Part) (p : List ℕ) → Made st bytes time bs p rs → redundancyMissing st bs ≡ false → length (packet st h time bs p) ≤ maxPacket → (n : ℕ)
+module _ (st : Settings) (request : ℕ) (h : Heading) (bytes : List ℕ) (rs : List Row) (time : ℕ) (g : Ranged st) (t : time < 2 ^ 32) (ts : Times rs) (inside : outside (length bytes) rs ≡ false) (few : length rs ≤ maxRows) where
+  typed-back : (bs : List Part) (p : List ℕ) → Made st request bytes time bs p rs → redundancyMissing st bs ≡ false → length (packet st h time bs p) ≤ maxPacket → (n : ℕ)
       → Back (packet st h time bs p) bytes rs (typedRows st (headOf h (packetType st bs) time n) (bodyBytes st bs p))
   unfolding typedRows bodyBytes
   typed-back [] p m k l n =
-      let x = payload-back st bytes p rs (g .channels) ts inside (m .0) .back (headerBytes h (st .«payload_type») time) [] 0 (omega arith) in
+      let x = payload-back st request bytes p rs (g .channels) ts inside (m .0) .back (headerBytes h (st .«payload_type») time) [] 0 (omega arith) in
       rw (eq-eqb (st .«payload_type») (st .«payload_type») refl) (rw (append-nil p, m .1) at x)
   typed-back (b ∷ bs) p m k l n =
       let type = st .«redundancy_type» in
       rw (ne-eqb type (st .«payload_type») (g .redundant k .1), eq-eqb type type refl)
-      (redundant-back st bytes time (g .channels) t (b ∷ bs) p rs m ts inside (g .plain) few (omega arith) (headerBytes h type time))
+      (redundant-back st request bytes time (g .channels) t (b ∷ bs) p rs m ts inside (g .plain) few (omega arith) (headerBytes h type time))
+
+  typed-request : (bs : List Part) (p : List ℕ) → Made st request bytes time bs p rs → redundancyMissing st bs ≡ false → length (packet st h time bs p) ≤ maxPacket
+      → typedRequest st (packetType st bs) (bodyBytes st bs p) ≡ readRequest (st .format) request
+  unfolding typedRequest bodyBytes
+  typed-request [] p m k l = rw (eq-eqb (st .«payload_type») (st .«payload_type») refl) (primary-request st request bytes time (g .channels) t [] p rs m ts inside .1)
+  typed-request (b ∷ bs) p m k l =
+      let type = st .«redundancy_type» in
+      rw (ne-eqb type (st .«payload_type») (g .redundant k .1), eq-eqb type type refl)
+      (redundant-request st request bytes time (g .channels) t (b ∷ bs) p rs m ts inside (g .plain) (omega arith))
 
 pub packet-round-trip : PacketRoundTrip
-packet-round-trip st h counts ws bytes area rows q words sequence source room k =
-    let s = sent st h counts ws bytes area q k in
+packet-round-trip st request h counts ws bytes area rows q words sequence source room k =
+    let s = sent st request h counts ws bytes area q k in
     let a = s .made in
     let rs = rowsIn ws in
     let time = primaryTime counts rs in
-    let g = ranged st (s .range) in
+    let g = ranged st (asked st request (s .range) .settings) in
     let ts = times ws words in
     let t = primary-small counts rs ts in
     let type = packetType st (a .blocks) in
     let body = bodyBytes st (a .blocks) (a .primary) in
     let head = headOf h type time (length (headerBytes h type time ++ body)) in
-    let m = made st bytes time counts rs (a .blocks) (a .primary) refl (a .are) in
-    let x = typed-back st h bytes rs time g t ts (s .inside) (few-rows counts ws (s .fits)) (a .blocks) (a .primary) m (a .typed) (a .short) (head .end) in
+    let m = made st request bytes time counts rs (a .blocks) (a .primary) refl (a .are) in
+    let x = typed-back st request h bytes rs time g t ts (s .inside) (few-rows counts ws (s .fits)) (a .blocks) (a .primary) m (a .typed) (a .short) (head .end) in
+    let y = typed-request st request h bytes rs time g t ts (s .inside) (few-rows counts ws (s .fits)) (a .blocks) (a .primary) m (a .typed) (a .short) in
     let read = header-back h type time body (type-small st (a .blocks) g (a .typed)) sequence t source (a .short) in
-    subst (λ (l : List ℕ). ReadsBack st h counts ws bytes l rows) (a .same) (record {
+    subst (λ (l : List ℕ). ReadsBack st request h counts ws bytes l rows) (a .same) (record {
       head = head;
       rows = x .rows;
-      read = reading-headed st rows (headerBytes h type time ++ body) (s .range) room head read ∙ rw (payload-after h type time body, x .read);
+      read = reading-headed st rows (headerBytes h type time ++ body) (asked st request (s .range) .settings) room head read ∙ rw (payload-after h type time body, x .read, y);
       same = x .same;
       marker = refl;
       sequence = refl;

@@ -38,16 +38,16 @@ primary-small (n ∷ []) rs h = first-small rs h
 primary-small (n ∷ m ∷ ns) rs h = primary-small (m ∷ ns) (drop n rs) (times-drop n rs h)
 
 -- a redundant block of the list rs, in a packet at `time`
-pub record Redundancy (st : Settings) (bytes : List ℕ) (time : ℕ) (b : Part) (rs : List Row) : Type 0 where
-  pub payload : encoded st bytes rs ≡ bytesOf (b .bytes)
+pub record Redundancy (st : Settings) (request : ℕ) (bytes : List ℕ) (time : ℕ) (b : Part) (rs : List Row) : Type 0 where
+  pub payload : encoded st request bytes rs ≡ bytesOf (b .bytes)
   pub offset : b .offset ≡ difference time (firstTime rs)
   pub near : b .offset ≤ maxOffset
   pub short : length (b .bytes) ≤ maxBlock
 
--- the redundant blocks bs and the primary payload p of the list rs: each block has some of its first rows
-abbrev pub Made : Settings → List ℕ → ℕ → List Part → List ℕ → List Row → Type 0
-Made st bytes time [] p rs = (encoded st bytes rs ≡ bytesOf p) × (firstTime rs ≡ time)
-Made st bytes time (b ∷ bs) p rs = (n : ℕ) × Redundancy st bytes time b (take n rs) × Made st bytes time bs p (drop n rs)
+-- the redundant blocks bs and the primary payload p of the list rs, with this mode request: each block has some of its first rows
+abbrev pub Made : Settings → ℕ → List ℕ → ℕ → List Part → List ℕ → List Row → Type 0
+Made st request bytes time [] p rs = (encoded st request bytes rs ≡ bytesOf p) × (firstTime rs ≡ time)
+Made st request bytes time (b ∷ bs) p rs = (n : ℕ) × Redundancy st request bytes time b (take n rs) × Made st request bytes time bs p (drop n rs)
 
 record Same (bs : List Part) (p : List ℕ) (cs : List Part) (q : List ℕ) : Type 0 where
   blocks : bs ≡ cs
@@ -60,41 +60,41 @@ past : (t : Bool) (x : Parts) (bs : List Part) (p : List ℕ) → cond t noParts
 past true x bs p h = let z : _≡_ {A = ℕ} 0 1 = cc in absurd (omega arith)
 past false x bs p h = (refl, h)
 
-module _ (st : Settings) (bytes : List ℕ) (time : ℕ) where
-  made-last : (rs : List Row) (bs : List Part) (p : List ℕ) → time ≡ firstTime rs → primaryPart (encoded st bytes rs) ≡ partsOf bs p → Made st bytes time bs p rs
-  made-last rs bs p t h = go (encoded st bytes rs) refl h
+module _ (st : Settings) (request : ℕ) (bytes : List ℕ) (time : ℕ) where
+  made-last : (rs : List Row) (bs : List Part) (p : List ℕ) → time ≡ firstTime rs → primaryPart (encoded st request bytes rs) ≡ partsOf bs p → Made st request bytes time bs p rs
+  made-last rs bs p t h = go (encoded st request bytes rs) refl h
     where
-      go : (x : Encoded) → encoded st bytes rs ≡ x → primaryPart x ≡ partsOf bs p → Made st bytes time bs p rs
+      go : (x : Encoded) → encoded st request bytes rs ≡ x → primaryPart x ≡ partsOf bs p → Made st request bytes time bs p rs
       go (noBytes r) e k = let z : _≡_ {A = ℕ} 0 1 = cc in absurd (omega arith)
       go (bytesOf q) e k =
           let s = same-parts [] bs q p k in
-          subst (λ (l : List Part). Made st bytes time l p rs) (s .blocks) (e ∙ ap bytesOf (s .primary), sym t)
+          subst (λ (l : List Part). Made st request bytes time l p rs) (s .blocks) (e ∙ ap bytesOf (s .primary), sym t)
 
-  made-more : (n : ℕ) (rs : List Row) (rest : Parts) (bs : List Part) (p : List ℕ) → ((cs : List Part) (q : List ℕ) → rest ≡ partsOf cs q → Made st bytes time cs q (drop n rs))
-      → redundantPart (difference time (firstTime (take n rs))) (encoded st bytes (take n rs)) rest ≡ partsOf bs p → Made st bytes time bs p rs
-  made-more n rs rest bs p ih h = go (encoded st bytes (take n rs)) refl h
+  made-more : (n : ℕ) (rs : List Row) (rest : Parts) (bs : List Part) (p : List ℕ) → ((cs : List Part) (q : List ℕ) → rest ≡ partsOf cs q → Made st request bytes time cs q (drop n rs))
+      → redundantPart (difference time (firstTime (take n rs))) (encoded st request bytes (take n rs)) rest ≡ partsOf bs p → Made st request bytes time bs p rs
+  made-more n rs rest bs p ih h = go (encoded st request bytes (take n rs)) refl h
     where
       offset : ℕ
       offset = difference time (firstTime (take n rs))
 
-      put : (q : List ℕ) → encoded st bytes (take n rs) ≡ bytesOf q → length q ≤ maxBlock → offset ≤ maxOffset → (x : Parts) → rest ≡ x
-          → prependPart (record { offset = offset; bytes = q }) x ≡ partsOf bs p → Made st bytes time bs p rs
+      put : (q : List ℕ) → encoded st request bytes (take n rs) ≡ bytesOf q → length q ≤ maxBlock → offset ≤ maxOffset → (x : Parts) → rest ≡ x
+          → prependPart (record { offset = offset; bytes = q }) x ≡ partsOf bs p → Made st request bytes time bs p rs
       put q e short near noParts r k = let z : _≡_ {A = ℕ} 0 1 = cc in absurd (omega arith)
       put q e short near (partsOf cs d) r k =
           let b : Part = record { offset = offset; bytes = q } in
           let s = same-parts (b ∷ cs) bs d p k in
-          subst (λ (l : List Part). Made st bytes time l p rs) (s .blocks)
+          subst (λ (l : List Part). Made st request bytes time l p rs) (s .blocks)
           (n, record { payload = e; offset = refl; near = near; short = short }, ih cs p (r ∙ ap (partsOf cs) (s .primary)))
 
-      go : (x : Encoded) → encoded st bytes (take n rs) ≡ x → redundantPart offset x rest ≡ partsOf bs p → Made st bytes time bs p rs
+      go : (x : Encoded) → encoded st request bytes (take n rs) ≡ x → redundantPart offset x rest ≡ partsOf bs p → Made st request bytes time bs p rs
       go (noBytes r) e k = let z : _≡_ {A = ℕ} 0 1 = cc in absurd (omega arith)
       go (bytesOf q) e k =
           let a = past (ltb maxBlock (length q)) _ bs p k in
           let b = past (ltb maxOffset offset) _ bs p (a .1) in
           put q e (ltb-false _ _ (a .0)) (ltb-false _ _ (b .0)) rest refl (b .1)
 
-  pub made : (counts : List ℕ) (rs : List Row) (bs : List Part) (p : List ℕ) → time ≡ primaryTime counts rs → parts st bytes time counts rs ≡ partsOf bs p → Made st bytes time bs p rs
+  pub made : (counts : List ℕ) (rs : List Row) (bs : List Part) (p : List ℕ) → time ≡ primaryTime counts rs → parts st request bytes time counts rs ≡ partsOf bs p → Made st request bytes time bs p rs
   unfolding primaryTime parts
   made [] rs bs p t h = let z : _≡_ {A = ℕ} 0 1 = cc in absurd (omega arith)
   made (n ∷ []) rs bs p t h = made-last rs bs p t h
-  made (n ∷ m ∷ ns) rs bs p t h = made-more n rs (parts st bytes time (m ∷ ns) (drop n rs)) bs p (λ cs q k. made (m ∷ ns) (drop n rs) cs q t k) h
+  made (n ∷ m ∷ ns) rs bs p t h = made-more n rs (parts st request bytes time (m ∷ ns) (drop n rs)) bs p (λ cs q k. made (m ∷ ns) (drop n rs) cs q t k) h

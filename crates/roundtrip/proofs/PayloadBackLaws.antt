@@ -2,25 +2,29 @@
 use mathlib.Core.Path.{_≡_, refl, ap, sym, _∙_, subst}
 use mathlib.Core.List.{List, [], _∷_, _++_, append-assoc}
 use mathlib.Core.Bool.{false}
-use Prim.Native.Nat.{ℕ, _+_, _≤_}
+use Prim.Native.Nat.{ℕ, _+_, _*_, _/_, _≤_}
 use native.Mathlib.Omega.{arith}
 use lib.ListN.{length, length-append}
+use lib.Seq.{drop-at}
+use lib.Dec.{eqb}
 use borrow.Author.Tests.{eq-eqb}
+use Rattle.rtp.proofs.TestLaws.{by-test}
 use Rattle.rtp.specs.Sizes.{maxRows}
 use Rattle.rtp.specs.declared.settings.Settings.{Settings}
-use Rattle.formats.specs.Formats.{stepOf}
-use Rattle.payload.specs.Contents.{Group, Contents, refused, groups, contents, rowCount, sizeIn, framesIn}
+use Rattle.formats.specs.Formats.{formatOf, stepOf}
+use Rattle.contents.specs.Contents.{Group, Contents, refused, groups, contents, rowCount, sizeIn, framesIn}
 use Rattle.payload.specs.Rows.{Row, tableRows}
-use Rattle.payload.specs.Payloads.{payload, Rows, rowsOf, placedRows, payloadRows}
+use Rattle.payload.specs.Payloads.{body, payload, requestOf, Rows, rowsOf, placedRows, payloadRows}
 use Rattle.payload.proofs.PayloadLaws.{length-table}
 use Rattle.encoder.specs.Lists.{outside, firstTime}
 use Rattle.encoder.specs.Plans.{plan}
-use Rattle.encoder.specs.Bytes.{tableBytes, frames}
+use Rattle.encoder.specs.Bytes.{requestBytes, tableBytes, frames}
 use Rattle.encoder.specs.Writings.{bytesOf, plannedBytes, encoded}
-use Rattle.payload.proofs.EntryLaws.{size-some}
+use Rattle.contents.proofs.EntryLaws.{size-some}
 use Rattle.encoder.proofs.EntryLaws.{length-table as length-table-bytes}
 use Rattle.encoder.proofs.FrameBytesLaws.{length-frames}
-use Rattle.roundtrip.specs.ReadingBack.{SameFrames}
+use Rattle.encoder.proofs.RequestLaws.{length-request}
+use Rattle.roundtrip.specs.ReadingBack.{readRequest, SameFrames}
 use Rattle.roundtrip.proofs.TableBackLaws.{Runs, table-back}
 use Rattle.roundtrip.proofs.TableBlockLaws.{blocksIn, table-blocks, Laid, laid-blocks}
 use Rattle.roundtrip.proofs.FrameLaws.{length-plains, laid-same}
@@ -35,75 +39,98 @@ pub record Back (s bytes : List ℕ) (rs : List Row) (x : Rows) : Type 0 where
   pub read : x ≡ rowsOf rows
   pub same : SameFrames s bytes rows rs
 
--- the payload p gives the rows of the list, at any place of a packet and after any rows that leave room
-pub record Reads (st : Settings) (bytes p : List ℕ) (rs : List Row) : Type 0 where
+-- the payload p gives the rows of the list, at any place of a packet and after any rows that leave room, and the mode request
+pub record Reads (st : Settings) (request : ℕ) (bytes p : List ℕ) (rs : List Row) : Type 0 where
   pub some : 1 ≤ length p
+  pub asked : requestOf (st .format) p ≡ readRequest (st .format) request
   pub back : (front rest : List ℕ) (done : ℕ) → done + length rs ≤ maxRows
       → Back (front ++ (p ++ rest)) bytes rs (payloadRows (st .format) (st .channels) done (firstTime rs) (length front) p)
 
-some-table : (format : ℕ) (gs : List Group) → 1 ≤ length gs → 1 ≤ sizeIn format gs
+pub some-table : (format : ℕ) (gs : List Group) → 1 ≤ length gs → 1 ≤ sizeIn format gs
 unfolding sizeIn
 some-table format [] h = absurd (omega arith)
 some-table format (g ∷ gs) h = omega (arith, size-some format (length (g .gaps)))
 
+-- the mode request
+pub request-back : (format request : ℕ) (rest : List ℕ) → requestOf format (requestBytes format request ++ rest) ≡ readRequest format request
+unfolding requestOf requestBytes readRequest
+request-back format request rest = by-test (eqb (formatOf format .header) 0) (λ a. rw a) (λ a. rw a (omega arith))
+
+-- and what follows it
+pub after-request : (format request : ℕ) (rest : List ℕ) → body format (requestBytes format request ++ rest) ≡ rest
+after-request format request rest = drop-at (requestBytes format request) rest (formatOf format .header) (length-request format request)
+
 -- a planned payload
-module _ (format ch : ℕ) (bytes : List ℕ) (rs : List Row) (gs : List Group) (v : Tabled format ch rs gs) (inside : outside (length bytes) rs ≡ false) where
+module _ (format request ch : ℕ) (bytes : List ℕ) (rs : List Row) (gs : List Group) (v : Tabled format ch rs gs) (inside : outside (length bytes) rs ≡ false) where
+  abbrev Table : List ℕ
+  Table = tableBytes format gs ++ frames bytes rs
+
   abbrev Planned : List ℕ
-  Planned = tableBytes format gs ++ frames bytes rs
+  Planned = requestBytes format request ++ Table
 
   abbrev PlannedRows : ℕ → List Row
   PlannedRows at = tableRows (stepOf format) ch (firstTime rs) (at + sizeIn format gs) gs
 
-  planned-length : length Planned ≡ sizeIn format gs + framesIn ch gs
-  planned-length =
+  table-length : length Table ≡ sizeIn format gs + framesIn ch gs
+  table-length =
       let e = frames-same (stepOf format) ch (firstTime rs) 0 rs gs (v .rows 0) in
       length-append (tableBytes format gs) (frames bytes rs) ∙ rw (length-table-bytes format gs, length-frames bytes rs inside, e)
 
   planned-few : length rs ≡ rowCount ch gs
   planned-few = sym (length-plains rs) ∙ ap (λ (l : List Row). length l) (v .rows 0) ∙ length-plains (tableRows (stepOf format) ch (firstTime rs) 0 gs) ∙ length-table (stepOf format) ch (firstTime rs) 0 gs
 
-  planned-contents : (done : ℕ) → done + length rs ≤ maxRows → contents format ch done Planned ≡ groups gs
+  planned-contents : (done : ℕ) → done + length rs ≤ maxRows → contents format ch done Table ≡ groups gs
   planned-contents done h = go gs (v .runs) (v .some) (omega (arith, planned-few))
     where
       go : (gs : List Group) → Runs format gs → 1 ≤ length gs → done + rowCount ch gs ≤ maxRows → contents format ch done (tableBytes format gs ++ frames bytes rs) ≡ groups gs
       go [] r n few = absurd (omega arith)
       go (g ∷ gs) r n few = table-back format ch done g gs (frames bytes rs) r few
 
-  planned-read : (done at : ℕ) → done + length rs ≤ maxRows → payloadRows format ch done (firstTime rs) at Planned ≡ rowsOf (PlannedRows at)
+  planned-read : (done at : ℕ) → done + length rs ≤ maxRows → payloadRows format ch done (firstTime rs) at Planned ≡ rowsOf (PlannedRows (at + formatOf format .header))
   unfolding payloadRows payload placedRows
-  planned-read done at h = rw (planned-contents done h, pass-none gs (v .first), eq-eqb (sizeIn format gs + framesIn ch gs) (length Planned) (sym planned-length))
+  planned-read done at h = rw (after-request format request Table, planned-contents done h, pass-none gs (v .first), eq-eqb (sizeIn format gs + framesIn ch gs) (length Table) (sym table-length))
 
   planned-laid : (at : ℕ) → Laid (at + sizeIn format gs) (PlannedRows at)
   planned-laid at =
       subst (Laid (at + sizeIn format gs)) (sym (table-blocks (stepOf format) ch (firstTime rs) (at + sizeIn format gs) gs))
       (laid-blocks (stepOf format) ch (firstTime rs) (at + sizeIn format gs) (blocksIn gs))
 
-  planned-same : (front rest : List ℕ) → SameFrames (front ++ (Planned ++ rest)) bytes (PlannedRows (length front)) rs
-  planned-same front rest =
+  table-same : (front rest : List ℕ) → SameFrames (front ++ (Table ++ rest)) bytes (PlannedRows (length front)) rs
+  table-same front rest =
       let n : length front + sizeIn format gs ≡ length (front ++ tableBytes format gs) = rw (length-append, length-table-bytes format gs) in
       let qs = PlannedRows (length front) in
       let s : SameFrames ((front ++ tableBytes format gs) ++ frames bytes rs) bytes qs rs =
       laid-same (front ++ tableBytes format gs) bytes qs rs (sym (v .rows (length front + sizeIn format gs))) (subst (λ (k : ℕ). Laid k qs) n (planned-laid (length front))) inside in
-      subst (λ (l : List ℕ). SameFrames l bytes qs rs) (append-assoc front Planned rest)
-      (same-longer (front ++ Planned) rest bytes qs rs inside (subst (λ (l : List ℕ). SameFrames l bytes qs rs) (append-assoc front (tableBytes format gs) (frames bytes rs)) s))
+      subst (λ (l : List ℕ). SameFrames l bytes qs rs) (append-assoc front Table rest)
+      (same-longer (front ++ Table) rest bytes qs rs inside (subst (λ (l : List ℕ). SameFrames l bytes qs rs) (append-assoc front (tableBytes format gs) (frames bytes rs)) s))
+
+  planned-same : (front rest : List ℕ) → SameFrames (front ++ (Planned ++ rest)) bytes (PlannedRows (length front + formatOf format .header)) rs
+  planned-same front rest =
+      let q = requestBytes format request in
+      let n : length (front ++ q) ≡ length front + formatOf format .header = length-append front q ∙ ap (λ (k : ℕ). length front + k) (length-request format request) in
+      let e : (front ++ q) ++ (Table ++ rest) ≡ front ++ (Planned ++ rest) = append-assoc front q (Table ++ rest) ∙ ap (λ (l : List ℕ). front ++ l) (sym (append-assoc q Table rest)) in
+      subst (λ (k : ℕ). SameFrames (front ++ (Planned ++ rest)) bytes (PlannedRows k) rs) n
+      (subst (λ (l : List ℕ). SameFrames l bytes (PlannedRows (length (front ++ q))) rs) e (table-same (front ++ q) rest))
 
 -- the payload of a list
-pub payload-back : (st : Settings) (bytes p : List ℕ) (rs : List Row) → 1 ≤ st .channels → Times rs → outside (length bytes) rs ≡ false → encoded st bytes rs ≡ bytesOf p → Reads st bytes p rs
+pub payload-back : (st : Settings) (request : ℕ) (bytes p : List ℕ) (rs : List Row) → 1 ≤ st .channels → Times rs → outside (length bytes) rs ≡ false → encoded st request bytes rs ≡ bytesOf p
+    → Reads st request bytes p rs
 unfolding encoded
-payload-back st bytes p rs some times inside h = go (plan (st .format) (st .channels) rs) refl h
+payload-back st request bytes p rs some times inside h = go (plan (st .format) (st .channels) rs) refl h
   where
     same : (q : List ℕ) → bytesOf q ≡ bytesOf p → q ≡ p
     same q e = cc
 
-    go : (x : Contents) → plan (st .format) (st .channels) rs ≡ x → plannedBytes (st .format) bytes rs x ≡ bytesOf p → Reads st bytes p rs
+    go : (x : Contents) → plan (st .format) (st .channels) rs ≡ x → plannedBytes (st .format) request bytes rs x ≡ bytesOf p → Reads st request bytes p rs
     go (refused q) e k = let z : _≡_ {A = ℕ} 0 1 = cc in absurd (omega arith)
     go (groups gs) e k =
         let v = plan-table (st .format) (st .channels) rs gs some times e in
-        subst (λ (q : List ℕ). Reads st bytes q rs) (same _ k) (record {
-          some = omega (arith, planned-length (st .format) (st .channels) bytes rs gs v inside, some-table (st .format) gs (v .some));
+        subst (λ (q : List ℕ). Reads st request bytes q rs) (same _ k) (record {
+          some = omega (arith, length-append (requestBytes (st .format) request) (tableBytes (st .format) gs ++ frames bytes rs), table-length (st .format) request (st .channels) bytes rs gs v inside, some-table (st .format) gs (v .some));
+          asked = request-back (st .format) request (tableBytes (st .format) gs ++ frames bytes rs);
           back = λ front rest done few. record {
-            rows = PlannedRows (st .format) (st .channels) bytes rs gs v inside (length front);
-            read = planned-read (st .format) (st .channels) bytes rs gs v inside done (length front) few;
-            same = planned-same (st .format) (st .channels) bytes rs gs v inside front rest;
+            rows = PlannedRows (st .format) request (st .channels) bytes rs gs v inside (length front + formatOf (st .format) .header);
+            read = planned-read (st .format) request (st .channels) bytes rs gs v inside done (length front) few;
+            same = planned-same (st .format) request (st .channels) bytes rs gs v inside front rest;
           };
         })

@@ -4,35 +4,37 @@ use mathlib.Core.List.{List, [], _∷_, _++_, append-nil}
 use mathlib.Core.Bool.{true, false}
 use Prim.Native.Nat.{ℕ, suc, _+_, _≤_, _<_}
 use native.Mathlib.Omega.{arith}
-use lib.ListN.{length}
+use lib.ListN.{length, length-drop}
 use lib.Dec.{ltb, eqb}
 use borrow.Author.Tests.{lt-ltb, le-ltb, ltb-true, ltb-false, eqb-true}
 use Rattle.rtp.specs.Sizes.{maxRows}
 use Rattle.rtp.specs.Ranges.{inRange}
+use Rattle.rtp.proofs.RedundancyLaws.{bytes-drop}
 use Rattle.rtp.specs.declared.settings.Settings.{Settings}
 use Rattle.rtp.specs.declared.refusal.Refusal.the-variants.{Unwritable, AreaTooShort}
 use Rattle.rtp.proofs.TestLaws.{by-test}
-use Rattle.formats.specs.Formats.{stepOf}
-use Rattle.payload.specs.Contents.{Group, Contents, refused, groups, contents, passFirst, rowCount, sizeIn, framesIn, sizesAnswer}
+use Rattle.formats.specs.Formats.{formatOf, stepOf}
+use Rattle.contents.specs.Contents.{Group, Contents, refused, groups, contents, passFirst, rowCount, sizeIn, framesIn, sizesAnswer}
 use Rattle.payload.specs.Rows.{Row, tableRows}
-use Rattle.payload.specs.Payloads.{exact, payload, rowsOf, placedRows, payloadRows}
-use Rattle.payload.proofs.ContentsLaws.{Small, Within, within}
+use Rattle.payload.specs.Payloads.{exact, body, payload, requestOf, rowsOf, placedRows, payloadRows}
+use Rattle.contents.proofs.ContentsLaws.{Small, Within, within}
 use Rattle.payload.proofs.FirstLaws.{sizes-passed}
 use Rattle.payload.specs.Rows.{rowsIn}
 use Rattle.encoder.specs.Lists.{firstTime, whole, outside}
 use Rattle.encoder.specs.Plans.{maxPayload, plan}
-use Rattle.encoder.specs.Bytes.{tableBytes, frames}
-use Rattle.encoder.specs.Writings.{noBytes, bytesOf, plannedBytes, encoded, roomFor, writing}
+use Rattle.encoder.specs.Bytes.{requestBytes, tableBytes, frames}
+use Rattle.encoder.specs.Writings.{noBytes, bytesOf, maxRequest, askable, plannedBytes, encoded, roomFor, writing}
 use Rattle.encoder.proofs.ListLaws.{length-rows}
 use Rattle.encoder.proofs.PayloadLaws.{listed, length-bytes}
+use Rattle.encoder.proofs.RequestLaws.{asked}
 use Rattle.encoder.proofs.WritingLaws.{in-range-some}
 use Rattle.roundtrip.specs.ReadingBack.{Bytes, Words, SameFrames, ReadsTo}
 use Rattle.roundtrip.specs.PayloadClaims.{RoundTrip, PayloadOf, Longer, Unreadable, Answer, written, unwritable, too-short, Writing}
-use Rattle.roundtrip.proofs.ByteLaws.{bytes-append, bytes-table, bytes-frames}
+use Rattle.roundtrip.proofs.ByteLaws.{bytes-append, bytes-request, bytes-table, bytes-frames}
 use Rattle.roundtrip.proofs.FrameLaws.{plains, same-plains}
 use Rattle.roundtrip.proofs.PlanRowLaws.{Times}
 use Rattle.roundtrip.proofs.PlanTableLaws.{Only, only-plan, plan-table, Plan, table-plan}
-use Rattle.roundtrip.proofs.PayloadBackLaws.{payload-back}
+use Rattle.roundtrip.proofs.PayloadBackLaws.{some-table, request-back, payload-back}
 use Rattle.roundtrip.proofs.ReadLaws.{read-passed}
 
 -- A list's times
@@ -46,45 +48,46 @@ times (a ∷ b ∷ c ∷ []) h = tt
 times (a ∷ b ∷ c ∷ d ∷ ws) h = (h 0, times ws (λ i. h (suc (suc (suc (suc i))))))
 
 -- a list that there is a plan for, and what is written of it
-module _ (st : Settings) (ws bytes : List ℕ) (words : Words ws) (range : inRange st ≡ true) (inside : outside (length bytes) (rowsIn ws) ≡ false) where
+module _ (st : Settings) (request : ℕ) (ws bytes : List ℕ) (words : Words ws) (range : inRange st ≡ true) (inside : outside (length bytes) (rowsIn ws) ≡ false) where
   module _ (gs : List Group) (h : plan (st .format) (st .channels) (rowsIn ws) ≡ groups gs) where
-    written-length : length (tableBytes (st .format) gs ++ frames bytes (rowsIn ws)) ≤ maxPayload
+    written-length : length (requestBytes (st .format) request ++ (tableBytes (st .format) gs ++ frames bytes (rowsIn ws))) ≤ maxPayload
     written-length =
-        omega (arith, length-bytes (st .format) (st .channels) ws bytes gs (in-range-some st range) inside h, listed (st .format) (st .channels) ws gs h .fits)
+        omega (arith, length-bytes (st .format) request (st .channels) ws bytes gs (in-range-some st range) inside h, listed (st .format) (st .channels) ws gs h .fits)
 
-    written-reads : whole ws ≡ true → ReadsTo st (tableBytes (st .format) gs ++ frames bytes (rowsIn ws)) bytes ws
+    written-reads : whole ws ≡ true → ReadsTo st (requestBytes (st .format) request ++ (tableBytes (st .format) gs ++ frames bytes (rowsIn ws))) bytes ws
     unfolding encoded
     written-reads w =
-        let p = tableBytes (st .format) gs ++ frames bytes (rowsIn ws) in
+        let p = requestBytes (st .format) request ++ (tableBytes (st .format) gs ++ frames bytes (rowsIn ws)) in
         let few : 0 + length (rowsIn ws) ≤ maxRows = omega (arith, length-rows ws, listed (st .format) (st .channels) ws gs h .few) in
-        let b = payload-back st bytes p (rowsIn ws) (in-range-some st range) (times ws words) inside (rw h) .back [] [] 0 few in
+        let b = payload-back st request bytes p (rowsIn ws) (in-range-some st range) (times ws words) inside (rw h) .back [] [] 0 few in
         record { whole-rows = w; rows = b .rows; read = b .read; same = subst (λ (q : List ℕ). SameFrames q bytes (b .rows) (rowsIn ws)) (append-nil p) (b .same) }
 
-    written-bytes : Bytes bytes → Bytes (tableBytes (st .format) gs ++ frames bytes (rowsIn ws))
-    written-bytes bs =
+    written-bytes : request ≤ maxRequest → Bytes bytes → Bytes (requestBytes (st .format) request ++ (tableBytes (st .format) gs ++ frames bytes (rowsIn ws)))
+    written-bytes small bs =
         let v = plan-table (st .format) (st .channels) (rowsIn ws) gs (in-range-some st range) (times ws words) h in
-        bytes-append (tableBytes (st .format) gs) (frames bytes (rowsIn ws)) (bytes-table (st .format) (st .channels) gs (in-range-some st range) (v .runs) (v .few))
-        (bytes-frames bytes (rowsIn ws) bs)
+        bytes-append (requestBytes (st .format) request) (tableBytes (st .format) gs ++ frames bytes (rowsIn ws)) (bytes-request (st .format) request small)
+        (bytes-append (tableBytes (st .format) gs) (frames bytes (rowsIn ws)) (bytes-table (st .format) (st .channels) gs (in-range-some st range) (v .runs) (v .few))
+        (bytes-frames bytes (rowsIn ws) bs))
 
 -- Round trip
 
 -- what stands behind bytes that are given
-record Success (st : Settings) (ws bytes p : List ℕ) : Type 0 where
+record Success (st : Settings) (request : ℕ) (ws bytes p : List ℕ) : Type 0 where
   range : inRange st ≡ true
   inside : outside (length bytes) (rowsIn ws) ≡ false
   all : whole ws ≡ true
   table : List Group
   is : plan (st .format) (st .channels) (rowsIn ws) ≡ groups table
-  same : tableBytes (st .format) table ++ frames bytes (rowsIn ws) ≡ p
+  same : requestBytes (st .format) request ++ (tableBytes (st .format) table ++ frames bytes (rowsIn ws)) ≡ p
 
-success : (st : Settings) (ws bytes : List ℕ) (area : ℕ) (p : List ℕ) → writing st ws bytes area ≡ bytesOf p → Success st ws bytes p
+success : (st : Settings) (request : ℕ) (ws bytes : List ℕ) (area : ℕ) (p : List ℕ) → writing st request ws bytes area ≡ bytesOf p → Success st request ws bytes p
 unfolding writing encoded
-success st ws bytes area p h =
-    by-test (inRange st)
+success st request ws bytes area p h =
+    by-test (askable st request)
     (λ a. by-test (outside (length bytes) (rowsIn ws))
     (λ b. let k = rw (a, b) at h in let z : _≡_ {A = ℕ} 0 1 = cc in absurd (omega arith))
     (λ b. by-test (whole ws)
-    (λ c. go a b c (plan (st .format) (st .channels) (rowsIn ws)) refl (rw (a, b, c) at h))
+    (λ c. go (asked st request a .settings) b c (plan (st .format) (st .channels) (rowsIn ws)) refl (rw (a, b, c) at h))
     (λ c. let k = rw (a, b, c) at h in let z : _≡_ {A = ℕ} 0 1 = cc in absurd (omega arith))))
     (λ a. let k = rw a at h in let z : _≡_ {A = ℕ} 0 1 = cc in absurd (omega arith))
   where
@@ -92,20 +95,21 @@ success st ws bytes area p h =
     same q e = cc
 
     go : inRange st ≡ true → outside (length bytes) (rowsIn ws) ≡ false → whole ws ≡ true → (x : Contents) → plan (st .format) (st .channels) (rowsIn ws) ≡ x
-        → roomFor area (plannedBytes (st .format) bytes (rowsIn ws) x) ≡ bytesOf p → Success st ws bytes p
+        → roomFor area (plannedBytes (st .format) request bytes (rowsIn ws) x) ≡ bytesOf p → Success st request ws bytes p
     go a b c (refused q) e k = let z : _≡_ {A = ℕ} 0 1 = cc in absurd (omega arith)
     go a b c (groups gs) e k =
-        let q = tableBytes (st .format) gs ++ frames bytes (rowsIn ws) in
+        let q = requestBytes (st .format) request ++ (tableBytes (st .format) gs ++ frames bytes (rowsIn ws)) in
         by-test (ltb area (length q))
         (λ t. let y = rw t at k in let z : _≡_ {A = ℕ} 0 1 = cc in absurd (omega arith))
         (λ t. record { range = a; inside = b; all = c; table = gs; is = e; same = same q (rw t at k) })
 
 pub round-trip : RoundTrip
-round-trip st ws bytes area p words h =
-    let w = success st ws bytes area p h in
-    let l = written-length st ws bytes words (w .range) (w .inside) (w .table) (w .is) in (
+round-trip st request ws bytes area p words h =
+    let w = success st request ws bytes area p h in
+    let l = written-length st request ws bytes words (w .range) (w .inside) (w .table) (w .is) in (
       omega (arith, ap (λ (q : List ℕ). length q) (w .same)),
-      subst (λ (q : List ℕ). ReadsTo st q bytes ws) (w .same) (written-reads st ws bytes words (w .range) (w .inside) (w .table) (w .is) (w .all)),
+      subst (λ (q : List ℕ). ReadsTo st q bytes ws) (w .same) (written-reads st request ws bytes words (w .range) (w .inside) (w .table) (w .is) (w .all)),
+      ap (requestOf (st .format)) (sym (w .same)) ∙ request-back (st .format) request (tableBytes (st .format) (w .table) ++ frames bytes (rowsIn ws)),
     )
 
 -- A payload that reads to a list
@@ -113,21 +117,21 @@ round-trip st ws bytes area p words h =
 -- the table of a payload that reads to rows
 record Parsed (format ch time : ℕ) (p : List ℕ) (rows : List Row) : Type 0 where
   table : List Group
-  is : passFirst (contents format ch 0 p) ≡ groups table
-  size : sizeIn format table + framesIn ch table ≡ length p
-  same : tableRows (stepOf format) ch time (0 + sizeIn format table) table ≡ rows
+  is : passFirst (contents format ch 0 (body format p)) ≡ groups table
+  size : sizeIn format table + framesIn ch table ≡ length (body format p)
+  same : tableRows (stepOf format) ch time (0 + formatOf format .header + sizeIn format table) table ≡ rows
 
 parsed : (format ch time : ℕ) (p : List ℕ) (rows : List Row) → payloadRows format ch 0 time 0 p ≡ rowsOf rows → Parsed format ch time p rows
 unfolding payloadRows payload placedRows
-parsed format ch time p rows h = go (passFirst (contents format ch 0 p)) refl h
+parsed format ch time p rows h = go (passFirst (contents format ch 0 (body format p))) refl h
   where
     same-rows : (a b : List Row) → rowsOf a ≡ rowsOf b → a ≡ b
     same-rows a b e = cc
 
-    go : (x : Contents) → passFirst (contents format ch 0 p) ≡ x → placedRows format ch time 0 (exact format ch (length p) x) ≡ rowsOf rows → Parsed format ch time p rows
+    go : (x : Contents) → passFirst (contents format ch 0 (body format p)) ≡ x → placedRows format ch time (0 + formatOf format .header) (exact format ch (length (body format p)) x) ≡ rowsOf rows → Parsed format ch time p rows
     go (refused q) e k = let z : _≡_ {A = ℕ} 0 1 = cc in absurd (omega arith)
     go (groups gs) e k =
-        by-test (eqb (sizeIn format gs + framesIn ch gs) (length p))
+        by-test (eqb (sizeIn format gs + framesIn ch gs) (length (body format p)))
         (λ t. record { table = gs; is = e; size = eqb-true _ _ t; same = same-rows _ rows (rw t at k) })
         (λ t. let y = rw t at k in let z : _≡_ {A = ℕ} 0 1 = cc in absurd (omega arith))
 
@@ -143,9 +147,11 @@ readable-plan : (st : Settings) (ws bytes p : List ℕ) → Words ws → inRange
     → Plan (st .format) (st .channels) (rowsIn ws)
 readable-plan st ws bytes p words range bs l r =
     let k = parsed (st .format) (st .channels) (firstTime (rowsIn ws)) p (r .rows) (r .read) in
-    let v = read-passed (st .format) (st .channels) 0 p (k .table) bs (k .is) in
-    table-plan (st .format) (st .channels) (0 + sizeIn (st .format) (k .table)) (rowsIn ws) (k .table) (in-range-some st range) (times ws words) (v .0) (v .1)
-    (few-rows (st .format) (st .channels) p (k .table) (k .is)) (omega (arith, k .size)) (sym (same-plains p bytes (r .rows) (rowsIn ws) (r .same)) ∙ ap plains (sym (k .same)))
+    let q = body (st .format) p in
+    let v = read-passed (st .format) (st .channels) 0 q (k .table) (bytes-drop (formatOf (st .format) .header) p bs) (k .is) in
+    table-plan (st .format) (st .channels) (0 + formatOf (st .format) .header + sizeIn (st .format) (k .table)) (rowsIn ws) (k .table) (in-range-some st range) (times ws words) (v .0) (v .1)
+    (few-rows (st .format) (st .channels) q (k .table) (k .is))
+    (omega (arith, k .size, some-table (st .format) (k .table) (v .1), length-drop (formatOf (st .format) .header) p)) (sym (same-plains p bytes (r .rows) (rowsIn ws) (r .same)) ∙ ap plains (sym (k .same)))
 
 -- Writing
 
@@ -168,93 +174,94 @@ room area p =
     (λ t. let l = ltb-false area (length p) t in there l (some-room area p l))
 
 -- a list has a payload, or writing it is 13
-data Due (st : Settings) (ws bytes : List ℕ) (area : ℕ) : Type 0 where
-  none : writing st ws bytes area ≡ noBytes Unwritable → Due st ws bytes area
-  some : (p : List ℕ) → PayloadOf st ws bytes p → writing st ws bytes area ≡ roomFor area (bytesOf p) → Due st ws bytes area
+data Due (st : Settings) (request : ℕ) (ws bytes : List ℕ) (area : ℕ) : Type 0 where
+  none : writing st request ws bytes area ≡ noBytes Unwritable → Due st request ws bytes area
+  some : (p : List ℕ) → PayloadOf st request ws bytes p → writing st request ws bytes area ≡ roomFor area (bytesOf p) → Due st request ws bytes area
 
-module _ (st : Settings) (ws bytes : List ℕ) (area : ℕ) (words : Words ws) (bs : Bytes bytes) (range : inRange st ≡ true) (inside : outside (length bytes) (rowsIn ws) ≡ false) where
-  writing-room : whole ws ≡ true → writing st ws bytes area ≡ roomFor area (encoded st bytes (rowsIn ws))
+module _ (st : Settings) (request : ℕ) (ws bytes : List ℕ) (area : ℕ) (words : Words ws) (bs : Bytes bytes) (range : askable st request ≡ true) (inside : outside (length bytes) (rowsIn ws) ≡ false) where
+  writing-room : whole ws ≡ true → writing st request ws bytes area ≡ roomFor area (encoded st request bytes (rowsIn ws))
   unfolding writing
   writing-room w = rw (range, inside, w)
 
-  writing-cut : whole ws ≡ false → writing st ws bytes area ≡ noBytes Unwritable
+  writing-cut : whole ws ≡ false → writing st request ws bytes area ≡ noBytes Unwritable
   unfolding writing
   writing-cut w = rw (range, inside, w)
 
-  planned-encoded : (x : Contents) → plan (st .format) (st .channels) (rowsIn ws) ≡ x → encoded st bytes (rowsIn ws) ≡ plannedBytes (st .format) bytes (rowsIn ws) x
+  planned-encoded : (x : Contents) → plan (st .format) (st .channels) (rowsIn ws) ≡ x → encoded st request bytes (rowsIn ws) ≡ plannedBytes (st .format) request bytes (rowsIn ws) x
   unfolding encoded
-  planned-encoded x e = ap (plannedBytes (st .format) bytes (rowsIn ws)) e
+  planned-encoded x e = ap (plannedBytes (st .format) request bytes (rowsIn ws)) e
 
-  due : Due st ws bytes area
+  due : Due st request ws bytes area
   due = by-test (whole ws) (λ w. go w (plan (st .format) (st .channels) (rowsIn ws)) refl (only-plan (st .format) (st .channels) (rowsIn ws))) (λ w. none (writing-cut w))
     where
-      go : whole ws ≡ true → (x : Contents) → plan (st .format) (st .channels) (rowsIn ws) ≡ x → Only (plan (st .format) (st .channels) (rowsIn ws)) → Due st ws bytes area
+      go : whole ws ≡ true → (x : Contents) → plan (st .format) (st .channels) (rowsIn ws) ≡ x → Only (plan (st .format) (st .channels) (rowsIn ws)) → Due st request ws bytes area
       go w (refused q) e o = none (writing-room w ∙ ap (roomFor area) (planned-encoded (refused q) e) ∙ ap noBytes (subst Only e o))
       go w (groups gs) e o =
-          some (tableBytes (st .format) gs ++ frames bytes (rowsIn ws)) (record {
+          some (requestBytes (st .format) request ++ (tableBytes (st .format) gs ++ frames bytes (rowsIn ws))) (record {
             canonical = planned-encoded (groups gs) e;
-            made = written-bytes st ws bytes words range inside gs e bs;
-            short = written-length st ws bytes words range inside gs e;
-            reads = written-reads st ws bytes words range inside gs e w;
+            made = written-bytes st request ws bytes words (asked st request range .settings) inside gs e (asked st request range .small) bs;
+            short = written-length st request ws bytes words (asked st request range .settings) inside gs e;
+            reads = written-reads st request ws bytes words (asked st request range .settings) inside gs e w;
+            request-read = request-back (st .format) request (tableBytes (st .format) gs ++ frames bytes (rowsIn ws));
           }) (writing-room w ∙ ap (roomFor area) (planned-encoded (groups gs) e))
 
   -- one of the three
-  answer : Due st ws bytes area → Answer st ws bytes area
+  answer : Due st request ws bytes area → Answer st request ws bytes area
   answer (none h) = unwritable h
   answer (some p k h) = by-room (room area p)
     where
-      by-room : Room area p → Answer st ws bytes area
+      by-room : Room area p → Answer st request ws bytes area
       by-room (lacking l e) = too-short (h ∙ e)
       by-room (there l e) = written p (h ∙ e)
 
   -- the payload, where there is room for it
-  to-payload : (p : List ℕ) → Due st ws bytes area → writing st ws bytes area ≡ bytesOf p → PayloadOf st ws bytes p × (length p ≤ area)
+  to-payload : (p : List ℕ) → Due st request ws bytes area → writing st request ws bytes area ≡ bytesOf p → PayloadOf st request ws bytes p × (length p ≤ area)
   to-payload p (none h) e = let k : noBytes Unwritable ≡ bytesOf p = sym h ∙ e in let z : _≡_ {A = ℕ} 0 1 = cc in absurd (omega arith)
   to-payload p (some q k h) e = by-room (room area q)
     where
-      by-room : Room area q → PayloadOf st ws bytes p × (length p ≤ area)
+      by-room : Room area q → PayloadOf st request ws bytes p × (length p ≤ area)
       by-room (lacking l r) = let y : noBytes AreaTooShort ≡ bytesOf p = sym r ∙ sym h ∙ e in let z : _≡_ {A = ℕ} 0 1 = cc in absurd (omega arith)
       by-room (there l r) =
           let y : bytesOf q ≡ bytesOf p = sym r ∙ sym h ∙ e in
           let same : q ≡ p = cc in
-          subst (λ (t : List ℕ). PayloadOf st ws bytes t × (length t ≤ area)) same (k, l)
+          subst (λ (t : List ℕ). PayloadOf st request ws bytes t × (length t ≤ area)) same (k, l)
 
-  from-payload : (p : List ℕ) → PayloadOf st ws bytes p × (length p ≤ area) → writing st ws bytes area ≡ bytesOf p
+  from-payload : (p : List ℕ) → PayloadOf st request ws bytes p × (length p ≤ area) → writing st request ws bytes area ≡ bytesOf p
   from-payload p h = writing-room (h .0 .reads .whole-rows) ∙ ap (roomFor area) (h .0 .canonical) ∙ some-room area p (h .1)
 
   -- 13, where no bytes read to the list
-  to-unreadable : writing st ws bytes area ≡ noBytes Unwritable → Unreadable st ws bytes
+  to-unreadable : writing st request ws bytes area ≡ noBytes Unwritable → Unreadable st ws bytes
   to-unreadable h p ps l r =
-      let k = readable-plan st ws bytes p words range ps (omega (arith, l)) r in
-      let q = tableBytes (st .format) (k .table) ++ frames bytes (rowsIn ws) in
+      let k = readable-plan st ws bytes p words (asked st request range .settings) ps (omega (arith, l)) r in
+      let q = requestBytes (st .format) request ++ (tableBytes (st .format) (k .table) ++ frames bytes (rowsIn ws)) in
       by-room q (sym h ∙ writing-room (r .whole-rows) ∙ ap (roomFor area) (planned-encoded (groups (k .table)) (k .is))) (room area q)
     where
       by-room : (q : List ℕ) → noBytes Unwritable ≡ roomFor area (bytesOf q) → Room area q → ⊥
       by-room q e (lacking l r) = let y : noBytes Unwritable ≡ noBytes AreaTooShort = e ∙ r in let z : _≡_ {A = ℕ} 0 1 = cc in absurd (omega arith)
       by-room q e (there l r) = let y : noBytes Unwritable ≡ bytesOf q = e ∙ r in let z : _≡_ {A = ℕ} 0 1 = cc in absurd (omega arith)
 
-  from-unreadable : Due st ws bytes area → Unreadable st ws bytes → writing st ws bytes area ≡ noBytes Unwritable
+  from-unreadable : Due st request ws bytes area → Unreadable st ws bytes → writing st request ws bytes area ≡ noBytes Unwritable
   from-unreadable (none h) u = h
   from-unreadable (some p k h) u = absurd (u p (k .made) (omega (arith, k .short)) (k .reads))
 
   -- 12, where the area is shorter than the payload
-  to-longer : Due st ws bytes area → writing st ws bytes area ≡ noBytes AreaTooShort → Longer st ws bytes area
+  to-longer : Due st request ws bytes area → writing st request ws bytes area ≡ noBytes AreaTooShort → Longer st request ws bytes area
   to-longer (none h) e = let k : noBytes Unwritable ≡ noBytes AreaTooShort = sym h ∙ e in let z : _≡_ {A = ℕ} 0 1 = cc in absurd (omega arith)
   to-longer (some p k h) e = by-room (room area p)
     where
-      by-room : Room area p → Longer st ws bytes area
+      by-room : Room area p → Longer st request ws bytes area
       by-room (lacking l r) = record { payload = p; of-list = k; longer = omega (arith, l) }
       by-room (there l r) = let y : bytesOf p ≡ noBytes AreaTooShort = sym r ∙ sym h ∙ e in let z : _≡_ {A = ℕ} 0 1 = cc in absurd (omega arith)
 
-  from-longer : Longer st ws bytes area → writing st ws bytes area ≡ noBytes AreaTooShort
+  from-longer : Longer st request ws bytes area → writing st request ws bytes area ≡ noBytes AreaTooShort
   from-longer h = writing-room (h .of-list .reads .whole-rows) ∙ ap (roomFor area) (h .of-list .canonical) ∙ no-room area (h .payload) (omega (arith, h .longer))
 
 pub demand-2 : Writing
-demand-2 st ws bytes area words bs range inside =
-    let d = due st ws bytes area words bs range inside in
+demand-2 st request ws bytes area words bs range inside =
+    let d = due st request ws bytes area words bs range inside in
     record {
-      answers = answer st ws bytes area words bs range inside d;
-      written-exactly = λ p. (to-payload st ws bytes area words bs range inside p d, from-payload st ws bytes area words bs range inside p);
-      unwritable-exactly = (to-unreadable st ws bytes area words bs range inside, from-unreadable st ws bytes area words bs range inside d);
-      too-short-exactly = (to-longer st ws bytes area words bs range inside d, from-longer st ws bytes area words bs range inside);
+      answers = answer st request ws bytes area words bs range inside d;
+      written-exactly = λ p. (to-payload st request ws bytes area words bs range inside p d, from-payload st request ws bytes area words bs range inside p);
+      unwritable-exactly = (to-unreadable st request ws bytes area words bs range inside, from-unreadable st request ws bytes area words bs range inside d);
+      too-short-exactly = (to-longer st request ws bytes area words bs range inside d, from-longer st request ws bytes area words bs range inside);
     }

@@ -10,7 +10,7 @@ use lib.Dec.{eqb}
 use borrow.Author.Tests.{lt-ltb, eq-eqb, ne-eqb}
 use Rattle.rtp.specs.declared.refusal.Refusal.the-variants.{Unwritable}
 use Rattle.formats.specs.Formats.{stepOf}
-use Rattle.payload.specs.Contents.{Group, Contents, refused, groups}
+use Rattle.contents.specs.Contents.{Group, Contents, refused, groups}
 use Rattle.payload.specs.Rows.{Row, placed, blockRows}
 use Rattle.formats.specs.Codes.{noCode, codeFor}
 use Rattle.formats.proofs.FormatLaws.{gap-small}

@@ -9,7 +9,7 @@ use borrow.Author.Tests.{eq-eqb, ne-eqb, ltb-true, eqb-true}
 use Rattle.rtp.proofs.TestLaws.{both}
 use Rattle.rtp.specs.declared.refusal.Refusal.the-variants.{Unwritable}
 use Rattle.formats.specs.Formats.{stepOf}
-use Rattle.payload.specs.Contents.{Group, Contents, refused, groups}
+use Rattle.contents.specs.Contents.{Group, Contents, refused, groups}
 use Rattle.payload.specs.Rows.{Row, placed, nextPlace, blockRows}
 use Rattle.formats.specs.Codes.{noCode, codeFor}
 use Rattle.encoder.specs.Plans.{ticksAfter, gapBetween, continues, follows, attach, planFrom}

@@ -11,10 +11,10 @@ use borrow.Author.Tests.{le-ltb, ltb-false, eq-eqb}
 use Rattle.rtp.specs.Sizes.{maxRows}
 use Rattle.rtp.specs.declared.refusal.Refusal.the-variants.{Unwritable}
 use Rattle.formats.specs.Formats.{stepOf, maxGap}
-use Rattle.payload.specs.Contents.{Group, Contents, refused, groups, rowCount, sizeIn, framesIn}
+use Rattle.contents.specs.Contents.{Group, Contents, refused, groups, rowCount, framesIn}
 use Rattle.payload.specs.Rows.{Row, tableRows}
 use Rattle.payload.proofs.PayloadLaws.{length-table}
-use Rattle.encoder.specs.Plans.{maxPayload, gapBetween, nextChannel, follows, joins, headGap, attach, planFrom, stepBefore, fitting, plan}
+use Rattle.encoder.specs.Plans.{maxPayload, gapBetween, nextChannel, follows, joins, headGap, attach, planFrom, stepBefore, payloadSize, fitting, plan}
 use Rattle.encoder.specs.Lists.{firstTime}
 use Rattle.encoder.specs.Room.{lengthsIn}
 use Rattle.encoder.proofs.PayloadLaws.{fitted}
@@ -53,7 +53,7 @@ only-from format ch c p (r ∷ rs) =
 
 only-fitting : (format ch : ℕ) (x : Contents) → Only x → Only (fitting format ch x)
 only-fitting format ch (refused q) h = h
-only-fitting format ch (groups gs) h = only-either (ltb maxPayload (sizeIn format gs + framesIn ch gs)) (refused Unwritable) (groups gs) refl tt
+only-fitting format ch (groups gs) h = only-either (ltb maxPayload (payloadSize format ch gs)) (refused Unwritable) (groups gs) refl tt
 
 pub only-plan : (format ch : ℕ) (rs : List Row) → Only (plan format ch rs)
 unfolding plan
@@ -82,7 +82,7 @@ pub record Tabled (format ch : ℕ) (rs : List Row) (gs : List Group) : Type 0 w
   pub first : firstGap gs ≡ 0
   pub some : 1 ≤ length gs
   pub few : rowCount ch gs ≤ maxRows
-  pub fits : sizeIn format gs + framesIn ch gs ≤ maxPayload
+  pub fits : payloadSize format ch gs ≤ maxPayload
 
 passed : (t : Bool) (x : Contents) (gs : List Group) → cond t (refused Unwritable) x ≡ groups gs → (t ≡ false) × (x ≡ groups gs)
 passed true x gs h = let z : _≡_ {A = ℕ} 0 1 = cc in absurd (omega arith)
@@ -137,16 +137,16 @@ some-rows format ch [] some v n = absurd (omega arith)
 some-rows format ch (h ∷ hs) some v n = omega (arith, v .0 .some, le-mul-of-pos-right (length (h .gaps)) some)
 
 plan-fits : (format ch : ℕ) (r : Row) (rs : List Row) (gs : List Group) → length (r ∷ rs) ≤ maxRows → planFrom format ch 0 (stepBefore format r) (r ∷ rs) ≡ groups gs
-    → sizeIn format gs + framesIn ch gs ≤ maxPayload → plan format ch (r ∷ rs) ≡ groups gs
+    → payloadSize format ch gs ≤ maxPayload → plan format ch (r ∷ rs) ≡ groups gs
 unfolding plan
-plan-fits format ch r rs gs few h fits = rw (le-ltb maxRows (length (r ∷ rs)) few, h) (rw (le-ltb maxPayload (sizeIn format gs + framesIn ch gs) fits))
+plan-fits format ch r rs gs few h fits = rw (le-ltb maxRows (length (r ∷ rs)) few, h) (rw (le-ltb maxPayload (payloadSize format ch gs) fits))
 
 pub record Plan (format ch : ℕ) (rs : List Row) : Type 0 where
   pub table : List Group
   pub is : plan format ch rs ≡ groups table
 
 pub table-plan : (format ch start : ℕ) (rs : List Row) (hs : List Group) → 1 ≤ ch → Times rs → Runs format hs → 1 ≤ length hs → rowCount ch hs ≤ maxRows
-    → sizeIn format hs + framesIn ch hs ≤ maxPayload → plains rs ≡ plains (tableRows (stepOf format) ch (firstTime rs) start hs) → Plan format ch rs
+    → payloadSize format ch hs ≤ maxPayload → plains rs ≡ plains (tableRows (stepOf format) ch (firstTime rs) start hs) → Plan format ch rs
 table-plan format ch start [] hs some ts v nh few fits h = absurd (omega (arith, some-rows format ch hs some v nh, rows-same (stepOf format) ch 0 start [] hs h))
 table-plan format ch start (r ∷ rs) hs some ts v nh few fits h =
     let step = stepOf format in

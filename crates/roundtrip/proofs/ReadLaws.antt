@@ -12,12 +12,12 @@ use Rattle.rtp.proofs.TestLaws.{by-test}
 use Rattle.rtp.proofs.RedundancyLaws.{Bytes, bytes-drop}
 use Rattle.formats.specs.Formats.{formatOf, maxGap}
 use Rattle.formats.specs.declared.frames.Coded.{Coded}
-use Rattle.payload.specs.declared.contents.Entry.{Entry}
-use Rattle.payload.specs.declared.contents.EntryRead.{EntryRead}
+use Rattle.contents.specs.declared.entries.Entry.{Entry}
+use Rattle.contents.specs.declared.entries.EntryRead.{EntryRead}
 use Rattle.formats.specs.Frames.{frameOf}
-use Rattle.payload.specs.Contents.{minEntry, codeIn, blocksIn, entrySize, codedEntry, entryOf, Group, Contents, refused, groups, halfAt, gapAt, gapsFrom, meaning, prepend, contentsStep, contents, direct, passFirst}
-use Rattle.payload.proofs.EntryLaws.{past, same-entry, code-in, fair}
-use Rattle.payload.proofs.ContentsLaws.{contents-step, shorter, blocks-of}
+use Rattle.contents.specs.Contents.{minEntry, codeIn, blocksIn, entrySize, codedEntry, entryOf, Group, Contents, refused, groups, halfAt, gapAt, gapsFrom, meaning, prepend, contentsStep, contents, direct, passFirst}
+use Rattle.contents.proofs.EntryLaws.{past, same-entry, code-in, fair}
+use Rattle.contents.proofs.ContentsLaws.{contents-step, shorter, blocks-of}
 use Rattle.payload.proofs.FirstLaws.{length-direct}
 use Rattle.formats.specs.Codes.{noCode, codeFor}
 use Rattle.encoder.specs.Plans.{headGap}

@@ -8,7 +8,7 @@ use lib.ListN.{length, getD, length-append}
 use borrow.Author.Tests.{le-leb}
 use Rattle.rtp.proofs.TestLaws.{by-test, not-both}
 use Rattle.formats.specs.Formats.{formatOf, maxGap}
-use Rattle.payload.specs.Contents.{gapsSize, entrySize, Group, Contents, groups, sizeIn}
+use Rattle.contents.specs.Contents.{gapsSize, entrySize, Group, Contents, groups, sizeIn}
 use Rattle.payload.specs.Rows.{Row}
 use Rattle.encoder.specs.Plans.{headGap, joins, attach}
 use Rattle.encoder.proofs.PlanLaws.{joins-true}

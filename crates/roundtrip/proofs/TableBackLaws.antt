@@ -8,8 +8,8 @@ use lib.ListN.{length}
 use lib.Seq.{drop-at}
 use Rattle.rtp.specs.Sizes.{maxRows}
 use Rattle.formats.specs.Formats.{maxGap}
-use Rattle.payload.specs.Contents.{Group, groups, meaning, prepend, contents, rowCount}
-use Rattle.payload.proofs.ContentsLaws.{contents-last, contents-more}
+use Rattle.contents.specs.Contents.{Group, groups, meaning, prepend, contents, rowCount}
+use Rattle.contents.proofs.ContentsLaws.{contents-last, contents-more}
 use Rattle.encoder.specs.Plans.{headGap}
 use Rattle.encoder.specs.Bytes.{entryBytes, tableBytes}
 use Rattle.encoder.proofs.EntryLaws.{length-entry}

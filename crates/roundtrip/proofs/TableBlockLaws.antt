@@ -5,7 +5,7 @@ use Prim.Native.Nat.{ℕ, zero, suc, _+_, _*_}
 use native.Mathlib.Omega.{arith}
 use native.Mathlib.Nat.{zero-mul, suc-mul, add-mul, add-zero}
 use lib.ListN.{length}
-use Rattle.payload.specs.Contents.{Group, framesIn}
+use Rattle.contents.specs.Contents.{Group, framesIn}
 use Rattle.encoder.specs.Room.{lengthsIn}
 use Rattle.payload.specs.Rows.{Row, placed, nextPlace, timeAfter, blockRows, groupRows, tableRows}
 

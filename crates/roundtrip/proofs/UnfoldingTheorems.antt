@@ -1,6 +1,6 @@
 -- Tables of contents and block headers unfold with no fuel.
 use Rattle.rtp.proofs.RedundancyLaws.{headers-step}
-use Rattle.payload.proofs.ContentsLaws.{contents-step}
+use Rattle.contents.proofs.ContentsLaws.{contents-step}
 use Rattle.roundtrip.specs.Unfoldings.{ContentsUnfold, HeadersUnfold}
 
 pub contents-unfold : ContentsUnfold

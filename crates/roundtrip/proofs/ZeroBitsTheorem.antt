@@ -11,18 +11,21 @@ use Rattle.rtp.specs.declared.settings.Settings.{Settings}
 use Rattle.formats.specs.Formats.{formatOf, maxGap}
 use Rattle.formats.specs.Codes.{codeFor}
 use Rattle.formats.proofs.FormatLaws.{each}
-use Rattle.payload.specs.Contents.{minEntry, entrySize, Group, Contents, refused, groups, halfAt, contents, sizeIn}
+use Rattle.contents.specs.Contents.{minEntry, entrySize, Group, Contents, refused, groups, halfAt, contents, sizeIn}
 use Rattle.payload.specs.Rows.{Row}
+use Rattle.payload.specs.Payloads.{body}
 use Rattle.encoder.specs.Lists.{rowsIn}
 use Rattle.encoder.specs.Plans.{headGap, plan}
-use Rattle.encoder.specs.Bytes.{halves, flag, firstByte, entryBytes, tableBytes, frames}
+use Rattle.encoder.specs.Bytes.{requestBytes, halves, flag, firstByte, entryBytes, tableBytes, frames}
 use Rattle.encoder.specs.Writings.{bytesOf, plannedBytes, encoded}
 use Rattle.encoder.proofs.EntryLaws.{length-entry}
 use Rattle.encoder.proofs.WritingLaws.{in-range-some}
-use Rattle.roundtrip.specs.PayloadClaims.{firstDisplacement, Zeros, ZeroBits, FirstDisplacement}
+use Rattle.encoder.proofs.RequestLaws.{one-request}
+use Rattle.roundtrip.specs.PayloadClaims.{firstDisplacement, Zeros, ZeroBits, FirstDisplacement, RequestBits}
 use Rattle.roundtrip.proofs.EntryBackLaws.{Run, half-later, half-back, first-back, gaps-back, small-gaps}
 use Rattle.roundtrip.proofs.TableBackLaws.{Runs, table-back}
 use Rattle.roundtrip.proofs.PlanTableLaws.{Tabled, plan-table}
+use Rattle.roundtrip.proofs.PayloadBackLaws.{after-request}
 use Rattle.roundtrip.proofs.PayloadTheorems.{times}
 
 -- past the first entry of a table that goes on
@@ -39,8 +42,8 @@ past-entry format b before (g ∷ gs) rest l =
 -- One entry
 
 reserved-zero : (more : Bool) (format code : ℕ) → (flag more + formatOf format .unit * code) % formatOf format .unit ≡ 0
-reserved-zero true format code = each (λ f. (128 + f .unit * code) % f .unit ≡ 0) (λ b. omega arith) (omega arith) (omega arith) format
-reserved-zero false format code = each (λ f. (0 + f .unit * code) % f .unit ≡ 0) (λ b. omega arith) (omega arith) (omega arith) format
+reserved-zero true format code = each (λ f. (128 + f .unit * code) % f .unit ≡ 0) (λ b. omega arith) (omega arith) (omega arith) (omega arith) (omega arith) format
+reserved-zero false format code = each (λ f. (0 + f .unit * code) % f .unit ≡ 0) (λ b. omega arith) (omega arith) (omega arith) (omega arith) (omega arith) format
 
 padding-zero : (ns rest : List ℕ) → length ns % 2 ≡ 1 → halfAt (halves ns ++ rest) (length ns) ≡ 0
 unfolding halves
@@ -80,18 +83,22 @@ table-zeros format (b ∷ c ∷ before) g after rest v =
     subst (Zeros format (length (g .gaps))) (sym (past-entry format b (c ∷ before) (c ∷ before ++ g ∷ after) rest (omega arith))) (table-zeros format (c ∷ before) g after rest (v .2))
 
 -- what stands behind the payload of a list
-record Planned (st : Settings) (bytes : List ℕ) (rs : List Row) (p : List ℕ) : Type 0 where
+record Planned (st : Settings) (request : ℕ) (bytes : List ℕ) (rs : List Row) (p : List ℕ) : Type 0 where
   table : List Group
   is : plan (st .format) (st .channels) rs ≡ groups table
-  same : tableBytes (st .format) table ++ frames bytes rs ≡ p
+  same : requestBytes (st .format) request ++ (tableBytes (st .format) table ++ frames bytes rs) ≡ p
 
-planned : (st : Settings) (bytes : List ℕ) (rs : List Row) (p : List ℕ) → encoded st bytes rs ≡ bytesOf p → Planned st bytes rs p
+planned : (st : Settings) (request : ℕ) (bytes : List ℕ) (rs : List Row) (p : List ℕ) → encoded st request bytes rs ≡ bytesOf p → Planned st request bytes rs p
 unfolding encoded
-planned st bytes rs p h = go (plan (st .format) (st .channels) rs) refl h
+planned st request bytes rs p h = go (plan (st .format) (st .channels) rs) refl h
   where
-    go : (x : Contents) → plan (st .format) (st .channels) rs ≡ x → plannedBytes (st .format) bytes rs x ≡ bytesOf p → Planned st bytes rs p
+    go : (x : Contents) → plan (st .format) (st .channels) rs ≡ x → plannedBytes (st .format) request bytes rs x ≡ bytesOf p → Planned st request bytes rs p
     go (refused q) e k = let z : _≡_ {A = ℕ} 0 1 = cc in absurd (omega arith)
-    go (groups gs) e k = let y : tableBytes (st .format) gs ++ frames bytes rs ≡ p = cc in record { table = gs; is = e; same = y }
+    go (groups gs) e k = let y : requestBytes (st .format) request ++ (tableBytes (st .format) gs ++ frames bytes rs) ≡ p = cc in record { table = gs; is = e; same = y }
+
+-- what follows its mode request
+planned-body : (st : Settings) (request : ℕ) (bytes : List ℕ) (rs : List Row) (p : List ℕ) (w : Planned st request bytes rs p) → tableBytes (st .format) (w .table) ++ frames bytes rs ≡ body (st .format) p
+planned-body st request bytes rs p w = sym (after-request (st .format) request (tableBytes (st .format) (w .table) ++ frames bytes rs)) ∙ ap (body (st .format)) (w .same)
 
 -- a table as it is read is the table written
 table-same : (format ch : ℕ) (rs : List Row) (gs hs : List Group) (rest : List ℕ) → Tabled format ch rs gs
@@ -102,14 +109,15 @@ table-same format ch rs (g ∷ gs) hs rest v h =
     cc
 
 pub zero-bits : ZeroBits
-zero-bits st ws bytes p words range h before g after k =
-    let w = planned st bytes (rowsIn ws) p h in
+zero-bits st request ws bytes p words range h before g after k =
+    let w = planned st request bytes (rowsIn ws) p h in
+    let same = planned-body st request bytes (rowsIn ws) p w in
     let v = plan-table (st .format) (st .channels) (rowsIn ws) (w .table) (in-range-some st range) (times ws words) (w .is) in
     let rest = frames bytes (rowsIn ws) in
     let e = table-same (st .format) (st .channels) (rowsIn ws) (w .table) (before ++ g ∷ after) rest v
-    (ap (contents (st .format) (st .channels) 0) (w .same) ∙ k) in
+    (ap (contents (st .format) (st .channels) 0) same ∙ k) in
     subst (λ (q : List ℕ). Zeros (st .format) (length (g .gaps)) (drop (sizeIn (st .format) before) q))
-    (ap (λ (gs : List Group). tableBytes (st .format) gs ++ rest) (sym e) ∙ w .same)
+    (ap (λ (gs : List Group). tableBytes (st .format) gs ++ rest) (sym e) ∙ same)
     (table-zeros (st .format) before g after rest (subst (Runs (st .format)) e (v .runs)))
 
 table-first : (format ch : ℕ) (rs : List Row) (gs : List Group) (rest : List ℕ) → Tabled format ch rs gs → formatOf format .displaced ≡ true
@@ -120,7 +128,14 @@ table-first format ch rs (g ∷ []) rest v d = first-displacement format false g
 table-first format ch rs (g ∷ h ∷ hs) rest v d = rw append-assoc (first-displacement format true g (tableBytes format (h ∷ hs) ++ rest) (v .runs .0) (v .runs .1) d ∙ v .first)
 
 pub first-zero : FirstDisplacement
-first-zero st ws bytes p words range h d =
-    let w = planned st bytes (rowsIn ws) p h in
+first-zero st request ws bytes p words range h d =
+    let w = planned st request bytes (rowsIn ws) p h in
     let v = plan-table (st .format) (st .channels) (rowsIn ws) (w .table) (in-range-some st range) (times ws words) (w .is) in
-    subst (λ (q : List ℕ). firstDisplacement (st .format) q ≡ 0) (w .same) (table-first (st .format) (st .channels) (rowsIn ws) (w .table) (frames bytes (rowsIn ws)) v d)
+    subst (λ (q : List ℕ). firstDisplacement (st .format) q ≡ 0) (planned-body st request bytes (rowsIn ws) p w) (table-first (st .format) (st .channels) (rowsIn ws) (w .table) (frames bytes (rowsIn ws)) v d)
+
+pub request-bits : RequestBits
+request-bits st request ws bytes p h s =
+    let w = planned st request bytes (rowsIn ws) p h in
+    let t = tableBytes (st .format) (w .table) ++ frames bytes (rowsIn ws) in
+    let e : byteAt p 0 ≡ 16 * request = ap (λ (q : List ℕ). byteAt q 0) (sym (w .same)) ∙ ap (λ (q : List ℕ). byteAt (q ++ t) 0) (one-request (st .format) request s) in
+    omega (arith, e)

@@ -11,13 +11,13 @@ use Rattle.encoder.specs.Lists.{rowsIn}
 use Rattle.encoder.specs.Writings.{bytesOf}
 use Rattle.sender.specs.Parts.{primaryTime}
 use Rattle.sender.specs.Packets.{Heading, markerBit, sending}
-use Rattle.roundtrip.specs.ReadingBack.{Words, SameFrames}
+use Rattle.roundtrip.specs.ReadingBack.{Words, readRequest, SameFrames}
 
--- reading the packet p gives the lists' rows in order, starts aside, and the marker, sequence, timestamp and source given
-pub record ReadsBack (st : Settings) (h : Heading) (counts ws bytes p : List ℕ) (area : ℕ) : Type 0 where
+-- reading the packet p gives the lists' rows in order, starts aside, and the marker, sequence, timestamp, source and mode request given
+pub record ReadsBack (st : Settings) (request : ℕ) (h : Heading) (counts ws bytes p : List ℕ) (area : ℕ) : Type 0 where
   pub head : Header
   pub rows : List Row
-  pub read : reading st area p ≡ readAs head rows
+  pub read : reading st area p ≡ readAs head rows (readRequest (st .format) request)
   pub same : SameFrames p bytes rows (rowsIn ws)
   pub marker : head .marker ≡ markerBit (h .marker) / 128
   pub sequence : head .sequence ≡ h .sequence
@@ -26,6 +26,6 @@ pub record ReadsBack (st : Settings) (h : Heading) (counts ws bytes p : List ℕ
 
 -- Round trip of packets, under the same settings, into any row area of 512 words or more
 abbrev pub PacketRoundTrip : Type 0
-PacketRoundTrip = (st : Settings) (h : Heading) (counts ws bytes : List ℕ) (area rows : ℕ) (p : List ℕ)
+PacketRoundTrip = (st : Settings) (request : ℕ) (h : Heading) (counts ws bytes : List ℕ) (area rows : ℕ) (p : List ℕ)
     → Words ws → h .sequence < 2 ^ 16 → h .source < 2 ^ 32 → rowArea ≤ rows
-    → sending st h counts ws bytes area ≡ bytesOf p → ReadsBack st h counts ws bytes p rows
+    → sending st request h counts ws bytes area ≡ bytesOf p → ReadsBack st request h counts ws bytes p rows

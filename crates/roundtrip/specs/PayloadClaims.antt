@@ -11,64 +11,68 @@ use Rattle.rtp.specs.Ranges.{inRange}
 use Rattle.rtp.specs.declared.settings.Settings.{Settings}
 use Rattle.rtp.specs.declared.refusal.Refusal.the-variants.{Unwritable, AreaTooShort}
 use Rattle.formats.specs.Formats.{formatOf}
-use Rattle.payload.specs.Contents.{minEntry, Group, groups, halfAt, contents, sizeIn}
+use Rattle.contents.specs.Contents.{minEntry, Group, groups, halfAt, contents, sizeIn}
+use Rattle.payload.specs.Payloads.{body, requestOf}
 use Rattle.encoder.specs.Lists.{rowsIn, outside}
 use Rattle.encoder.specs.Plans.{maxPayload}
-use Rattle.encoder.specs.Writings.{noBytes, bytesOf, encoded, writing, encodedNumbers, measured}
-use Rattle.roundtrip.specs.ReadingBack.{Bytes, Words, ReadsTo}
+use Rattle.encoder.specs.Writings.{noBytes, bytesOf, maxRequest, askable, encoded, writing, encodedNumbers, measured}
+use Rattle.roundtrip.specs.ReadingBack.{Bytes, Words, readRequest, ReadsTo}
 
--- Round trip: whatever is written is a payload of at most 2,036 bytes that reads back to the list
+-- Round trip: whatever is written is a payload of at most 2,036 bytes that reads back to the list and to the mode request
 abbrev pub RoundTrip : Type 0
-RoundTrip = (st : Settings) (ws bytes : List ℕ) (area : ℕ) (p : List ℕ) → Words ws
-    → writing st ws bytes area ≡ bytesOf p → (length p ≤ maxPayload) × ReadsTo st p bytes ws
+RoundTrip = (st : Settings) (request : ℕ) (ws bytes : List ℕ) (area : ℕ) (p : List ℕ) → Words ws
+    → writing st request ws bytes area ≡ bytesOf p
+    → (length p ≤ maxPayload) × ReadsTo st p bytes ws × (requestOf (st .format) p ≡ readRequest (st .format) request)
 
 -- Writing
 
--- p is the list's payload, which no area changes: bytes, at most 2,036 of them, and it reads back to the list
-pub record PayloadOf (st : Settings) (ws bytes p : List ℕ) : Type 0 where
-  pub canonical : encoded st bytes (rowsIn ws) ≡ bytesOf p
+-- p is the list's payload, which no area changes: bytes, at most 2,036 of them, and it reads back to the list and to the mode request
+pub record PayloadOf (st : Settings) (request : ℕ) (ws bytes p : List ℕ) : Type 0 where
+  pub canonical : encoded st request bytes (rowsIn ws) ≡ bytesOf p
   pub made : Bytes p
   pub short : length p ≤ maxPayload
   pub reads : ReadsTo st p bytes ws
+  pub request-read : requestOf (st .format) p ≡ readRequest (st .format) request
 
 -- the list has a payload, and the area is shorter
-pub record Longer (st : Settings) (ws bytes : List ℕ) (area : ℕ) : Type 0 where
+pub record Longer (st : Settings) (request : ℕ) (ws bytes : List ℕ) (area : ℕ) : Type 0 where
   pub payload : List ℕ
-  pub of-list : PayloadOf st ws bytes payload
+  pub of-list : PayloadOf st request ws bytes payload
   pub longer : area < length payload
 
--- no bytes of at most 2,036 are a plain payload that reads to the list
+-- no bytes of at most 2,036 are a plain payload that reads to the list, whatever their mode request
 abbrev pub Unreadable : Settings → List ℕ → List ℕ → Type 0
 Unreadable st ws bytes = (p : List ℕ) → Bytes p → length p ≤ maxPayload → ReadsTo st p bytes ws → ⊥
 
 -- the three answers: the payload, 13 and 12
-pub data Answer (st : Settings) (ws bytes : List ℕ) (area : ℕ) : Type 0 where
-  written : (p : List ℕ) → writing st ws bytes area ≡ bytesOf p → Answer st ws bytes area
-  unwritable : writing st ws bytes area ≡ noBytes Unwritable → Answer st ws bytes area
-  too-short : writing st ws bytes area ≡ noBytes AreaTooShort → Answer st ws bytes area
+pub data Answer (st : Settings) (request : ℕ) (ws bytes : List ℕ) (area : ℕ) : Type 0 where
+  written : (p : List ℕ) → writing st request ws bytes area ≡ bytesOf p → Answer st request ws bytes area
+  unwritable : writing st request ws bytes area ≡ noBytes Unwritable → Answer st request ws bytes area
+  too-short : writing st request ws bytes area ≡ noBytes AreaTooShort → Answer st request ws bytes area
 
 -- one of them is given, and each exactly where it is due; no two are, as `writing` is one value
-pub record Demand2 (st : Settings) (ws bytes : List ℕ) (area : ℕ) : Type 0 where
-  pub answers : Answer st ws bytes area
-  pub written-exactly : (p : List ℕ) → (writing st ws bytes area ≡ bytesOf p) ↔ (PayloadOf st ws bytes p × (length p ≤ area))
-  pub unwritable-exactly : (writing st ws bytes area ≡ noBytes Unwritable) ↔ Unreadable st ws bytes
-  pub too-short-exactly : (writing st ws bytes area ≡ noBytes AreaTooShort) ↔ Longer st ws bytes area
+pub record Demand2 (st : Settings) (request : ℕ) (ws bytes : List ℕ) (area : ℕ) : Type 0 where
+  pub answers : Answer st request ws bytes area
+  pub written-exactly : (p : List ℕ) → (writing st request ws bytes area ≡ bytesOf p) ↔ (PayloadOf st request ws bytes p × (length p ≤ area))
+  pub unwritable-exactly : (writing st request ws bytes area ≡ noBytes Unwritable) ↔ Unreadable st ws bytes
+  pub too-short-exactly : (writing st request ws bytes area ≡ noBytes AreaTooShort) ↔ Longer st request ws bytes area
 
--- Writing: under settings in range and with every row inside its bytes (else it is 11 or 14, by the definition of `writing`)
+-- Writing: under settings and a mode request in range and with every row inside its bytes (else it is 11 or 14, by the definition of `writing`)
 abbrev pub Writing : Type 0
-Writing = (st : Settings) (ws bytes : List ℕ) (area : ℕ) → Words ws → Bytes bytes → inRange st ≡ true → outside (length bytes) (rowsIn ws) ≡ false
-    → Demand2 st ws bytes area
+Writing = (st : Settings) (request : ℕ) (ws bytes : List ℕ) (area : ℕ) → Words ws → Bytes bytes → askable st request ≡ true → outside (length bytes) (rowsIn ws) ≡ false
+    → Demand2 st request ws bytes area
 
 -- Measuring
 
 -- measuring answers what writing does where the area is no shorter than the count measured, and writing gives 12 exactly where it is
-pub record Measures (st : Settings) (ws bytes : List ℕ) (area : ℕ) : Type 0 where
-  pub enough : measured st ws .count ≤ area → encodedNumbers (writing st ws bytes area) ≡ measured st ws
-  pub too-short : (writing st ws bytes area ≡ noBytes AreaTooShort) ↔ (area < measured st ws .count)
+pub record Measures (st : Settings) (request : ℕ) (ws bytes : List ℕ) (area : ℕ) : Type 0 where
+  pub enough : measured st ws .count ≤ area → encodedNumbers (writing st request ws bytes area) ≡ measured st ws
+  pub too-short : (writing st request ws bytes area ≡ noBytes AreaTooShort) ↔ (area < measured st ws .count)
 
--- whatever the settings; that every row lies inside its bytes is not asked by measuring
+-- whatever the settings; measuring asks neither for a mode request nor that every row lies inside its bytes
 abbrev pub Measuring : Type 0
-Measuring = (st : Settings) (ws bytes : List ℕ) (area : ℕ) → outside (length bytes) (rowsIn ws) ≡ false → Measures st ws bytes area
+Measuring = (st : Settings) (request : ℕ) (ws bytes : List ℕ) (area : ℕ) → request ≤ maxRequest → outside (length bytes) (rowsIn ws) ≡ false
+    → Measures st request ws bytes area
 
 -- Bits that are 0
 
@@ -84,12 +88,17 @@ pub record Zeros (format n : ℕ) (s : List ℕ) : Type 0 where
 -- in the payload of a list, which `write_payload` gives alone and `write_packet` as a block, these bits are 0 in each entry g of the table as it is read,
 -- whatever the entries before and after it
 abbrev pub ZeroBits : Type 0
-ZeroBits = (st : Settings) (ws bytes p : List ℕ) → Words ws → inRange st ≡ true → encoded st bytes (rowsIn ws) ≡ bytesOf p
-    → (before : List Group) (g : Group) (after : List Group) → contents (st .format) (st .channels) 0 p ≡ groups (before ++ g ∷ after)
-    → Zeros (st .format) (length (g .gaps)) (drop (sizeIn (st .format) before) p)
+ZeroBits = (st : Settings) (request : ℕ) (ws bytes p : List ℕ) → Words ws → inRange st ≡ true → encoded st request bytes (rowsIn ws) ≡ bytesOf p
+    → (before : List Group) (g : Group) (after : List Group) → contents (st .format) (st .channels) 0 (body (st .format) p) ≡ groups (before ++ g ∷ after)
+    → Zeros (st .format) (length (g .gaps)) (drop (sizeIn (st .format) before) (body (st .format) p))
 
 -- the first entry's DIS1 is 0 too. That a later entry's is the number of frame-blocks between the groups is what reading makes of it (payload: passFirst, and
 -- Writing: the payload reads back to the list, its times included)
 abbrev pub FirstDisplacement : Type 0
-FirstDisplacement = (st : Settings) (ws bytes p : List ℕ) → Words ws → inRange st ≡ true → encoded st bytes (rowsIn ws) ≡ bytesOf p
-    → formatOf (st .format) .displaced ≡ true → firstDisplacement (st .format) p ≡ 0
+FirstDisplacement = (st : Settings) (request : ℕ) (ws bytes p : List ℕ) → Words ws → inRange st ≡ true → encoded st request bytes (rowsIn ws) ≡ bytesOf p
+    → formatOf (st .format) .displaced ≡ true → firstDisplacement (st .format) (body (st .format) p) ≡ 0
+
+-- and so are the reserved bits after the mode request, where a payload has one
+abbrev pub RequestBits : Type 0
+RequestBits = (st : Settings) (request : ℕ) (ws bytes p : List ℕ) → encoded st request bytes (rowsIn ws) ≡ bytesOf p
+    → (formatOf (st .format) .header ≡ 0 → ⊥) → byteAt p 0 % 16 ≡ 0

@@ -2,11 +2,13 @@
 use Prim.Native.Nat.{ℕ, _<_, _^_}
 use mathlib.Core.Path.{_≡_}
 use mathlib.Core.List.{List, [], _∷_}
-use mathlib.Core.Bool.{true}
+use mathlib.Core.Bool.{true, cond}
 use lib.ListN.{getD}
+use lib.Dec.{eqb}
 use Rattle.rtp.specs.declared.settings.Settings.{Settings}
+use Rattle.formats.specs.Formats.{formatOf}
 use Rattle.payload.specs.Rows.{Row}
-use Rattle.payload.specs.Payloads.{rowsOf, payloadRows}
+use Rattle.payload.specs.Payloads.{noRequest, rowsOf, payloadRows}
 use Rattle.encoder.specs.Lists.{rowsIn, firstTime, whole}
 use Rattle.encoder.specs.Bytes.{frameIn}
 
@@ -32,6 +34,10 @@ SameFrames p bytes [] [] = Unit {0}
 SameFrames p bytes [] (r ∷ rs) = ⊥
 SameFrames p bytes (q ∷ qs) [] = ⊥
 SameFrames p bytes (q ∷ qs) (r ∷ rs) = SameFrame p bytes q r × SameFrames p bytes qs rs
+
+-- the mode request that is read where this one was written: itself, and none in a format without one
+unfoldable pub readRequest : ℕ → ℕ → ℕ
+readRequest format request = cond (eqb (formatOf format .header) 0) noRequest request
 
 -- p is a plain payload that reads to the frame list in the words ws
 pub record ReadsTo (st : Settings) (p bytes ws : List ℕ) : Type 0 where

@@ -3,7 +3,7 @@ use Prim.Native.Nat.{ℕ}
 use mathlib.Core.Path.{_≡_}
 use mathlib.Core.List.{List}
 use Rattle.rtp.specs.Redundancy.{blockHeader, headersStep, headers}
-use Rattle.payload.specs.Contents.{entryOf, contentsStep, contents}
+use Rattle.contents.specs.Contents.{entryOf, contentsStep, contents}
 
 -- a table of contents, after `rows` rows of the same packet
 abbrev pub ContentsUnfold : Type 0

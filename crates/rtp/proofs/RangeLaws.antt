@@ -3,9 +3,9 @@ use mathlib.Core.Path.{_≡_}
 use mathlib.Core.Bool.{true, false}
 use Prim.Native.Nat.{ℕ, _≤_, _<_}
 use native.Mathlib.Omega.{arith}
-use lib.Dec.{ltb, eqb}
+use lib.Dec.{ltb, leb, eqb}
 use borrow.Author.Tests.{ltb-false, eqb-false}
-use Rattle.rtp.specs.Ranges.{g719, g719Interleaved, gsmHr, noRedundancy, mostChannels, maxChannels, inRange}
+use Rattle.rtp.specs.Ranges.{g719Interleaved, amrWb, noRedundancy, mostChannels, maxChannels, inRange}
 use Rattle.rtp.specs.declared.settings.Settings.{Settings}
 use Rattle.rtp.proofs.TestLaws.{by-test, either}
 
@@ -38,9 +38,9 @@ in-range-some st h = ranged st h .channels
 pub most-channels : (format : ℕ) → maxChannels format ≤ mostChannels
 unfolding maxChannels
 most-channels format =
-    by-test (eqb format g719) (λ a. rw a (omega arith))
-    (λ a. by-test (eqb format g719Interleaved) (λ b. rw (a, b) (omega arith))
-    (λ b. by-test (eqb format gsmHr) (λ c. rw (a, b, c) (omega arith)) (λ c. rw (a, b, c) (omega arith))))
+    by-test (eqb format 0) (λ a. rw a (omega arith))
+    (λ a. by-test (leb format g719Interleaved) (λ b. rw (a, b) (omega arith))
+    (λ b. by-test (leb format amrWb) (λ c. rw (a, b, c) (omega arith)) (λ c. rw (a, b, c) (omega arith))))
 
 pub few-channels : (st : Settings) → inRange st ≡ true → st .channels ≤ mostChannels
 few-channels st h = omega (arith, ranged st h .few, most-channels (st .format))

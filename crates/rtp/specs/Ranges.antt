@@ -1,10 +1,10 @@
--- Document 01, "Settings": their ranges. The format is document 01's kind, payload_type its plain payload type.
+-- Document 01, "Settings", and document 02, P1: their ranges. The format is document 01's kind, payload_type its plain payload type.
 use Prim.Native.Nat.{ℕ}
 use mathlib.Core.Bool.{Bool, true, false, cond}
-use lib.Dec.{ltb, eqb}
+use lib.Dec.{ltb, leb, eqb}
 use Rattle.rtp.specs.declared.settings.Settings.{Settings}
 
--- G.719 basic, G.719 interleaved and GSM-HR
+-- G.719 basic, G.719 interleaved, GSM-HR, AMR and AMR-WB
 abbrev pub g719 : ℕ
 g719 = 1
 
@@ -14,6 +14,12 @@ g719Interleaved = 2
 abbrev pub gsmHr : ℕ
 gsmHr = 3
 
+abbrev pub amr : ℕ
+amr = 4
+
+abbrev pub amrWb : ℕ
+amrWb = 5
+
 -- the redundancy type for none; no packet has it as its type
 abbrev pub noRedundancy : ℕ
 noRedundancy = 128
@@ -22,11 +28,11 @@ noRedundancy = 128
 abbrev pub mostChannels : ℕ
 mostChannels = 2
 
--- the most channels of a format, 0 where there is no such format
+-- the most channels of a format: formats 3 to 5 have one; 0 where there is no such format
 unfoldable pub maxChannels : ℕ → ℕ
-maxChannels format = cond (eqb format g719) mostChannels (cond (eqb format g719Interleaved) mostChannels (cond (eqb format gsmHr) 1 0))
+maxChannels format = cond (eqb format 0) 0 (cond (leb format g719Interleaved) mostChannels (cond (leb format amrWb) 1 0))
 
--- format 1 to 3 and 1 to its most channels; the payload type at most 127; the redundancy type at most 127 and another, or none
+-- format 1 to 5 and 1 to its most channels; the payload type at most 127; the redundancy type at most 127 and another, or none
 unfoldable pub inRange : Settings → Bool
 inRange s =
     cond (eqb (s .channels) 0) false

@@ -9,6 +9,10 @@ pub const G719_INTERLEAVED: u8 = 2;
 
 pub const GSM_HR: u8 = 3;
 
+pub const AMR: u8 = 4;
+
+pub const AMR_WB: u8 = 5;
+
 // The most channels that any format has.
 pub const MOST_CHANNELS: u8 = 2;
 
@@ -28,13 +32,13 @@ pub struct Settings {
 fn max_channels(format: u8) -> u8
     ensures { λ r. ⌜ r ≡ maxChannels format ⌝ }
 {
-    if format == G719 {
+    if format == 0 {
+        return 0;
+    }
+    if format <= G719_INTERLEAVED {
         return MOST_CHANNELS;
     }
-    if format == G719_INTERLEAVED {
-        return MOST_CHANNELS;
-    }
-    if format == GSM_HR {
+    if format <= AMR_WB {
         return 1;
     }
     0

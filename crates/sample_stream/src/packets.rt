@@ -1,6 +1,7 @@
 // The packets of the stream, as they were sent.
 use crate::frames;
 use encoder::writing::Written;
+use payload::reading::NO_REQUEST;
 use rtp::settings;
 use rtp::settings::Settings;
 use sender::packets;
@@ -22,7 +23,17 @@ fn agreed() -> Settings {
 fn write_lists(k: u8, counts: &[u32], rows: &[u32], out: &mut [u8]) -> usize {
     let bytes = frames::sound(k);
     let sequence = std::num::wrapping_add_u16(FIRST_SEQUENCE, k as u16);
-    match packets::write_packet(agreed(), 0, sequence, SOURCE, counts, rows, &bytes, out) {
+    match packets::write_packet(
+        agreed(),
+        NO_REQUEST,
+        0,
+        sequence,
+        SOURCE,
+        counts,
+        rows,
+        &bytes,
+        out,
+    ) {
         Written::Bytes(n) => n,
         Written::Refused(_) => 0,
     }

@@ -14,7 +14,7 @@ use Rattle.rtp.specs.declared.settings.Settings.{Settings}
 use Rattle.rtp.specs.declared.refusal.Refusal.{Refusal}
 use Rattle.rtp.specs.declared.refusal.Refusal.the-variants.{PacketLength, Version, HeaderTruncated, PaddingCount, UnknownPayloadType, ContentsTruncated, ReservedCode, NoFrameBlocks, TooManyRows, LengthMismatch, SettingsOutOfRange, AreaTooShort, Unwritable, RowOutsideBytes, MalformedBuffer}
 use Rattle.rtp.proofs.TestLaws.{by-test}
-use Rattle.payload.specs.Contents.{Contents, refused, groups}
+use Rattle.contents.specs.Contents.{Contents, refused, groups}
 use Rattle.payload.specs.Rows.{rowsIn}
 use Rattle.encoder.specs.declared.writing.Written.{Written}
 use Rattle.encoder.specs.Lists.{whole, firstTime}
@@ -171,15 +171,15 @@ module _ (st : Settings) (time : ℕ) where
 
 -- The payloads
 
-module _ (st : Settings) (bytes : List ℕ) where
-  pub payloads-one : (counts ws : List ℕ) → length counts < 2 → listsPayloads st bytes counts ws ≡ listBytes st bytes ws
+module _ (st : Settings) (request : ℕ) (bytes : List ℕ) where
+  pub payloads-one : (counts ws : List ℕ) → length counts < 2 → listsPayloads st request bytes counts ws ≡ listBytes st request bytes ws
   unfolding listsPayloads
   payloads-one [] ws h = refl
   payloads-one (n ∷ []) ws h = refl
   payloads-one (n ∷ m ∷ ns) ws h = absurd (omega arith)
 
   pub payloads-more : (counts ws : List ℕ) → 2 ≤ length counts → let n = rowWidth * getD counts 0 0 in
-      listsPayloads st bytes counts ws ≡ listBytes st bytes (take n ws) ++ listsPayloads st bytes (drop 1 counts) (drop n ws)
+      listsPayloads st request bytes counts ws ≡ listBytes st request bytes (take n ws) ++ listsPayloads st request bytes (drop 1 counts) (drop n ws)
   unfolding listsPayloads
   payloads-more [] ws h = absurd (omega arith)
   payloads-more (n ∷ []) ws h = absurd (omega arith)

@@ -26,37 +26,37 @@ unfolding encodedNumbers encodedBytes
 count-all (noBytes q) = refl
 count-all (bytesOf p) = refl
 
-module _ (st : Settings) (bytes ws : List ℕ) (area : ℕ) (r : ListRoom st bytes ws area) where
-  pub list-writing : writing st ws bytes area ≡ encoded st bytes (rowsIn ws)
+module _ (st : Settings) (request : ℕ) (bytes ws : List ℕ) (area : ℕ) (r : ListRoom st request bytes ws area) where
+  pub list-writing : writing st request ws bytes area ≡ encoded st request bytes (rowsIn ws)
   unfolding writing
-  list-writing = rw (r .settings, r .inside, eq-eqb (length ws % rowWidth) 0 (r .whole-rows)) (room-all (encoded st bytes (rowsIn ws)) area (r .room))
+  list-writing = rw (r .settings, r .inside, eq-eqb (length ws % rowWidth) 0 (r .whole-rows)) (room-all (encoded st request bytes (rowsIn ws)) area (r .room))
 
-  pub list-count : (w v : Written) → w ≡ v → writtenNumbers w ≡ encodedNumbers (writing st ws bytes area) → writtenNumbers v .count ≡ length (listBytes st bytes ws)
+  pub list-count : (w v : Written) → w ≡ v → writtenNumbers w ≡ encodedNumbers (writing st request ws bytes area) → writtenNumbers v .count ≡ length (listBytes st request bytes ws)
   list-count w v e h =
-      ap (λ (x : Written). writtenNumbers x .count) (sym e) ∙ ap (λ (n : Numbers). n .count) h ∙ ap (λ (x : Encoded). encodedNumbers x .count) list-writing ∙ count-all (encoded st bytes (rowsIn ws))
+      ap (λ (x : Written). writtenNumbers x .count) (sym e) ∙ ap (λ (n : Numbers). n .count) h ∙ ap (λ (x : Encoded). encodedNumbers x .count) list-writing ∙ count-all (encoded st request bytes (rowsIn ws))
 
 -- A first list and the others
 
-module _ (st : Settings) (bytes counts ws : List ℕ) (area : ℕ) (r : PayloadsRoom st bytes counts ws area) where
-  pub room-one : length counts < 2 → ListRoom st bytes ws area
+module _ (st : Settings) (request : ℕ) (bytes counts ws : List ℕ) (area : ℕ) (r : PayloadsRoom st request bytes counts ws area) where
+  pub room-one : length counts < 2 → ListRoom st request bytes ws area
   room-one h = record {
     settings = r .settings;
     inside = r .inside;
     whole-rows = omega (arith, r .counted);
-    room = subst (λ (l : List ℕ). length l ≤ area) (payloads-one st bytes counts ws h) (r .room);
+    room = subst (λ (l : List ℕ). length l ≤ area) (payloads-one st request bytes counts ws h) (r .room);
   }
 
   module _ (h : 2 ≤ length counts) (n : ℕ) (e : n ≡ rowWidth * getD counts 0 0) where
-    pub payloads-split : listsPayloads st bytes counts ws ≡ listBytes st bytes (take n ws) ++ listsPayloads st bytes (drop 1 counts) (drop n ws)
+    pub payloads-split : listsPayloads st request bytes counts ws ≡ listBytes st request bytes (take n ws) ++ listsPayloads st request bytes (drop 1 counts) (drop n ws)
     payloads-split =
-        subst (λ (k : ℕ). listsPayloads st bytes counts ws ≡ listBytes st bytes (take k ws) ++ listsPayloads st bytes (drop 1 counts) (drop k ws)) (sym e) (payloads-more st bytes counts ws h)
+        subst (λ (k : ℕ). listsPayloads st request bytes counts ws ≡ listBytes st request bytes (take k ws) ++ listsPayloads st request bytes (drop 1 counts) (drop k ws)) (sym e) (payloads-more st request bytes counts ws h)
 
-    split-length : length (listBytes st bytes (take n ws)) + length (listsPayloads st bytes (drop 1 counts) (drop n ws)) ≤ area
+    split-length : length (listBytes st request bytes (take n ws)) + length (listsPayloads st request bytes (drop 1 counts) (drop n ws)) ≤ area
     split-length =
-        let l = length-append (listBytes st bytes (take n ws)) (listsPayloads st bytes (drop 1 counts) (drop n ws)) in
+        let l = length-append (listBytes st request bytes (take n ws)) (listsPayloads st request bytes (drop 1 counts) (drop n ws)) in
         subst (λ (k : ℕ). k ≤ area) l (subst (λ (l : List ℕ). length l ≤ area) payloads-split (r .room))
 
-    pub room-first : ListRoom st bytes (take n ws) area
+    pub room-first : ListRoom st request bytes (take n ws) area
     room-first = record {
       settings = r .settings;
       inside = inside-first (length bytes) n (getD counts 0 0) ws e (r .inside);
@@ -64,7 +64,7 @@ module _ (st : Settings) (bytes counts ws : List ℕ) (area : ℕ) (r : Payloads
       room = omega (arith, split-length);
     }
 
-    pub room-rest : (k : ℕ) → k ≡ length (listBytes st bytes (take n ws)) → PayloadsRoom st bytes (drop 1 counts) (drop n ws) (area - k)
+    pub room-rest : (k : ℕ) → k ≡ length (listBytes st request bytes (take n ws)) → PayloadsRoom st request bytes (drop 1 counts) (drop n ws) (area - k)
     room-rest k d = record {
       settings = r .settings;
       inside = inside-rest (length bytes) n (getD counts 0 0) ws e (r .inside);

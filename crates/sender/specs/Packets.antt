@@ -5,12 +5,12 @@ use mathlib.Core.Bool.{Bool, true, false, cond}
 use lib.ListN.{length}
 use lib.Dec.{ltb, eqb}
 use Rattle.rtp.specs.Sizes.{maxPacket, maxRows, rowWidth}
-use Rattle.rtp.specs.Ranges.{inRange, noRedundancy}
+use Rattle.rtp.specs.Ranges.{noRedundancy}
 use Rattle.rtp.specs.declared.settings.Settings.{Settings}
 use Rattle.rtp.specs.declared.refusal.Refusal.the-variants.{SettingsOutOfRange, RowOutsideBytes, Unwritable}
 use Rattle.payload.specs.Rows.{Row}
 use Rattle.encoder.specs.Lists.{rowsIn, outside}
-use Rattle.encoder.specs.Writings.{Encoded, noBytes, bytesOf, roomFor}
+use Rattle.encoder.specs.Writings.{Encoded, noBytes, bytesOf, askable, roomFor}
 use Rattle.sender.specs.Parts.{maxRedundant, total, primaryTime, Part, Parts, noParts, partsOf, parts}
 
 -- numbers in two and four bytes, big-endian
@@ -75,13 +75,13 @@ countsFit counts ws =
     (cond (ltb (maxRedundant + 1) (length counts)) false
     (cond (eqb (length ws) (rowWidth * total counts)) (cond (ltb maxRows (total counts)) false true) false))
 
-unfoldable pub assembled : Settings → Heading → List ℕ → List ℕ → List Row → Encoded
-assembled st h counts bytes rs = assembledFrom st h (primaryTime counts rs) (parts st bytes (primaryTime counts rs) counts rs)
+unfoldable pub assembled : Settings → ℕ → Heading → List ℕ → List ℕ → List Row → Encoded
+assembled st request h counts bytes rs = assembledFrom st h (primaryTime counts rs) (parts st request bytes (primaryTime counts rs) counts rs)
 
 -- writing a packet into an area of so many bytes: the order is 11, 14, 13, 12
-unfoldable pub sending : Settings → Heading → List ℕ → List ℕ → List ℕ → ℕ → Encoded
-sending st h counts ws bytes area =
-    cond (inRange st)
+unfoldable pub sending : Settings → ℕ → Heading → List ℕ → List ℕ → List ℕ → ℕ → Encoded
+sending st request h counts ws bytes area =
+    cond (askable st request)
     (cond (outside (length bytes) (rowsIn ws)) (noBytes RowOutsideBytes)
-    (cond (countsFit counts ws) (roomFor area (assembled st h counts bytes (rowsIn ws))) (noBytes Unwritable)))
+    (cond (countsFit counts ws) (roomFor area (assembled st request h counts bytes (rowsIn ws))) (noBytes Unwritable)))
     (noBytes SettingsOutOfRange)

@@ -55,9 +55,9 @@ redundantPart offset (noBytes r) rest = noParts
 redundantPart offset (bytesOf p) rest =
     cond (ltb maxBlock (length p)) noParts (cond (ltb maxOffset offset) noParts (prependPart (record { offset = offset; bytes = p }) rest))
 
--- the parts of the lists, which have so many rows each; the packet's timestamp is `time`
-unfoldable pub parts : Settings → List ℕ → ℕ → List ℕ → List Row → Parts
-parts st bytes time [] rs = noParts
-parts st bytes time (n ∷ []) rs = primaryPart (encoded st bytes rs)
-parts st bytes time (n ∷ m ∷ ns) rs =
-    redundantPart (difference time (firstTime (take n rs))) (encoded st bytes (take n rs)) (parts st bytes time (m ∷ ns) (drop n rs))
+-- the parts of the lists, which have so many rows each, all with the same mode request; the packet's timestamp is `time`
+unfoldable pub parts : Settings → ℕ → List ℕ → ℕ → List ℕ → List Row → Parts
+parts st request bytes time [] rs = noParts
+parts st request bytes time (n ∷ []) rs = primaryPart (encoded st request bytes rs)
+parts st request bytes time (n ∷ m ∷ ns) rs =
+    redundantPart (difference time (firstTime (take n rs))) (encoded st request bytes (take n rs)) (parts st request bytes time (m ∷ ns) (drop n rs))

@@ -6,12 +6,12 @@ use mathlib.Core.Bool.{true, false, cond}
 use lib.ListN.{length, take, drop}
 use lib.Dec.{ltb, eqb}
 use Rattle.rtp.specs.Sizes.{minPacket, maxPacket, rowWidth}
-use Rattle.rtp.specs.Ranges.{inRange, noRedundancy}
+use Rattle.rtp.specs.Ranges.{noRedundancy}
 use Rattle.rtp.specs.Time.{difference}
 use Rattle.rtp.specs.declared.settings.Settings.{Settings}
 use Rattle.rtp.specs.declared.refusal.Refusal.the-variants.{Unwritable}
 use Rattle.encoder.specs.Lists.{rowsIn, outside, firstTime}
-use Rattle.encoder.specs.Writings.{Encoded, noBytes, bytesOf, encoded, encodedBytes, Numbers, refusedNumbers, measured}
+use Rattle.encoder.specs.Writings.{Encoded, noBytes, bytesOf, askable, encoded, encodedBytes, Numbers, refusedNumbers, measured}
 use Rattle.sender.specs.Parts.{maxOffset, maxBlock, total, parts}
 use Rattle.sender.specs.Packets.{Heading, blockHeaderBytes, assembledFrom}
 
@@ -83,34 +83,34 @@ pub record HeadersRoom (st : Settings) (time : ℕ) (counts ws : List ℕ) (area
 
 -- Payloads
 
-abbrev pub listBytes : Settings → List ℕ → List ℕ → List ℕ
-listBytes st bytes ws = encodedBytes (encoded st bytes (rowsIn ws))
+abbrev pub listBytes : Settings → ℕ → List ℕ → List ℕ → List ℕ
+listBytes st request bytes ws = encodedBytes (encoded st request bytes (rowsIn ws))
 
-unfoldable pub listsPayloads : Settings → List ℕ → List ℕ → List ℕ → List ℕ
-listsPayloads st bytes [] ws = listBytes st bytes ws
-listsPayloads st bytes (n ∷ []) ws = listBytes st bytes ws
-listsPayloads st bytes (n ∷ m ∷ ns) ws = listBytes st bytes (take (rowWidth * n) ws) ++ listsPayloads st bytes (m ∷ ns) (drop (rowWidth * n) ws)
+unfoldable pub listsPayloads : Settings → ℕ → List ℕ → List ℕ → List ℕ → List ℕ
+listsPayloads st request bytes [] ws = listBytes st request bytes ws
+listsPayloads st request bytes (n ∷ []) ws = listBytes st request bytes ws
+listsPayloads st request bytes (n ∷ m ∷ ns) ws = listBytes st request bytes (take (rowWidth * n) ws) ++ listsPayloads st request bytes (m ∷ ns) (drop (rowWidth * n) ws)
 
 -- a list inside its bytes, and room for its payload
-pub record ListRoom (st : Settings) (bytes ws : List ℕ) (area : ℕ) : Type 0 where
-  pub settings : inRange st ≡ true
+pub record ListRoom (st : Settings) (request : ℕ) (bytes ws : List ℕ) (area : ℕ) : Type 0 where
+  pub settings : askable st request ≡ true
   pub inside : outside (length bytes) (rowsIn ws) ≡ false
   pub whole-rows : length ws % rowWidth ≡ 0
-  pub room : length (listBytes st bytes ws) ≤ area
+  pub room : length (listBytes st request bytes ws) ≤ area
 
-pub record PayloadsRoom (st : Settings) (bytes counts ws : List ℕ) (area : ℕ) : Type 0 where
-  pub settings : inRange st ≡ true
+pub record PayloadsRoom (st : Settings) (request : ℕ) (bytes counts ws : List ℕ) (area : ℕ) : Type 0 where
+  pub settings : askable st request ≡ true
   pub inside : outside (length bytes) (rowsIn ws) ≡ false
   pub counted : Counted counts ws
-  pub room : length (listsPayloads st bytes counts ws) ≤ area
+  pub room : length (listsPayloads st request bytes counts ws) ≤ area
 
 -- the block headers of k lists, and the payloads after them
 abbrev pub listHeadersSize : ℕ → ℕ
 listHeadersSize k = 1 + 4 * (k - 1)
 
-pub record BlocksRoom (st : Settings) (time : ℕ) (bytes counts ws : List ℕ) (area : ℕ) : Type 0 where
+pub record BlocksRoom (st : Settings) (request time : ℕ) (bytes counts ws : List ℕ) (area : ℕ) : Type 0 where
   pub headers : HeadersRoom st time counts ws area
-  pub payloads : PayloadsRoom st bytes counts ws (area - listHeadersSize (length counts))
+  pub payloads : PayloadsRoom st request bytes counts ws (area - listHeadersSize (length counts))
 
 -- Packets
 
@@ -118,9 +118,9 @@ abbrev pub BytesRoom : Encoded → ℕ → Type 0
 BytesRoom (noBytes r) area = ⊥
 BytesRoom (bytesOf p) area = length p ≤ area
 
-pub record PacketRoom (st : Settings) (h : Heading) (time : ℕ) (bytes counts ws : List ℕ) (area : ℕ) : Type 0 where
-  pub settings : inRange st ≡ true
+pub record PacketRoom (st : Settings) (request : ℕ) (h : Heading) (time : ℕ) (bytes counts ws : List ℕ) (area : ℕ) : Type 0 where
+  pub settings : askable st request ≡ true
   pub inside : outside (length bytes) (rowsIn ws) ≡ false
   pub counted : Counted counts ws
   pub some : 0 < length counts
-  pub room : BytesRoom (assembledFrom st h time (parts st bytes time counts (rowsIn ws))) area
+  pub room : BytesRoom (assembledFrom st h time (parts st request bytes time counts (rowsIn ws))) area

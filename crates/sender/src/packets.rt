@@ -5,7 +5,6 @@ use encoder::lists;
 use encoder::writing;
 use encoder::writing::Written;
 use rtp::refusal::Refusal;
-use rtp::settings;
 use rtp::settings::NO_REDUNDANCY;
 use rtp::settings::Settings;
 use rtp::sizes::MAX_PACKET;
@@ -78,53 +77,69 @@ fn put_headers(asked: Settings, time: u32, counts: &[u32], rows: &[u32], out: &m
 }
 
 // A list's payload; answers its bytes.
-fn put_list(asked: Settings, rows: &[u32], bytes: &[u8], out: &mut [u8]) -> usize
-    requires { ⌜ ListRoom asked (now bytes) (now rows) (length (now out)) ⌝ }
-    ensures { λ r. ⌜ (r ≡ length (listBytes asked (now (bytes .entry)) (now (rows .entry))))
-        × (now (out .exit) ≡ over (listBytes asked (now (bytes .entry)) (now (rows .entry))) (now (out .entry))) ⌝ }
+fn put_list(asked: Settings, mode_request: u8, rows: &[u32], bytes: &[u8], out: &mut [u8]) -> usize
+    requires { ⌜ ListRoom asked «mode_request» (now bytes) (now rows) (length (now out)) ⌝ }
+    ensures { λ r. ⌜ (r ≡ length (listBytes asked «mode_request» (now (bytes .entry)) (now (rows .entry))))
+        × (now (out .exit) ≡ over (listBytes asked «mode_request» (now (bytes .entry)) (now (rows .entry))) (now (out .entry))) ⌝ }
 {
-    match writing::write_payload(asked, rows, bytes, out) {
+    match writing::write_payload(asked, mode_request, rows, bytes, out) {
         Written::Bytes(size) => size,
         Written::Refused(_) => 0,
     }
 }
 
 // The payloads of the lists, one after another.
-fn put_payloads(asked: Settings, counts: &[u32], rows: &[u32], bytes: &[u8], out: &mut [u8])
-    requires { ⌜ PayloadsRoom asked (now bytes) (now counts) (now rows) (length (now out)) ⌝ }
-    ensures { λ _. ⌜ now (out .exit) ≡ over (listsPayloads asked (now (bytes .entry)) (now (counts .entry)) (now (rows .entry))) (now (out .entry)) ⌝ }
+fn put_payloads(
+    asked: Settings,
+    mode_request: u8,
+    counts: &[u32],
+    rows: &[u32],
+    bytes: &[u8],
+    out: &mut [u8],
+)
+    requires { ⌜ PayloadsRoom asked «mode_request» (now bytes) (now counts) (now rows) (length (now out)) ⌝ }
+    ensures { λ _. ⌜ now (out .exit) ≡ over (listsPayloads asked «mode_request» (now (bytes .entry)) (now (counts .entry)) (now (rows .entry))) (now (out .entry)) ⌝ }
 {
     if counts.len() < 2 {
-        put_list(asked, rows, bytes, out);
+        put_list(asked, mode_request, rows, bytes, out);
         return;
     }
     let n = sizes::first_words(counts, rows);
-    let size = put_list(asked, &rows[..n], bytes, out);
-    put_payloads(asked, &counts[1..], &rows[n..], bytes, &mut out[size..]);
+    let size = put_list(asked, mode_request, &rows[..n], bytes, out);
+    put_payloads(
+        asked,
+        mode_request,
+        &counts[1..],
+        &rows[n..],
+        bytes,
+        &mut out[size..],
+    );
 }
 
 // The block headers of the lists, then their payloads.
 fn put_blocks(
     asked: Settings,
+    mode_request: u8,
     time: u32,
     counts: &[u32],
     rows: &[u32],
     bytes: &[u8],
     out: &mut [u8],
 )
-    requires { ⌜ BlocksRoom asked time (now bytes) (now counts) (now rows) (length (now out)) ⌝ }
+    requires { ⌜ BlocksRoom asked «mode_request» time (now bytes) (now counts) (now rows) (length (now out)) ⌝ }
     ensures { λ _. ⌜ now (out .exit) ≡
-        over (listsHeaders asked time (now (counts .entry)) (now (rows .entry)) ++ listsPayloads asked (now (bytes .entry)) (now (counts .entry))
+        over (listsHeaders asked time (now (counts .entry)) (now (rows .entry)) ++ listsPayloads asked «mode_request» (now (bytes .entry)) (now (counts .entry))
         (now (rows .entry))) (now (out .entry)) ⌝ }
 {
     put_headers(asked, time, counts, rows, out);
     let size = 1 + 4 * (counts.len() - 1);
-    put_payloads(asked, counts, rows, bytes, &mut out[size..]);
+    put_payloads(asked, mode_request, counts, rows, bytes, &mut out[size..]);
 }
 
 // A packet of the lists, the last of which stands at `time`.
 fn put_packet(
     asked: Settings,
+    mode_request: u8,
     marker: u8,
     sequence: u16,
     source: u32,
@@ -134,24 +149,40 @@ fn put_packet(
     bytes: &[u8],
     out: &mut [u8],
 )
-    requires { ⌜ PacketRoom asked (record { marker = marker; sequence = sequence; source = source }) time (now bytes) (now counts) (now rows)
+    requires { ⌜ PacketRoom asked «mode_request» (record { marker = marker; sequence = sequence; source = source }) time (now bytes) (now counts) (now rows)
         (length (now out)) ⌝ }
     ensures { λ _. ⌜ now (out .exit) ≡
         over (encodedBytes (assembledFrom asked (record { marker = marker; sequence = sequence; source = source }) time
-        (parts asked (now (bytes .entry)) time (now (counts .entry)) (rowsIn (now (rows .entry)))))) (now (out .entry)) ⌝ }
+        (parts asked «mode_request» (now (bytes .entry)) time (now (counts .entry)) (rowsIn (now (rows .entry)))))) (now (out .entry)) ⌝ }
 {
     if counts.len() < 2 {
         headers::put_header(out, marker, sequence, source, asked.payload_type, time);
-        put_payloads(asked, counts, rows, bytes, &mut out[MIN_PACKET..]);
+        put_payloads(
+            asked,
+            mode_request,
+            counts,
+            rows,
+            bytes,
+            &mut out[MIN_PACKET..],
+        );
         return;
     }
     headers::put_header(out, marker, sequence, source, asked.redundancy_type, time);
-    put_blocks(asked, time, counts, rows, bytes, &mut out[MIN_PACKET..]);
+    put_blocks(
+        asked,
+        mode_request,
+        time,
+        counts,
+        rows,
+        bytes,
+        &mut out[MIN_PACKET..],
+    );
 }
 
 // The packet of the counted lists, whose rows point into `bytes`, over the front of the area; or a refusal and the area unchanged.
 pub fn write_packet(
     asked: Settings,
+    mode_request: u8,
     marker: u8,
     sequence: u16,
     source: u32,
@@ -161,13 +192,13 @@ pub fn write_packet(
     out: &mut [u8],
 ) -> Written
     ensures { λ r. ⌜ (writtenNumbers r ≡
-        encodedNumbers (sending asked (record { marker = marker; sequence = sequence; source = source }) (now (counts .entry)) (now (rows .entry))
+        encodedNumbers (sending asked «mode_request» (record { marker = marker; sequence = sequence; source = source }) (now (counts .entry)) (now (rows .entry))
         (now (bytes .entry)) (length (now (out .entry)))))
         × (now (out .exit) ≡ over
-        (encodedBytes (sending asked (record { marker = marker; sequence = sequence; source = source }) (now (counts .entry)) (now (rows .entry))
+        (encodedBytes (sending asked «mode_request» (record { marker = marker; sequence = sequence; source = source }) (now (counts .entry)) (now (rows .entry))
         (now (bytes .entry)) (length (now (out .entry))))) (now (out .entry))) ⌝ }
 {
-    if settings::in_range(asked) {
+    if writing::in_range(asked, mode_request) {
         if lists::any_outside(rows, bytes.len()) {
             return Written::Refused(Refusal::RowOutsideBytes);
         }
@@ -181,6 +212,7 @@ pub fn write_packet(
                     }
                     put_packet(
                         asked,
+                        mode_request,
                         marker,
                         sequence,
                         source,

@@ -4,7 +4,9 @@ use encoder::writing::Written;
 use formats::tagging;
 use packet::reading;
 use packet::reading::Reading;
+use payload::reading::NO_REQUEST;
 use rtp::refusal;
+use rtp::settings::AMR;
 use rtp::settings::Settings;
 use rtp::sizes::MAX_PACKET;
 use rtp::sizes::MAX_ROWS;
@@ -87,12 +89,17 @@ fn title(label: &[u8]) {
     io::write_all(1, b"\n");
 }
 
-pub(crate) fn payload(label: &[u8], settings: Settings, rows: &[u32]) {
+// With a mode request.
+pub(crate) fn requesting_payload(label: &[u8], settings: Settings, mode_request: u8, rows: &[u32]) {
     title(label);
     let bytes = sound();
     let mut out = area();
-    let written = writing::write_payload(settings, rows, &bytes, &mut out);
+    let written = writing::write_payload(settings, mode_request, rows, &bytes, &mut out);
     show(written, &out);
+}
+
+pub(crate) fn payload(label: &[u8], settings: Settings, rows: &[u32]) {
+    requesting_payload(label, settings, NO_REQUEST, rows);
 }
 
 fn print_first(start: u32, packet: &[u8]) {
@@ -140,19 +147,29 @@ fn read_back(settings: Settings, packet: &[u8]) {
             print(b" sequence ", head.sequence as u32);
             print(b" timestamp ", head.timestamp);
             print(b" source ", head.source);
+            if AMR <= settings.format {
+                print(b" mode request ", head.mode_request as u32);
+            }
             io::write_all(1, b"\n");
             print_rows(&rows, head.rows, packet);
         }
     }
 }
 
-// With marker 1, sequence 65244 and source 2712847316.
-pub(crate) fn packet(label: &[u8], settings: Settings, counts: &[u32], rows: &[u32]) {
+// With a mode request, marker 1, sequence 65244 and source 2712847316.
+pub(crate) fn requesting(
+    label: &[u8],
+    settings: Settings,
+    mode_request: u8,
+    counts: &[u32],
+    rows: &[u32],
+) {
     title(label);
     let bytes = sound();
     let mut out = area();
     let written = packets::write_packet(
         settings,
+        mode_request,
         1,
         65244,
         2712847316,
@@ -167,4 +184,8 @@ pub(crate) fn packet(label: &[u8], settings: Settings, counts: &[u32], rows: &[u
             read_back(settings, &out[..n]);
         }
     }
+}
+
+pub(crate) fn packet(label: &[u8], settings: Settings, counts: &[u32], rows: &[u32]) {
+    requesting(label, settings, NO_REQUEST, counts, rows);
 }

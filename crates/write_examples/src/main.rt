@@ -1,5 +1,6 @@
 // Writes payloads and packets and prints their bytes, or the refusal; and reads each packet back and prints its rows, each with the first
-// byte of its frame.
+// byte of its frame, in AMR and AMR-WB the mode request too.
+mod amr;
 mod example;
 mod groups;
 mod packets;
@@ -17,4 +18,10 @@ fn main() {
     groups::more();
     groups::in_a_block();
     groups::refused();
+    amr::each_type();
+    amr::each_wide_type();
+    amr::several();
+    amr::redundancy();
+    amr::requests();
+    amr::refused();
 }

@@ -5,7 +5,7 @@
 //! profile `measured`: bench.sh does.
 
 use bench::plain;
-use reference::{step_ticks, DRAW_AREA, G719_STEP, HEADER_BYTES, MAX_PACKET, ROW_AREA, SLOTS, SLOT_BYTES, STORE_BYTES};
+use reference::{step_ticks, DRAW_AREA, HEADER_BYTES, MAX_PACKET, ROW_AREA, SLOTS, SLOT_BYTES, STORE_BYTES};
 use std::hint::black_box;
 use std::time::{Duration, Instant};
 
@@ -14,6 +14,8 @@ const SAMPLE: Duration = Duration::from_micros(400);
 const PLAIN: u8 = 97;
 const REDUNDANCY: u8 = 121;
 const LENGTH: usize = 160;
+/// of AMR at 12.2 kbit/s
+const AMR_LENGTH: usize = 31;
 /// frames that the rows point to
 const FRAMES: usize = 12;
 
@@ -98,17 +100,23 @@ fn bytes() -> Vec<u8> {
     (0..SLOT_BYTES * FRAMES).map(|i| (i * 7 % 251) as u8).collect()
 }
 
+/// Beside the rows of a packet that is written: mode request, sequence number, SSRC.
+const MODE_REQUEST: u8 = 7;
+const SEQUENCE: u16 = 1;
+const SOURCE: u32 = 2;
+
 /// A packet as the reference writes it.
 fn packet(s: reference::Settings, counts: &[u32], rows: &[u32]) -> Vec<u8> {
     let mut out = vec![0; MAX_PACKET];
-    let length = reference::write_packet(s, false, 1, 2, counts, rows, &bytes(), &mut out).expect("a packet that can be written");
+    let length = reference::write_packet(s, MODE_REQUEST, false, SEQUENCE, SOURCE, counts, rows, &bytes(), &mut out);
+    let length = length.expect("a packet that can be written");
     out.truncate(length as usize);
     out
 }
 
 /// What is read and written: a name, settings, and lists.
 fn samples() -> Vec<(&'static str, reference::Settings, Vec<u32>, Vec<u32>)> {
-    let (basic, stereo, interleaved, gsm) = (settings(1, 1), settings(1, 2), settings(2, 1), settings(3, 1));
+    let (basic, stereo, interleaved, gsm, amr) = (settings(1, 1), settings(1, 2), settings(2, 1), settings(3, 1), settings(4, 1));
     let three = [list(basic, 0, 2, 80, 1), list(basic, 1920, 2, 80, 1), list(basic, 3840, 2, 160, 1)].concat();
     let mixed = [list(basic, 0, 1, 80, 1), list(basic, 960, 1, 90, 1), list(basic, 1920, 1, 100, 1), list(basic, 2880, 1, 80, 1)].concat();
     vec![
@@ -119,6 +127,7 @@ fn samples() -> Vec<(&'static str, reference::Settings, Vec<u32>, Vec<u32>)> {
         ("G.719 interleaved, 4 frames of 80 bytes", interleaved, vec![4], list(interleaved, 0, 4, 80, 5)),
         ("G.719 with 2 redundant blocks, 6 frames", basic, vec![2, 2, 2], three),
         ("GSM-HR, 10 frames", gsm, vec![10], list(gsm, 0, 10, 14, 1)),
+        ("AMR, 10 frames", amr, vec![10], list(amr, 0, 10, AMR_LENGTH as u32, 1)),
     ]
 }
 
@@ -167,7 +176,7 @@ fn writing() {
         #[cfg(feature = "write")]
         {
             let (counts, rows, bytes, mut out) = (&counts, &rows, &bytes, vec![0; MAX_PACKET]);
-            let header = heolstorpit::Header { marker: false, sequence: 1, source: 2 };
+            let header = heolstorpit::Header { mode_request: MODE_REQUEST, marker: false, sequence: SEQUENCE, source: SOURCE };
             contenders.push(contender(LIBRARY, move || {
                 for _ in 0..64 {
                     heolstorpit::write_packet(given(s), header, black_box(counts), black_box(rows), bytes, black_box(&mut out)).unwrap();
@@ -177,13 +186,15 @@ fn writing() {
         }
         contenders.push(contender(RUST, || {
             for _ in 0..64 {
-                plain::write_packet(s, false, 1, 2, black_box(&counts), black_box(&rows), &bytes, black_box(&mut out)).unwrap();
+                let (counts, rows, out) = (black_box(&counts), black_box(&rows), black_box(&mut out));
+                plain::write_packet(s, MODE_REQUEST, false, SEQUENCE, SOURCE, counts, rows, &bytes, out).unwrap();
             }
             64
         }));
         contenders.push(contender(REFERENCE, || {
             for _ in 0..64 {
-                reference::write_packet(s, false, 1, 2, black_box(&counts), black_box(&rows), &bytes, black_box(&mut out_2)).unwrap();
+                let (counts, rows, out) = (black_box(&counts), black_box(&rows), black_box(&mut out_2));
+                reference::write_packet(s, MODE_REQUEST, false, SEQUENCE, SOURCE, counts, rows, &bytes, out).unwrap();
             }
             64
         }));
@@ -199,9 +210,43 @@ trait Reorder {
     fn get(&mut self) -> bool;
 }
 
-const STEP: u32 = G719_STEP;
-/// where the sound of a packet with one table entry starts
-const SOUND: usize = HEADER_BYTES + 2;
+/// What comes in packets of `per` frames.
+#[derive(Clone, Copy)]
+struct Load {
+    settings: reference::Settings,
+    /// frames of a packet
+    per: u32,
+    /// bytes of a frame
+    length: usize,
+    /// where the sound of a packet starts
+    sound: usize,
+    /// ticks from a frame to the next
+    step: u32,
+}
+
+impl Load {
+    /// G.719, in one table entry.
+    fn g719(per: u32) -> Load {
+        Load { settings: settings(1, 1), per, length: LENGTH, sound: HEADER_BYTES + 2, step: step_ticks(1) }
+    }
+
+    /// AMR: the mode byte, and an entry a frame.
+    fn amr(per: u32) -> Load {
+        Load { settings: settings(4, 1), per, length: AMR_LENGTH, sound: HEADER_BYTES + 1 + per as usize, step: step_ticks(4) }
+    }
+
+    /// The bytes of frame number `i` of a packet.
+    fn frame<'a>(&self, packet: &'a [u8], i: u32) -> &'a [u8] {
+        let start = self.sound + self.length * i as usize;
+        &packet[start..start + self.length]
+    }
+
+    /// Sets the timestamp of packet number `n`.
+    fn stamp(&self, n: u32, packet: &mut [u8]) {
+        packet[4..8].copy_from_slice(&(n * self.per).wrapping_mul(self.step).to_be_bytes());
+    }
+}
+
 /// packets of one frame each that fill the buffer
 const FULL: u32 = SLOTS as u32;
 
@@ -211,15 +256,15 @@ struct Proved {
     rows: Vec<u32>,
     store: Vec<u8>,
     area: Vec<u8>,
-    per: u32,
+    load: Load,
 }
 
 #[cfg(feature = "buffer")]
 impl Reorder for Proved {
     fn put(&mut self, n: u32, packet: &mut [u8]) {
-        packet[4..8].copy_from_slice(&(n * self.per).wrapping_mul(STEP).to_be_bytes());
+        self.load.stamp(n, packet);
         let verdicts = self.buffer.offer(packet, &mut self.rows, &mut self.store).unwrap();
-        debug_assert_eq!(verdicts.inserted, self.per);
+        debug_assert_eq!(verdicts.inserted, self.load.per);
     }
 
     fn get(&mut self) -> bool {
@@ -232,14 +277,14 @@ struct Plain {
     rows: Vec<u32>,
     store: Vec<u8>,
     area: Vec<u8>,
-    per: u32,
+    load: Load,
 }
 
 impl Reorder for Plain {
     fn put(&mut self, n: u32, packet: &mut [u8]) {
-        packet[4..8].copy_from_slice(&(n * self.per).wrapping_mul(STEP).to_be_bytes());
+        self.load.stamp(n, packet);
         let verdicts = self.take.offer(packet, &mut self.rows, &mut self.store).unwrap();
-        debug_assert_eq!(verdicts.inserted, self.per);
+        debug_assert_eq!(verdicts.inserted, self.load.per);
     }
 
     fn get(&mut self) -> bool {
@@ -251,41 +296,43 @@ impl Reorder for Plain {
 struct Copies {
     store: Vec<u8>,
     area: Vec<u8>,
-    per: u32,
+    load: Load,
     drawn: u32,
 }
 
 impl Reorder for Copies {
     fn put(&mut self, n: u32, packet: &mut [u8]) {
-        for i in 0..self.per {
-            let slot = SLOT_BYTES * ((n * self.per + i) % FULL) as usize;
-            let start = SOUND + LENGTH * i as usize;
-            black_box(&mut self.store)[slot..slot + LENGTH].copy_from_slice(&packet[start..start + LENGTH]);
+        for i in 0..self.load.per {
+            let slot = SLOT_BYTES * ((n * self.load.per + i) % FULL) as usize;
+            black_box(&mut self.store)[slot..slot + self.load.length].copy_from_slice(self.load.frame(packet, i));
         }
     }
 
     fn get(&mut self) -> bool {
         let slot = SLOT_BYTES * (self.drawn % FULL) as usize;
         self.drawn = self.drawn.wrapping_add(1);
-        black_box(&mut self.area)[..LENGTH].copy_from_slice(&self.store[slot..slot + LENGTH]);
+        black_box(&mut self.area)[..self.load.length].copy_from_slice(&self.store[slot..slot + self.load.length]);
         true
     }
 }
+
+/// ticks of a frame in peers.c, whatever the load
+#[cfg(any(feature = "libre", feature = "speexdsp"))]
+const PEER_STEP: u32 = reference::G719_STEP;
 
 #[cfg(any(feature = "libre", feature = "speexdsp"))]
 struct InC {
     peer: bench::peers::Peer,
     area: [u8; DRAW_AREA],
-    per: u32,
+    load: Load,
 }
 
 #[cfg(any(feature = "libre", feature = "speexdsp"))]
 impl Reorder for InC {
     fn put(&mut self, n: u32, packet: &mut [u8]) {
-        for i in 0..self.per {
-            let number = n * self.per + i;
-            let start = SOUND + LENGTH * i as usize;
-            self.peer.put(number as u16, number.wrapping_mul(STEP), &packet[start..start + LENGTH]);
+        for i in 0..self.load.per {
+            let number = n * self.load.per + i;
+            self.peer.put(number as u16, number.wrapping_mul(PEER_STEP), self.load.frame(packet, i));
         }
     }
 
@@ -375,22 +422,41 @@ fn gathering() {
     }
     columns.push("two memcpys");
     head("Offer and draw, a frame of 160 bytes", &columns);
-    let ways = [
-        ("singly, 8 held", Way::Singly { held: 8 }, 1),
-        ("singly, 64 held", Way::Singly { held: 64 }, 1),
-        ("singly, 176 held", Way::Singly { held: 176 }, 1),
-        ("bursts of 8 packets", Way::Bursts { packets: 8 }, 1),
-        ("bursts of 192 packets", Way::Bursts { packets: FULL }, 1),
-        ("bursts of 1 packet of 12 frames", Way::Bursts { packets: 1 }, 12),
-        ("bursts of 16 packets of 12 frames", Way::Bursts { packets: 16 }, 12),
-        ("192 packets, the last first", Way::Reversed { packets: FULL }, 1),
-        ("192 packets in order", Way::Strided { packets: FULL, stride: 1 }, 1),
-        ("192 packets, shuffled", Way::Strided { packets: FULL, stride: 77 }, 1),
-    ];
+    let lost = gathered(
+        &columns,
+        &[
+            ("singly, 8 held", Way::Singly { held: 8 }, Load::g719(1)),
+            ("singly, 64 held", Way::Singly { held: 64 }, Load::g719(1)),
+            ("singly, 176 held", Way::Singly { held: 176 }, Load::g719(1)),
+            ("bursts of 8 packets", Way::Bursts { packets: 8 }, Load::g719(1)),
+            ("bursts of 192 packets", Way::Bursts { packets: FULL }, Load::g719(1)),
+            ("bursts of 1 packet of 12 frames", Way::Bursts { packets: 1 }, Load::g719(12)),
+            ("bursts of 16 packets of 12 frames", Way::Bursts { packets: 16 }, Load::g719(12)),
+            ("192 packets, the last first", Way::Reversed { packets: FULL }, Load::g719(1)),
+            ("192 packets in order", Way::Strided { packets: FULL, stride: 1 }, Load::g719(1)),
+            ("192 packets, shuffled", Way::Strided { packets: FULL, stride: 77 }, Load::g719(1)),
+        ],
+    );
+    println!("{}", lost.join("\n"));
+    head("Offer and draw, an AMR frame of 31 bytes", &columns);
+    let lost = gathered(
+        &columns,
+        &[
+            ("AMR, singly, 8 held", Way::Singly { held: 8 }, Load::amr(1)),
+            ("AMR, singly, 64 held", Way::Singly { held: 64 }, Load::amr(1)),
+            ("AMR, bursts of 8 packets", Way::Bursts { packets: 8 }, Load::amr(1)),
+            ("AMR, bursts of 16 packets of 12 frames", Way::Bursts { packets: 16 }, Load::amr(12)),
+        ],
+    );
+    println!("{}", lost.join("\n"));
+}
+
+/// One line of the table for each way and load; answers who handed out fewer frames than came in.
+fn gathered(columns: &[&str], ways: &[(&'static str, Way, Load)]) -> Vec<String> {
     let mut lost = Vec::new();
-    for (title, way, per) in ways {
-        let s = settings(1, 1);
-        let packet = packet(s, &[per], &list(s, 0, per as usize, LENGTH as u32, 1));
+    for &(title, way, load) in ways {
+        let (s, per) = (load.settings, load.per);
+        let packet = packet(s, &[per], &list(s, 0, per as usize, load.length as u32, 1));
         let mut peers: Vec<(&'static str, Box<dyn Reorder>)> = Vec::new();
         #[cfg(feature = "buffer")]
         peers.push((
@@ -400,7 +466,7 @@ fn gathering() {
                 rows: vec![0; ROW_AREA],
                 store: vec![0; STORE_BYTES],
                 area: vec![0; DRAW_AREA],
-                per,
+                load,
             }),
         ));
         peers.push((
@@ -410,14 +476,14 @@ fn gathering() {
                 rows: vec![0; ROW_AREA],
                 store: vec![0; STORE_BYTES],
                 area: vec![0; DRAW_AREA],
-                per,
+                load,
             }),
         ));
         #[cfg(feature = "libre")]
-        peers.push(("libre jbuf", Box::new(InC { peer: bench::peers::Peer::new(bench::peers::LIBRE), area: [0; DRAW_AREA], per })));
+        peers.push(("libre jbuf", Box::new(InC { peer: bench::peers::Peer::new(bench::peers::LIBRE), area: [0; DRAW_AREA], load })));
         #[cfg(feature = "speexdsp")]
-        peers.push(("speexdsp", Box::new(InC { peer: bench::peers::Peer::new(bench::peers::SPEEXDSP), area: [0; DRAW_AREA], per })));
-        peers.push(("two memcpys", Box::new(Copies { store: vec![0; STORE_BYTES], area: vec![0; DRAW_AREA], per, drawn: 0 })));
+        peers.push(("speexdsp", Box::new(InC { peer: bench::peers::Peer::new(bench::peers::SPEEXDSP), area: [0; DRAW_AREA], load })));
+        peers.push(("two memcpys", Box::new(Copies { store: vec![0; STORE_BYTES], area: vec![0; DRAW_AREA], load, drawn: 0 })));
 
         let frames = match way {
             Way::Singly { .. } => FULL,
@@ -439,7 +505,7 @@ fn gathering() {
                 })
             })
             .collect();
-        measure(title, &columns, contenders);
+        measure(title, columns, contenders);
         for (name, count) in counts {
             let (all, got) = count.get();
             if got != all {
@@ -447,7 +513,7 @@ fn gathering() {
             }
         }
     }
-    println!("{}", lost.join("\n"));
+    lost
 }
 
 /// What a receiver does for its reports.
@@ -497,7 +563,7 @@ fn receiver<'a>(name: &'static str, packets: usize, reports: usize, mut peer: im
     let mut sequence = 0u16;
     let mut next = move |peer: &mut dyn Receive| {
         sequence = sequence.wrapping_add(if sequence % 8 == 6 { 2 } else { 1 });
-        let time = STEP.wrapping_mul(sequence as u32);
+        let time = reference::G719_STEP.wrapping_mul(sequence as u32);
         peer.packet(black_box(sequence), black_box(time), black_box(time ^ u32::from(sequence % 64)))
     };
     // past the probation

@@ -21,21 +21,54 @@ fn frame_length(code: u8) -> Option<usize> {
     }
 }
 
+/// Class and length of an entry of one byte: GSM-HR, AMR, AMR-WB.
+fn frame(format: u8, entry: u8) -> Option<(u32, u32)> {
+    let kind = (entry >> 3 & 15) as usize;
+    let lengths: &[u32] = match format {
+        4 => &AMR_LENGTHS,
+        5 => &AMR_WB_LENGTHS,
+        _ => {
+            return match entry >> 4 & 7 {
+                0 => Some((1, 14)),
+                2 => Some((2, 14)),
+                7 => Some((0, 0)),
+                _ => None,
+            }
+        }
+    };
+    if kind == 15 || (kind == 14 && format == 5) {
+        return Some((0, 0));
+    }
+    let length = *lengths.get(kind)?;
+    // the last is the SID
+    let class = if kind + 1 == lengths.len() { 2 } else { 1 };
+    Some((if entry & QUALITY_BIT != 0 { class } else { class + 4 }, length))
+}
+
+/// Bytes of a payload before its table: the mode byte of AMR.
+fn mode_bytes(s: Settings) -> usize {
+    (s.format >= 4) as usize
+}
+
+/// The mode request of a payload that was walked.
+fn mode_of(s: Settings, p: &[u8]) -> u8 {
+    if s.format >= 4 {
+        p[0] >> 4
+    } else {
+        NO_MODE_REQUEST
+    }
+}
+
 fn walk(s: Settings, p: &[u8], before: usize) -> Result<Table, u32> {
     let channels = s.channels as usize;
-    let (mut at, mut rows, mut bytes) = (0, before, 0);
+    let (mut at, mut rows, mut bytes) = (mode_bytes(s), before, 0);
     loop {
-        let (code, blocks, size, length);
-        if s.format == 3 {
+        let (blocks, size, length);
+        if s.format >= 3 {
             if at >= p.len() {
                 return Err(TABLE_PAST_END);
             }
-            code = p[at] >> 4 & 7;
-            length = match code {
-                0 | 2 => 14,
-                7 => 0,
-                _ => return Err(RESERVED_CODE),
-            };
+            length = frame(s.format, p[at]).ok_or(RESERVED_CODE)?.1 as usize;
             (blocks, size) = (1, 1);
         } else {
             if at + 2 > p.len() {
@@ -70,18 +103,15 @@ fn walk(s: Settings, p: &[u8], before: usize) -> Result<Table, u32> {
 
 /// Writes the rows of a payload that was walked, which stands at `place` of the packet.
 fn put_rows(s: Settings, p: &[u8], place: usize, mut time: u32, table: &Table, out: &mut [u32]) {
-    let mut at = 0;
+    let mut at = mode_bytes(s);
+    let step = step_ticks(s.format);
     let mut start = (place + table.sound) as u32;
     let mut rows = out[..ROW_WORDS * table.rows].chunks_exact_mut(ROW_WORDS);
     let mut first = true;
     loop {
         let (class, length, blocks, size);
-        if s.format == 3 {
-            (class, length) = match p[at] >> 4 & 7 {
-                0 => (1, 14),
-                2 => (2, 14),
-                _ => (0, 0),
-            };
+        if s.format >= 3 {
+            (class, length) = frame(s.format, p[at]).unwrap_or((0, 0));
             (blocks, size) = (1, 1);
         } else {
             length = frame_length(p[at] >> 2 & 31).unwrap_or(0) as u32;
@@ -92,7 +122,7 @@ fn put_rows(s: Settings, p: &[u8], place: usize, mut time: u32, table: &Table, o
         for block in 0..blocks {
             if !first {
                 let gap = if s.format == 2 { p[at + 2 + block / 2] >> (4 - 4 * (block % 2)) & 15 } else { 0 };
-                time = time.wrapping_add((gap as u32 + 1) * if s.format == 3 { GSM_HR_STEP } else { G719_STEP });
+                time = time.wrapping_add((gap as u32 + 1) * step);
             }
             first = false;
             for channel in 0..s.channels as u32 {
@@ -148,11 +178,11 @@ fn read_checked(s: Settings, packet: &[u8], out: &mut [u32]) -> Result<Reading, 
     }
     let timestamp = word(&packet[4..8]);
     let payload_type = packet[1] & 127;
-    let rows = if payload_type == s.payload_type {
+    let (rows, mode_request) = if payload_type == s.payload_type {
         let payload = &packet[start..end];
         let table = walk(s, payload, 0)?;
         put_rows(s, payload, start, timestamp, &table, out);
-        table.rows
+        (table.rows, mode_of(s, payload))
     } else if payload_type == s.redundancy_type {
         read_redundancy(s, packet, start, end, timestamp, out)?
     } else {
@@ -164,10 +194,11 @@ fn read_checked(s: Settings, packet: &[u8], out: &mut [u32]) -> Result<Reading, 
         sequence: u16::from_be_bytes([packet[2], packet[3]]) as u32,
         timestamp,
         source: word(&packet[8..12]),
+        mode_request: mode_request as u32,
     })
 }
 
-fn read_redundancy(s: Settings, packet: &[u8], start: usize, end: usize, timestamp: u32, out: &mut [u32]) -> Result<usize, u32> {
+fn read_redundancy(s: Settings, packet: &[u8], start: usize, end: usize, timestamp: u32, out: &mut [u32]) -> Result<(usize, u8), u32> {
     let (mut at, mut summed) = (start, 0);
     loop {
         if at >= end {
@@ -189,7 +220,7 @@ fn read_redundancy(s: Settings, packet: &[u8], start: usize, end: usize, timesta
     }
     // Walk all blocks, then write them: a refusal in the last one leaves the area as it was.
     for write in [false, true] {
-        let (mut header, mut block, mut rows) = (start, data, 0);
+        let (mut header, mut block, mut rows, mut mode_request) = (start, data, 0, NO_MODE_REQUEST);
         loop {
             let last = packet[header] & F_BIT == 0;
             let head = if last { (packet[header] as u32) << 24 } else { word(&packet[header..]) };
@@ -201,10 +232,11 @@ fn read_redundancy(s: Settings, packet: &[u8], start: usize, end: usize, timesta
                     put_rows(s, payload, block, timestamp.wrapping_sub(head >> 10 & 16383), &table, &mut out[ROW_WORDS * rows..]);
                 }
                 rows += table.rows;
+                mode_request = mode_of(s, payload);
             }
             if last {
                 if write {
-                    return Ok(rows);
+                    return Ok((rows, mode_request));
                 }
                 break;
             }
@@ -221,8 +253,19 @@ fn outside(words: &[u32], bytes: &[u8]) -> bool {
     words.chunks_exact(ROW_WORDS).any(|row| row[2] as u64 + row[3] as u64 > bytes.len() as u64)
 }
 
-/// The table code of a row's class and length.
+/// The table code of a row's class and length; for AMR the type and the quality bit.
 fn code(format: u8, class: u32, length: u32) -> Option<u8> {
+    if format >= 4 {
+        let lengths: &[u32] = if format == 4 { &AMR_LENGTHS } else { &AMR_WB_LENGTHS };
+        let sid = lengths.len() - 1;
+        let kind = match class {
+            0 if length == 0 => return Some(31),
+            1 | 5 => lengths[..sid].iter().position(|l| *l == length)?,
+            2 | 6 if length == lengths[sid] => sid,
+            _ => return None,
+        };
+        return Some((kind as u8) << 1 | (class <= 2) as u8);
+    }
     match (format, class, length) {
         (3, 1, 14) => Some(0),
         (3, 2, 14) => Some(2),
@@ -241,8 +284,8 @@ fn plan(s: Settings, words: &[u32]) -> Option<usize> {
     if rows == 0 || rows > MAX_ROWS || rows % channels != 0 {
         return None;
     }
-    let step = if s.format == 3 { GSM_HR_STEP } else { G719_STEP };
-    let (mut size, mut run, mut previous) = (0, 0usize, None);
+    let step = step_ticks(s.format);
+    let (mut size, mut run, mut previous) = (mode_bytes(s), 0usize, None);
     for block in words.chunks_exact(ROW_WORDS * channels) {
         let (time, length) = (block[0], block[3]);
         let class = block[1] / 256;
@@ -252,7 +295,7 @@ fn plan(s: Settings, words: &[u32]) -> Option<usize> {
                 return None;
             }
         }
-        let joins = s.format != 3 && previous.is_some_and(|(_, l)| l == length);
+        let joins = s.format < 3 && previous.is_some_and(|(_, l)| l == length);
         if let Some((before, _)) = previous {
             let ticks = time.wrapping_sub(before);
             let most = if s.format == 2 { 16 } else { 1 };
@@ -266,7 +309,7 @@ fn plan(s: Settings, words: &[u32]) -> Option<usize> {
                 1 if !joins => 2,
                 2 if !joins => 3,
                 2 if run % 2 == 1 => 1,
-                3 => 1,
+                3.. => 1,
                 _ => 0,
             };
         previous = Some((time, length));
@@ -279,12 +322,16 @@ fn plan(s: Settings, words: &[u32]) -> Option<usize> {
 }
 
 /// Writes the payload of a list that was planned.
-fn put_payload(s: Settings, words: &[u32], bytes: &[u8], out: &mut [u8]) {
+fn put_payload(s: Settings, mode_request: u8, words: &[u32], bytes: &[u8], out: &mut [u8]) {
     let width = ROW_WORDS * s.channels as usize;
-    let mut at = 0;
-    if s.format == 3 {
+    let mut at = mode_bytes(s);
+    if s.format >= 3 {
+        if s.format >= 4 {
+            out[0] = mode_request << 4;
+        }
+        let shift = if s.format == 3 { 4 } else { 2 };
         for row in words.chunks_exact(width) {
-            out[at] = F_BIT | code(3, row[1] / 256, row[3]).unwrap_or(0) << 4;
+            out[at] = F_BIT | code(s.format, row[1] / 256, row[3]).unwrap_or(0) << shift;
             at += 1;
         }
         out[at - 1] &= !F_BIT;
@@ -319,8 +366,8 @@ fn put_payload(s: Settings, words: &[u32], bytes: &[u8], out: &mut [u8]) {
     }
 }
 
-pub fn write_payload(s: Settings, words: &[u32], bytes: &[u8], out: &mut [u8]) -> Result<u32, u32> {
-    if !s.in_range() {
+pub fn write_payload(s: Settings, mode_request: u8, words: &[u32], bytes: &[u8], out: &mut [u8]) -> Result<u32, u32> {
+    if !s.in_range() || mode_request > MAX_MODE_REQUEST {
         return Err(BAD_SETTINGS);
     }
     if outside(words, bytes) {
@@ -333,13 +380,14 @@ pub fn write_payload(s: Settings, words: &[u32], bytes: &[u8], out: &mut [u8]) -
     if out.len() < size {
         return Err(AREA_TOO_SHORT);
     }
-    put_payload(s, words, bytes, &mut out[..size]);
+    put_payload(s, mode_request, words, bytes, &mut out[..size]);
     Ok(size as u32)
 }
 
 #[allow(clippy::too_many_arguments)]
 pub fn write_packet(
     s: Settings,
+    mode_request: u8,
     marker: bool,
     sequence: u16,
     source: u32,
@@ -348,7 +396,7 @@ pub fn write_packet(
     bytes: &[u8],
     out: &mut [u8],
 ) -> Result<u32, u32> {
-    if !s.in_range() {
+    if !s.in_range() || mode_request > MAX_MODE_REQUEST {
         return Err(BAD_SETTINGS);
     }
     if outside(words, bytes) {
@@ -403,7 +451,7 @@ pub fn write_packet(
         at += 1;
     }
     for (from, to, length) in &lists[..=redundant] {
-        put_payload(s, &words[*from..*to], bytes, &mut out[at..at + length]);
+        put_payload(s, mode_request, &words[*from..*to], bytes, &mut out[at..at + length]);
         at += length;
     }
     Ok(size as u32)
@@ -475,8 +523,9 @@ impl Take {
             if ahead == 0 && channel == held.channel {
                 let start = held.slot as usize * SLOT_BYTES;
                 let copy = &mut store[start..start + SLOT_BYTES];
+                // sound, SID, damaged sound, damaged SID
                 let better = if class != held.class {
-                    class == 1
+                    class < held.class
                 } else if bytes.len() != held.length as usize {
                     bytes.len() > held.length as usize
                 } else {

@@ -31,14 +31,15 @@ fn writing() {
             4 => cases::counts_of(&mut r, &mut counts),
             _ => {}
         }
+        let mode = cases::mode_request(&mut r);
         let length = if r.percent(50) { MAX_PACKET } else { r.below(MAX_PACKET) };
         let (mut one, mut two) = (vec![0; length], vec![0; length]);
-        let mine = plain::write_packet(s, true, 1, 2, &counts, &list.words, &list.bytes, &mut one);
-        let theirs = reference::write_packet(s, true, 1, 2, &counts, &list.words, &list.bytes, &mut two);
+        let mine = plain::write_packet(s, mode, true, 1, 2, &counts, &list.words, &list.bytes, &mut one);
+        let theirs = reference::write_packet(s, mode, true, 1, 2, &counts, &list.words, &list.bytes, &mut two);
         assert_eq!((mine, &one), (theirs, &two), "{s:?} {counts:?} {list:?}");
         let end = list.words.len().min(ROW_WORDS * counts.first().map_or(0, |count| (*count).min(1000) as usize));
-        let mine = plain::write_payload(s, &list.words[..end], &list.bytes, &mut one);
-        let theirs = reference::write_payload(s, &list.words[..end], &list.bytes, &mut two);
+        let mine = plain::write_payload(s, mode, &list.words[..end], &list.bytes, &mut one);
+        let theirs = reference::write_payload(s, mode, &list.words[..end], &list.bytes, &mut two);
         assert_eq!((mine, &one), (theirs, &two), "{s:?} {list:?}");
     }
 }

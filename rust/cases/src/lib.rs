@@ -11,7 +11,7 @@ mod receptions;
 mod spoiled;
 
 pub use lists::{counts_of, damage_list, groups_apart, list_from_packet, lists_for_packet, made_list, List};
-pub use packets::{bad_settings, damage, other_settings, packet, packet_at, payload, settings, Shape};
+pub use packets::{bad_settings, damage, mode_request, other_settings, packet, packet_at, payload, settings, Shape};
 pub use random::Random;
 pub use receptions::{any_reception, change_reception, reception_before_report, Arrival, Source};
 pub use spoiled::{spoil, SPOILS};

@@ -1,7 +1,10 @@
 //! Lists of rows to write, with the bytes they point into.
 
 use crate::{Random, Shape};
-use reference::{step_ticks, Row, Settings, MAX_BLOCK, MAX_OFFSET, MAX_PAYLOAD, MAX_REDUNDANT, MAX_ROWS, ROW_AREA, ROW_WORDS, SLOT_BYTES};
+use reference::{
+    step_ticks, Row, Settings, AMR_LENGTHS, AMR_WB_LENGTHS, MAX_BLOCK, MAX_OFFSET, MAX_PAYLOAD, MAX_REDUNDANT, MAX_ROWS, ROW_AREA,
+    ROW_WORDS, SLOT_BYTES,
+};
 
 /// Words of rows, and the byte area that they point into.
 #[derive(Clone, Debug, Default)]
@@ -42,7 +45,7 @@ pub fn made_list(r: &mut Random, s: Settings, time: u32, most_rows: usize, aim: 
     let mut words = Vec::new();
     let mut now = time;
     let mut run: Option<usize> = None;
-    let (mut payload, mut run_blocks) = (0usize, 0usize);
+    let (mut payload, mut run_blocks) = (if s.format >= 4 { 1usize } else { 0 }, 0usize);
     let mut length = pick_length(r, s);
     let rows = match aim {
         Some(_) => most_rows,
@@ -59,7 +62,8 @@ pub fn made_list(r: &mut Random, s: Settings, time: u32, most_rows: usize, aim: 
             if payload + table + 4 + channels * length > aim {
                 length = 0;
             }
-            if payload + table + (run != Some(length)) as usize * 2 > aim + r.below(4) {
+            let entry = if s.format >= 3 { 1 } else { (run != Some(length)) as usize * 2 };
+            if payload + table + entry > aim + r.below(4) {
                 break;
             }
         }
@@ -69,7 +73,7 @@ pub fn made_list(r: &mut Random, s: Settings, time: u32, most_rows: usize, aim: 
             let steps = if s.format == 2 && r.percent(30) { r.within(1, 16) } else { 1 };
             now = now.wrapping_add(step * steps as u32);
         }
-        if s.format == 3 {
+        if s.format >= 3 {
             payload += 1;
         } else if !same {
             payload += 2 + if s.format == 2 { run_blocks.div_ceil(2) } else { 0 };
@@ -78,12 +82,12 @@ pub fn made_list(r: &mut Random, s: Settings, time: u32, most_rows: usize, aim: 
         run_blocks += 1;
         run = Some(length);
         payload += channels * length;
-        let class = if length == 0 {
-            0
-        } else if s.format == 3 {
-            r.pick(&[1, 1, 2])
-        } else {
-            1
+        let class = match (s.format, length) {
+            (_, 0) => 0,
+            (3, _) => r.pick(&[1, 1, 2]),
+            (4 | 5, SID_LENGTH) => r.pick(&[2, 2, 6]),
+            (4 | 5, _) => r.pick(&[1, 1, 5]),
+            _ => 1,
         };
         for channel in 0..channels as u32 {
             let start = match r.below(10) {
@@ -97,11 +101,18 @@ pub fn made_list(r: &mut Random, s: Settings, time: u32, most_rows: usize, aim: 
     List { words, bytes }
 }
 
+/// bytes of a SID of AMR and AMR-WB
+const SID_LENGTH: usize = 5;
+
 fn pick_length(r: &mut Random, s: Settings) -> usize {
     if r.percent(12) {
         0
     } else if s.format == 3 {
         14
+    } else if s.format == 4 {
+        r.pick(&AMR_LENGTHS) as usize
+    } else if s.format == 5 {
+        r.pick(&AMR_WB_LENGTHS) as usize
     } else {
         match r.below(3) {
             0 => r.pick(&[80, 220, 240, 320]),
@@ -140,14 +151,16 @@ pub fn damage_list(r: &mut Random, s: Settings, list: &mut List) {
                 list.words[place] = list.words[place].wrapping_add(change);
             }
         }
-        2 => list.words[row + 1] = r.pick(&[0, 1, 2, 255, 256, 257, 258, 512, 513, 768, 65536 + 256, u32::MAX]),
+        2 => {
+            list.words[row + 1] = r.pick(&[0, 1, 2, 255, 256, 257, 258, 512, 513, 768, 1024, 1280, 1281, 1536, 1792, 65536 + 256, u32::MAX])
+        }
         3 => list.words[row + 1] ^= r.pick(&[1, 2, 128, 256, 512, 1024, 1 << 16, 1 << 31]),
         4 => list.words[row + 2] = r.pick(&[0, list.bytes.len() as u32, list.bytes.len() as u32 + 1, u32::MAX, 1 << 31]),
         5 => {
             let beyond = list.bytes.len() as u32 - list.words[row + 3].min(list.bytes.len() as u32);
             list.words[row + 2] = beyond.wrapping_add(r.pick(&[0, 1, u32::MAX]));
         }
-        6 => list.words[row + 3] = r.pick(&[0, 13, 14, 15, 79, 80, 90, 220, 230, 240, 250, 320, 340, u32::MAX]),
+        6 => list.words[row + 3] = r.pick(&[0, 5, 12, 13, 14, 15, 17, 31, 32, 60, 61, 79, 80, 90, 220, 230, 240, 250, 320, 340, u32::MAX]),
         7 => list.words[row + 3] = list.words[row + 3].wrapping_add(r.pick(&[1, u32::MAX, 10, 20])),
         8 => {
             let other = ROW_WORDS * r.below(rows);

@@ -1,12 +1,14 @@
 //! Packets: built by the formats' rules with every field at random, then damaged.
 
 use crate::Random;
-use reference::{Settings, F_BIT, MAX_BLOCK, MAX_OFFSET, MAX_PACKET, MAX_ROWS, M_BIT, NO_REDUNDANCY, VERSION_2};
+use reference::{
+    Settings, AMR_LENGTHS, AMR_WB_LENGTHS, F_BIT, MAX_BLOCK, MAX_OFFSET, MAX_PACKET, MAX_ROWS, M_BIT, NO_REDUNDANCY, QUALITY_BIT, VERSION_2,
+};
 
 /// Settings in range.
 pub fn settings(r: &mut Random) -> Settings {
-    let format = r.within(1, 3) as u8;
-    let channels = if format == 3 { 1 } else { r.within(1, 2) as u8 };
+    let format = r.within(1, 5) as u8;
+    let channels = r.within(1, most_channels(format) as usize) as u8;
     let payload_type = if r.percent(10) { r.pick(&[0, 127]) } else { r.below(128) as u8 };
     let redundancy_type = loop {
         let t = if r.percent(30) { NO_REDUNDANCY } else { r.below(128) as u8 };
@@ -17,12 +19,21 @@ pub fn settings(r: &mut Random) -> Settings {
     Settings { format, channels, payload_type, redundancy_type }
 }
 
+/// The most channels of a format.
+fn most_channels(format: u8) -> u8 {
+    if format <= 2 {
+        2
+    } else {
+        1
+    }
+}
+
 /// Other settings in range, or the same.
 pub fn other_settings(r: &mut Random, s: Settings) -> Settings {
     let other = settings(r);
     match r.below(4) {
-        0 => Settings { format: other.format, channels: s.channels.min(if other.format == 3 { 1 } else { 2 }), ..s },
-        1 => Settings { channels: if s.format == 3 { 1 } else { 3 - s.channels }, ..s },
+        0 => Settings { format: other.format, channels: s.channels.min(most_channels(other.format)), ..s },
+        1 => Settings { channels: if s.format >= 3 { 1 } else { 3 - s.channels }, ..s },
         2 => Settings { payload_type: s.redundancy_type & 127, redundancy_type: NO_REDUNDANCY, ..s },
         _ => other,
     }
@@ -32,12 +43,22 @@ pub fn other_settings(r: &mut Random, s: Settings) -> Settings {
 pub fn bad_settings(r: &mut Random) -> Settings {
     let s = settings(r);
     match r.below(6) {
-        0 => Settings { format: r.pick(&[0, 4, 5, 128, 255]), ..s },
+        0 => Settings { format: r.pick(&[0, 6, 7, 128, 255]), ..s },
         1 => Settings { channels: r.pick(&[0, 3, 4, 6, 255]), ..s },
-        2 => Settings { format: 3, channels: 2, ..s },
+        2 => Settings { format: r.pick(&[3, 4, 5]), channels: 2, ..s },
         3 => Settings { payload_type: r.pick(&[128, 129, 200, 255]), ..s },
         4 => Settings { redundancy_type: r.pick(&[129, 130, 200, 255]), ..s },
         _ => Settings { redundancy_type: s.payload_type, ..s },
+    }
+}
+
+/// A mode request to write: mostly one that there is, 0 to 15.
+pub fn mode_request(r: &mut Random) -> u8 {
+    match r.below(50) {
+        0 => r.within(16, 20) as u8,
+        1 => r.byte(),
+        2 => 15,
+        _ => r.below(16) as u8,
     }
 }
 
@@ -62,6 +83,18 @@ fn code(r: &mut Random, s: Settings, alike: bool) -> (u8, usize) {
     if s.format == 3 {
         return r.pick(&[(0, 14), (0, 14), (2, 14), (7, 0)]);
     }
+    if s.format >= 4 {
+        let lengths: &[u32] = if s.format == 4 { &AMR_LENGTHS } else { &AMR_WB_LENGTHS };
+        let sid = lengths.len() - 1;
+        let code = match r.below(20) {
+            0..=1 => return (15, 0),
+            2 if s.format == 5 => return (14, 0),
+            3..=6 => sid,
+            _ if alike => r.pick(&[0, 0, 1]),
+            _ => r.below(sid),
+        };
+        return (code as u8, lengths[code] as usize);
+    }
     let code = if r.percent(15) {
         0
     } else if alike {
@@ -80,11 +113,13 @@ fn g719_length(code: u8) -> usize {
     }
 }
 
-/// A valid payload: tables and sound, with the reserved and padding bits and every displacement at random.
+/// A valid payload: tables and sound, with the mode request, the reserved and padding bits and every displacement at random, and some frames
+/// damaged.
 pub fn payload(r: &mut Random, s: Settings, shape: Shape) -> Vec<u8> {
     let channels = s.channels as usize;
     let mut entries: Vec<Entry> = Vec::new();
-    let (mut bytes, mut rows) = (0, 0);
+    let header = if s.format >= 4 { 1 } else { 0 };
+    let (mut bytes, mut rows) = (header, 0);
     let most = match r.below(4) {
         0 => 1,
         1 => r.within(1, 4),
@@ -92,7 +127,7 @@ pub fn payload(r: &mut Random, s: Settings, shape: Shape) -> Vec<u8> {
     };
     while entries.len() < most {
         let (code, length) = code(r, s, shape.alike);
-        let blocks = if s.format == 3 {
+        let blocks = if s.format >= 3 {
             1
         } else if r.percent(5) {
             r.within(1, 64)
@@ -112,12 +147,16 @@ pub fn payload(r: &mut Random, s: Settings, shape: Shape) -> Vec<u8> {
         rows += blocks * channels;
         entries.push(Entry { code, length, blocks });
     }
-    let mut payload = Vec::with_capacity(bytes);
+    let mut payload = r.bytes(header);
     let mut sound = 0;
+    let damaged = r.pick(&[0, 20, 60]);
     for (i, entry) in entries.iter().enumerate() {
         let another = if i + 1 < entries.len() { F_BIT } else { 0 };
         if s.format == 3 {
             payload.push(another | entry.code << 4 | r.byte() & 15);
+        } else if s.format >= 4 {
+            let good = if r.percent(damaged) { 0 } else { QUALITY_BIT };
+            payload.push(another | entry.code << 3 | good | r.byte() & 3);
         } else {
             payload.push(another | entry.code << 2 | r.byte() & 3);
             payload.push(entry.blocks as u8);

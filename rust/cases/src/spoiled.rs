@@ -50,8 +50,8 @@ pub fn spoil(r: &mut Random, b: &mut Buffer, way: usize) {
             }
         }
         // sorts and lengths as the kind allows
-        10 => b.tags[some] = b.tags[some] % 256 + 256 * r.pick(&[0, 1, 2, 3, 255, 256, 1 << 23]),
-        11 => b.lengths[some] = r.pick(&[0, 13, 14, 15, 80, 81, 90, 220, 230, 240, 250, 320, 340, u32::MAX]),
+        10 => b.tags[some] = b.tags[some] % 256 + 256 * r.pick(&[0, 1, 2, 3, 4, 5, 6, 7, 255, 256, 1 << 23]),
+        11 => b.lengths[some] = r.pick(&[0, 5, 12, 13, 14, 15, 17, 23, 31, 32, 60, 80, 81, 90, 220, 230, 240, 250, 320, 340, u32::MAX]),
         12 => b.settings = other_settings(r, b.settings),
         // channels in range
         13 => b.tags[some] = b.tags[some] / 256 * 256 + r.pick(&[0, 1, 2, 255]),

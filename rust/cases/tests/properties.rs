@@ -4,7 +4,7 @@ use cases::{Arrival, Random, Shape, Source};
 use reference::*;
 use std::collections::BTreeMap;
 
-/// A packet written reads back: header, times, channels, classes, lengths, frame bytes.
+/// A packet written reads back: header, mode request, times, channels, classes, lengths, frame bytes.
 #[test]
 fn packets_read_back() {
     let mut r = Random::new(51);
@@ -12,9 +12,9 @@ fn packets_read_back() {
     for _ in 0..60_000 {
         let s = cases::settings(&mut r);
         let (list, counts) = cases::lists_for_packet(&mut r, s);
-        let (marker, sequence, source) = (r.percent(50), r.word() as u16, r.word());
+        let (mode_request, marker, sequence, source) = (r.below(16) as u8, r.percent(50), r.word() as u16, r.word());
         let mut out = vec![0; MAX_PACKET];
-        let Ok(length) = write_packet(s, marker, sequence, source, &counts, &list.words, &list.bytes, &mut out) else {
+        let Ok(length) = write_packet(s, mode_request, marker, sequence, source, &counts, &list.words, &list.bytes, &mut out) else {
             continue;
         };
         written += 1;
@@ -28,6 +28,7 @@ fn packets_read_back() {
             sequence: sequence as u32,
             timestamp: list.words[ROW_WORDS * primary],
             source,
+            mode_request: if s.format >= 4 { mode_request } else { NO_MODE_REQUEST } as u32,
         };
         assert_eq!(reading, header);
         for (back, row) in area.chunks(ROW_WORDS).zip(list.words.chunks(ROW_WORDS)) {
@@ -39,14 +40,14 @@ fn packets_read_back() {
     assert!(written > 10_000);
 }
 
-/// A copy of a frame, ordered by "better": class (sound over SID), length, bytes.
-type Copy = (u32, usize, Vec<u8>);
+/// A copy of a frame, ordered by "better": good over damaged, sound over SID, length, bytes.
+type Copy = (bool, bool, usize, Vec<u8>);
 
 /// Demand 3: offers in any order and number, then draws to the end, give each pair heard once, in time order, with its best copy.
 #[test]
 fn any_order_draws_the_best_copies_in_time_order() {
     let mut r = Random::new(52);
-    let (mut judged, mut frames) = (0, 0);
+    let (mut judged, mut frames, mut damaged) = (0, 0, 0);
     for _ in 0..3000 {
         let s = cases::settings(&mut r);
         let base = if r.percent(50) { 0u32.wrapping_sub(960 * 20) } else { r.word() };
@@ -74,7 +75,7 @@ fn any_order_draws_the_best_copies_in_time_order() {
                 let ahead = row.time.wrapping_sub(from);
                 wide |= ahead >= 1 << 31;
                 let bytes = packet[row.start as usize..(row.start + row.length) as usize].to_vec();
-                let copy = (3 - row.class, bytes.len(), bytes);
+                let copy = (row.class <= 2, row.class == 1 || row.class == 5, bytes.len(), bytes);
                 let held = best.entry((ahead, row.channel)).or_insert_with(|| copy.clone());
                 if copy > *held {
                     *held = copy;
@@ -86,6 +87,7 @@ fn any_order_draws_the_best_copies_in_time_order() {
         }
         judged += 1;
         frames += best.len();
+        damaged += best.values().filter(|copy| !copy.0).count();
         for _ in 0..2 {
             // some order, some repeated
             let mut order: Vec<usize> = (0..packets.len()).collect();
@@ -108,10 +110,11 @@ fn any_order_draws_the_best_copies_in_time_order() {
             }
             assert_eq!(inserted, buffer.held());
             let mut out = vec![0; DRAW_AREA];
-            for ((ahead, channel), (rank, length, bytes)) in &best {
+            for ((ahead, channel), (good, sound, length, bytes)) in &best {
+                let class = if *sound { 1 } else { 2 } + if *good { 0 } else { 4 };
                 let (after, drawn) = draw(&buffer, &store, &mut out);
                 assert!(is_well_formed(&after));
-                let expected = Drawn::Frame { time: from.wrapping_add(*ahead), channel: *channel, class: 3 - rank, length: *length as u32 };
+                let expected = Drawn::Frame { time: from.wrapping_add(*ahead), channel: *channel, class, length: *length as u32 };
                 assert_eq!(drawn, Ok(expected));
                 assert_eq!(out[..*length], bytes[..]);
                 buffer = after;
@@ -119,7 +122,7 @@ fn any_order_draws_the_best_copies_in_time_order() {
             assert_eq!(draw(&buffer, &store, &mut out).1, Ok(Drawn::Empty));
         }
     }
-    assert!(judged > 2000 && frames > 20_000, "{judged} {frames}");
+    assert!(judged > 2000 && frames > 20_000 && damaged > 1000, "{judged} {frames} {damaged}");
 }
 
 /// P7: from any record that is not refused the sum keeps its bound and the reported numbers their ranges, and the record after a call is not

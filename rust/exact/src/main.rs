@@ -50,7 +50,8 @@ fn read(r: &mut Random, cases: usize) {
         let (mut one, mut two) = (exact(&vec![7; words]), exact(&vec![7; words]));
         let answer = raw::read(settings(s), &packet, &mut one);
         let expected = reference::read(s, &packet, &mut two);
-        assert_eq!((answer.refusal, answer.rows, one), (expected.err().unwrap_or(0), expected.map_or(0, |e| e.rows), two));
+        let numbers = expected.map_or_else(|refusal| (refusal, 0, 0), |e| (0, e.rows, e.mode_request));
+        assert_eq!(((answer.refusal, answer.rows, answer.mode_request), one), (numbers, two));
     }
     println!("exact lengths: {cases} calls of read");
 }
@@ -66,23 +67,24 @@ fn write(r: &mut Random, cases: usize) {
             _ => {}
         }
         let (rows, bytes, counts) = (exact(&list.words), exact(&list.bytes), exact(&counts));
-        let length = reference::write_packet(s, true, 1, 2, &counts, &rows, &bytes, &mut [0; MAX_PACKET]);
+        let mode = cases::mode_request(r);
+        let length = reference::write_packet(s, mode, true, 1, 2, &counts, &rows, &bytes, &mut [0; MAX_PACKET]);
         let out = match length {
             Ok(length) if r.percent(80) => length as usize,
             Ok(length) => r.below(length as usize),
             Err(_) => r.below(100),
         };
         let (mut one, mut two) = (exact(&vec![7; out]), exact(&vec![7; out]));
-        let answer = raw::write_packet(settings(s), 1, 1, 2, &counts, &rows, &bytes, &mut one);
-        let expected = reference::write_packet(s, true, 1, 2, &counts, &rows, &bytes, &mut two);
+        let answer = raw::write_packet(settings(s), mode, 1, 1, 2, &counts, &rows, &bytes, &mut one);
+        let expected = reference::write_packet(s, mode, true, 1, 2, &counts, &rows, &bytes, &mut two);
         assert_eq!((answer.refusal, answer.length, one), (expected.err().unwrap_or(0), expected.unwrap_or(0), two));
 
         let first = exact(&rows[..rows.len().min(ROW_WORDS * counts.first().map_or(0, |count| (*count).min(1000) as usize))]);
-        let length = reference::write_payload(s, &first, &bytes, &mut [0; MAX_PACKET]);
+        let length = reference::write_payload(s, mode, &first, &bytes, &mut [0; MAX_PACKET]);
         let out = length.map_or(r.below(100), |length| length as usize);
         let (mut one, mut two) = (exact(&vec![7; out]), exact(&vec![7; out]));
-        let answer = raw::write_payload(settings(s), &first, &bytes, &mut one);
-        let expected = reference::write_payload(s, &first, &bytes, &mut two);
+        let answer = raw::write_payload(settings(s), mode, &first, &bytes, &mut one);
+        let expected = reference::write_payload(s, mode, &first, &bytes, &mut two);
         assert_eq!((answer.refusal, answer.length, one), (expected.err().unwrap_or(0), expected.unwrap_or(0), two));
     }
     println!("exact lengths: {cases} calls of write_packet and of write_payload");

@@ -15,6 +15,10 @@ pub struct Reading {
     pub timestamp: u32,
     /// SSRC
     pub source: u32,
+    /// mode request (CMR), 0 to 15, of the last block with rows; [`NO_MODE_REQUEST`] where there is none, and in formats that have none
+    ///
+    /// [`NO_MODE_REQUEST`]: crate::NO_MODE_REQUEST
+    pub mode_request: u8,
 }
 
 /// How many rows of an offered packet got each verdict.
@@ -73,9 +77,10 @@ impl raw::Reading {
     /// The packet's header and its number of rows, or the refusal.
     #[inline]
     pub fn result(&self) -> Result<Reading, Refusal> {
-        let raw::Reading { refusal, rows, marker, sequence, timestamp, source } = *self;
-        // a sequence number has 16 bits
-        accepted(refusal, Reading { rows, marker: marker != 0, sequence: sequence as u16, timestamp, source })
+        let raw::Reading { refusal, rows, marker, sequence, timestamp, source, mode_request } = *self;
+        // a sequence number has 16 bits, a mode request 4
+        let (sequence, mode_request) = (sequence as u16, mode_request as u8);
+        accepted(refusal, Reading { rows, marker: marker != 0, sequence, timestamp, source, mode_request })
     }
 }
 

@@ -1,4 +1,5 @@
-//! RTP packets of G.719 and GSM-HR sound: read into frame rows, gathered and drawn in time order, written; and reception reports.
+//! RTP packets of G.719, GSM-HR, AMR and AMR-WB sound: read into frame rows, gathered and drawn in time order, written; and reception
+//! reports.
 //!
 //! Safe Rust over the proved library `libheolstorpit.a`. Everything is done in memory that the caller lends: nothing
 //! is allocated and nothing is kept. Each function refuses what it cannot do, says why, and then has changed nothing.
@@ -30,7 +31,7 @@ pub use sizes::*;
 pub struct Settings {
     /// how the payloads are laid out
     pub format: Format,
-    /// 1 or 2; for GSM-HR only 1
+    /// 1 or 2; for GSM-HR, AMR and AMR-WB only 1
     pub channels: u8,
     /// RTP payload type of the sound, 0 to 127
     pub payload_type: u8,
@@ -60,15 +61,19 @@ pub fn read(settings: Settings, packet: &[u8], rows: &mut [u32]) -> Result<Readi
     raw::read(settings.into(), packet, rows).result()
 }
 
-/// Writes one payload for the rows, which point into `bytes`, at the front of `out`; answers its length.
+/// Writes one payload for the rows, which point into `bytes`, at the front of `out`; answers its length. The mode request is that of
+/// [`Header`].
 #[cfg(feature = "write")]
-pub fn write_payload(settings: Settings, rows: &[u32], bytes: &[u8], out: &mut [u8]) -> Result<usize, Refusal> {
-    raw::write_payload(settings.into(), rows, bytes, out).result()
+pub fn write_payload(settings: Settings, mode_request: u8, rows: &[u32], bytes: &[u8], out: &mut [u8]) -> Result<usize, Refusal> {
+    raw::write_payload(settings.into(), mode_request, rows, bytes, out).result()
 }
 
 /// What a packet to be written says of itself beside its rows.
 #[derive(Clone, Copy, Debug, PartialEq, Eq, Hash)]
 pub struct Header {
+    /// mode request (CMR), put into every block of AMR and AMR-WB; formats that have none leave it out. Over [`NO_MODE_REQUEST`] it is
+    /// refused with [`Refusal::SettingsOutOfRange`] in every format
+    pub mode_request: u8,
     /// the marker bit
     pub marker: bool,
     /// RTP sequence number
@@ -88,8 +93,8 @@ pub fn write_packet(
     bytes: &[u8],
     out: &mut [u8],
 ) -> Result<usize, Refusal> {
-    let Header { marker, sequence, source } = header;
-    raw::write_packet(settings.into(), u8::from(marker), sequence, source, counts, rows, bytes, out).result()
+    let Header { mode_request, marker, sequence, source } = header;
+    raw::write_packet(settings.into(), mode_request, u8::from(marker), sequence, source, counts, rows, bytes, out).result()
 }
 
 /// A reorder buffer. It holds which frames lie where in the store; the store is lent with each call, as the last call left it.

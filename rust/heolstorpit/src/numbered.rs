@@ -67,6 +67,8 @@ numbered! {
     0 NoData "no data"
     1 Sound "sound"
     2 Sid "SID (comfort noise)"
+    5 DamagedSound "damaged sound"
+    6 DamagedSid "damaged SID (comfort noise)"
 }
 
 impl From<u32> for Class {
@@ -84,6 +86,8 @@ numbered! {
     1 G719Basic "G.719 basic"
     2 G719Interleaved "G.719 interleaved"
     3 GsmHr "GSM-HR"
+    4 Amr "AMR"
+    5 AmrWb "AMR-WB"
 }
 
 impl From<u8> for Format {

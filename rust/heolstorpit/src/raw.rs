@@ -26,6 +26,7 @@ pub struct Reading {
     pub sequence: u32,
     pub timestamp: u32,
     pub source: u32,
+    pub mode_request: u32,
 }
 
 /// `hsp_written`
@@ -137,6 +138,7 @@ mod c {
         pub fn hsp_read(settings: Settings, packet: *const u8, packet_length: usize, rows: *mut u32, rows_length: usize) -> Reading;
         pub fn hsp_write_payload(
             settings: Settings,
+            mode_request: u8,
             rows: *const u32,
             rows_length: usize,
             bytes: *const u8,
@@ -146,6 +148,7 @@ mod c {
         ) -> Written;
         pub fn hsp_write_packet(
             settings: Settings,
+            mode_request: u8,
             marker: u8,
             sequence: u16,
             source: u32,
@@ -184,14 +187,17 @@ pub fn read(settings: Settings, packet: &[u8], rows: &mut [u32]) -> Reading {
 }
 
 #[cfg(feature = "write")]
-pub fn write_payload(settings: Settings, rows: &[u32], bytes: &[u8], out: &mut [u8]) -> Written {
-    unsafe { c::hsp_write_payload(settings, rows.as_ptr(), rows.len(), bytes.as_ptr(), bytes.len(), out.as_mut_ptr(), out.len()) }
+pub fn write_payload(settings: Settings, mode_request: u8, rows: &[u32], bytes: &[u8], out: &mut [u8]) -> Written {
+    unsafe {
+        c::hsp_write_payload(settings, mode_request, rows.as_ptr(), rows.len(), bytes.as_ptr(), bytes.len(), out.as_mut_ptr(), out.len())
+    }
 }
 
 #[cfg(feature = "write")]
 #[allow(clippy::too_many_arguments)]
 pub fn write_packet(
     settings: Settings,
+    mode_request: u8,
     marker: u8,
     sequence: u16,
     source: u32,
@@ -203,6 +209,7 @@ pub fn write_packet(
     unsafe {
         c::hsp_write_packet(
             settings,
+            mode_request,
             marker,
             sequence,
             source,

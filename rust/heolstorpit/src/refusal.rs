@@ -16,7 +16,7 @@ numbered! {
     8 NoFrameBlocks "a table entry has 0 frame-blocks"
     9 TooManyRows "the packet has more than {MAX_ROWS} frames"
     10 LengthMismatch "after the tables there are too few bytes, or bytes are left over"
-    11 SettingsOutOfRange "the settings are out of range"
+    11 SettingsOutOfRange "the settings or the mode request are out of range"
     12 AreaTooShort "an area is too short for what is written to it"
     13 Unwritable "no payload or packet of the format reads to these rows"
     14 RowOutsideBytes "a row's start and length run past the end of the bytes"

@@ -24,3 +24,5 @@ pub const DRAW_AREA: usize = SLOT_BYTES;
 pub const MAX_REDUNDANT: usize = 4;
 /// The redundancy type that says: none.
 pub const NO_REDUNDANCY: u8 = 128;
+/// The mode request that says: none. It is the greatest.
+pub const NO_MODE_REQUEST: u8 = 15;

@@ -294,6 +294,42 @@ fn full_buffers() {
     p.seen.at_least(1000, &["no room", "better", "repeated", FULL]);
 }
 
+/// Copies of one frame of AMR and AMR-WB, of every type, good and damaged, and equal, greater and less in a byte: each offered before and
+/// after each other one, then drawn.
+#[test]
+fn copies_of_amr() {
+    let mut r = Random::new(25);
+    let mut p = Pair::new(&mut r);
+    for (format, types) in [(4u8, [0u8, 1, 7, 8, 15, 15]), (5, [0, 1, 8, 9, 14, 15])] {
+        let s = Settings { format, channels: 1, payload_type: 97, redundancy_type: NO_REDUNDANCY };
+        let lengths: &[u32] = if format == 4 { &reference::AMR_LENGTHS } else { &reference::AMR_WB_LENGTHS };
+        let mut packets = Vec::new();
+        for (kind, good) in types.into_iter().flat_map(|kind| [(kind, 0), (kind, 4)]) {
+            let length = lengths.get(kind as usize).map_or(0, |length| *length as usize);
+            for change in [None, Some((0, 2)), Some((length.saturating_sub(1), 2)), Some((length / 2, 0))] {
+                let mut frame = vec![1; length];
+                if let Some((place, byte)) = change.filter(|(place, _)| *place < length) {
+                    frame[place] = byte;
+                }
+                let mut packet = vec![0x80, 97, 0, 1, 0, 0, 0, 2, 0, 0, 0, 3, r.byte(), kind << 3 | good | r.byte() & 3];
+                packet.extend(frame);
+                packets.push(packet);
+            }
+        }
+        for first in &packets {
+            for second in &packets {
+                p.fresh(s);
+                p.offer(first);
+                p.offer(second);
+                p.draw().unwrap();
+                p.offer(second);
+            }
+        }
+    }
+    p.seen.report("buffer, copies of AMR");
+    p.seen.at_least(500, &["late", "repeated", "better", "inserted", "drawn"]);
+}
+
 /// `new` for all settings with fields around their limits.
 #[test]
 fn fresh_buffers() {

@@ -32,13 +32,14 @@ fn assert_told_apart<T: Display>(values: impl IntoIterator<Item = T>) {
 
 #[test]
 fn classes() {
-    assert_eq!([0, 1, 2].map(Class::from), [Class::NoData, Class::Sound, Class::Sid]);
-    assert_eq!(Class::NAMED, [Class::NoData, Class::Sound, Class::Sid]);
+    let named = [Class::NoData, Class::Sound, Class::Sid, Class::DamagedSound, Class::DamagedSid];
+    assert_eq!([0, 1, 2, 5, 6].map(Class::from), named);
+    assert_eq!(Class::NAMED, named);
     for number in numbers() {
         let class = Class::from(number);
         assert_eq!((class.number(), u32::from(class)), (number, number));
-        assert_eq!(Class::NAMED.contains(&class), number <= 2);
-        assert_eq!(matches!(class, Class::Other { .. }), number > 2);
+        assert_eq!(Class::NAMED.contains(&class), [0, 1, 2, 5, 6].contains(&number));
+        assert_eq!(matches!(class, Class::Other { .. }), !named.contains(&class));
         assert_ne!(class, Class::from(number.wrapping_add(1)));
     }
     assert_told_apart((0..1000).chain([u32::MAX]).map(Class::from));
@@ -47,12 +48,13 @@ fn classes() {
 
 #[test]
 fn formats() {
-    assert_eq!([1, 2, 3].map(Format::from), [Format::G719Basic, Format::G719Interleaved, Format::GsmHr]);
+    let named = [Format::G719Basic, Format::G719Interleaved, Format::GsmHr, Format::Amr, Format::AmrWb];
+    assert_eq!([1, 2, 3, 4, 5].map(Format::from), named);
     for number in 0..=u8::MAX {
         let format = Format::from(number);
         assert_eq!((format.number(), u8::from(format)), (number, number));
-        assert_eq!(matches!(format, Format::Other { .. }), !(1..=3).contains(&number));
-        assert_eq!(Format::NAMED.contains(&format), (1..=3).contains(&number));
+        assert_eq!(matches!(format, Format::Other { .. }), !(1..=5).contains(&number));
+        assert_eq!(Format::NAMED.contains(&format), (1..=5).contains(&number));
     }
     assert_told_apart((0..=u8::MAX).map(Format::from));
 }
@@ -141,7 +143,7 @@ fn frames_drawn() {
 /// Every answer with a refusal is that refusal, whatever its number; with 0 it is what the library answered.
 #[test]
 fn answers() {
-    let reading = raw::Reading { refusal: 0, rows: 1, marker: 1, sequence: 65_535, timestamp: u32::MAX, source: 5 };
+    let reading = raw::Reading { refusal: 0, rows: 1, marker: 1, sequence: 65_535, timestamp: u32::MAX, source: 5, mode_request: 14 };
     let written = raw::Written { refusal: 0, length: 7 };
     let fresh = raw::Fresh { refusal: 0, buffer: buffer() };
     let offered = raw::Offered { refusal: 0, late: 1, far: 2, repeated: 3, better: 4, no_room: 5, inserted: 6, buffer: buffer() };
@@ -163,7 +165,7 @@ fn answers() {
         assert_eq!(found.map(|refusal| refusal.map_or(0, Refusal::number)), [refusal; 8]);
     }
     let of = reading.result().unwrap();
-    assert_eq!((of.rows, of.marker, of.sequence, of.timestamp, of.source), (1, true, 65_535, u32::MAX, 5));
+    assert_eq!((of.rows, of.marker, of.sequence, of.timestamp, of.source, of.mode_request), (1, true, 65_535, u32::MAX, 5, 14));
     assert_eq!(written.result(), Ok(7));
     assert_eq!(fresh.result().map(|buffer| *buffer.as_raw()), Ok(buffer()));
     let of = offered.result().unwrap();
@@ -204,6 +206,6 @@ fn figures() {
     macro_rules! same {
         ($($name:ident)*) => { $(assert_eq!([heolstorpit::$name as usize, reference::$name as usize], [defined(stringify!($name)); 2]);)* };
     }
-    same!(MAX_PACKET MAX_PAYLOAD MAX_ROWS ROW_WORDS ROW_AREA SLOTS SLOT_BYTES STORE_BYTES DRAW_AREA MAX_REDUNDANT NO_REDUNDANCY);
+    same!(MAX_PACKET MAX_PAYLOAD MAX_ROWS ROW_WORDS ROW_AREA SLOTS SLOT_BYTES STORE_BYTES DRAW_AREA MAX_REDUNDANT NO_REDUNDANCY NO_MODE_REQUEST);
     assert_eq!(heolstorpit::MIN_PACKET, reference::MIN_PACKET);
 }

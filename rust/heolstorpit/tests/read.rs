@@ -10,11 +10,14 @@ use reference::{Settings, F_BIT, MAX_PACKET, MAX_PAYLOAD, MAX_ROWS, ROW_AREA, RO
 struct Comparer {
     area: Twice<u32>,
     seen: Seen,
+    /// rows by class, and packets of AMR by mode request
+    classes: [u64; 7],
+    requests: [u64; 16],
 }
 
 impl Comparer {
     fn new(r: &mut Random) -> Comparer {
-        Comparer { area: Twice::new(ROW_AREA + 64, |words| r.fill_words(words)), seen: Seen::default() }
+        Comparer { area: Twice::new(ROW_AREA + 64, |words| r.fill_words(words)), seen: Seen::default(), classes: [0; 7], requests: [0; 16] }
     }
 
     /// Reads one packet with both.
@@ -24,12 +27,20 @@ impl Comparer {
         let expected = reference::read(s, packet, theirs);
         let numbers = match expected {
             Ok(r) => {
-                raw::Reading { refusal: 0, rows: r.rows, marker: r.marker, sequence: r.sequence, timestamp: r.timestamp, source: r.source }
+                let reference::Reading { rows, marker, sequence, timestamp, source, mode_request } = r;
+                raw::Reading { refusal: 0, rows, marker, sequence, timestamp, source, mode_request }
             }
             Err(refusal) => raw::Reading { refusal, ..raw::Reading::default() },
         };
+        let rows = &theirs[..ROW_WORDS * numbers.rows as usize];
         if expected.is_ok() && packet[1] & 127 == s.payload_type {
-            self.seen.add(APART, cases::groups_apart(s, &theirs[..ROW_WORDS * numbers.rows as usize]));
+            self.seen.add(APART, cases::groups_apart(s, rows));
+        }
+        for row in rows.chunks_exact(ROW_WORDS) {
+            self.classes[row[1] as usize / 256] += 1;
+        }
+        if expected.is_ok() && s.format >= 4 {
+            self.requests[numbers.mode_request as usize] += 1;
         }
         assert!(
             answer == numbers && self.area.same() && (answer.refusal == 0 || self.area.unchanged()),
@@ -42,6 +53,12 @@ impl Comparer {
             self.seen.add(FULL, 1);
         }
     }
+}
+
+/// Each class and each mode request was seen this often at least.
+fn amr_seen(c: &Comparer, least: u64) {
+    assert!([0, 1, 2, 5, 6].iter().all(|class| c.classes[*class] >= least), "rows by class: {:?}", c.classes);
+    assert!(c.requests.iter().all(|n| *n >= least), "packets by mode request: {:?}", c.requests);
 }
 
 /// Counted: packets of as many rows as there may be.
@@ -101,6 +118,7 @@ fn packets_valid_and_damaged() {
     c.seen.at_least(1000, &REFUSALS);
     c.seen.at_least(100, &[FULL]);
     c.seen.at_least(10_000, &[APART]);
+    amr_seen(&c, 10_000);
 }
 
 /// Random bytes behind a plausible header, so that tables of all shapes are met.
@@ -170,14 +188,14 @@ fn each_bit_and_each_length() {
 fn limits() {
     let mut r = Random::new(4);
     let mut c = Comparer::new(&mut r);
-    for format in [0, 1, 2, 3, 4, 128, 255] {
+    for format in [0, 1, 2, 3, 4, 5, 6, 7, 128, 255] {
         for channels in [0, 1, 2, 3, 4, 255] {
             for payload_type in [0, 1, 97, 126, 127, 128, 129, 255] {
                 for redundancy_type in [0, 1, 97, 127, 128, 129, 255] {
                     let s = Settings { format, channels, payload_type, redundancy_type };
                     let packet = cases::packet(
                         &mut r,
-                        Settings { format: format % 4, channels: channels.clamp(1, 2), ..s },
+                        Settings { format: format % 6, channels: channels.clamp(1, 2), ..s },
                         Shape { bytes: 300, rows: 20, alike: false },
                     );
                     for area in [0, ROW_AREA - 1, ROW_AREA, ROW_AREA + 1] {
@@ -280,6 +298,59 @@ fn groups_apart() {
     c.seen.at_least(10_000, &["accepted", APART]);
 }
 
+/// AMR and AMR-WB: every entry, alone, before another and after another, with every mode byte, and with sound of about the right length;
+/// in two blocks with mode requests of their own, one of them empty, of another type, or of the mode byte alone.
+#[test]
+fn entries_of_amr() {
+    let mut r = Random::new(7);
+    let mut c = Comparer::new(&mut r);
+    // bytes of a frame by type, as far as it has some
+    let length = |format: u8, entry: u8| -> usize {
+        let lengths: &[u32] = if format == 4 { &reference::AMR_LENGTHS } else { &reference::AMR_WB_LENGTHS };
+        lengths.get((entry >> 3 & 15) as usize).map_or(0, |length| *length as usize)
+    };
+    let mut packet = Vec::new();
+    for format in [4u8, 5] {
+        let s = Settings { format, channels: 1, payload_type: 97, redundancy_type: 98 };
+        let head = |payload_type: u8| [0x80, payload_type, 0, 1, 0, 0, 0, 2, 0, 0, 0, 3];
+        for entry in 0..=255u8 {
+            for mode in 0..=255u8 {
+                for entries in [&[entry][..], &[entry, mode], &[mode | F_BIT, entry & !F_BIT]] {
+                    let sound: usize = entries.iter().map(|entry| length(format, *entry)).sum();
+                    let sound = sound + if r.percent(90) { 0 } else { r.within(0, 2) };
+                    packet.clear();
+                    packet.extend(head(97));
+                    packet.push(mode);
+                    packet.extend(entries);
+                    packet.extend(r.bytes(sound));
+                    c.compare(s, &packet, ROW_AREA);
+                }
+            }
+            // two blocks
+            for second in 0..5 {
+                let block = |r: &mut Random, entry: u8| [&[r.byte(), entry & !F_BIT][..], &r.bytes(length(format, entry))].concat();
+                let (old, other) = (block(&mut r, entry), r.byte());
+                let new = match second {
+                    0 => vec![],
+                    1 => vec![r.byte()],
+                    _ => block(&mut r, other),
+                };
+                for types in [(97, 97), (97, 96), (96, 97), (97, 98), (96, 96)] {
+                    packet.clear();
+                    packet.extend(head(98));
+                    packet.extend([F_BIT | types.0, r.byte(), r.byte() & 0xFC, old.len() as u8, types.1]);
+                    packet.extend(&old);
+                    packet.extend(&new);
+                    c.compare(s, &packet, ROW_AREA);
+                }
+            }
+        }
+    }
+    c.seen.report("read, entries of AMR");
+    c.seen.at_least(1000, &["accepted", "refusal  6", "refusal  7", "refusal 10"]);
+    amr_seen(&c, 1000);
+}
+
 /// The friendly answers say the same as the raw ones.
 #[test]
 fn friendly_answers() {
@@ -296,10 +367,9 @@ fn friendly_answers() {
         assert_eq!(one, two);
         match friendly {
             Ok(reading) => {
-                assert_eq!(
-                    (0, reading.rows, reading.marker as u32, reading.sequence as u32, reading.timestamp, reading.source),
-                    (answer.refusal, answer.rows, answer.marker, answer.sequence, answer.timestamp, answer.source)
-                );
+                let heolstorpit::Reading { rows, marker, sequence, timestamp, source, mode_request } = reading;
+                let (marker, sequence, mode_request) = (marker as u32, sequence as u32, mode_request as u32);
+                assert_eq!(raw::Reading { refusal: 0, rows, marker, sequence, timestamp, source, mode_request }, answer);
                 let rows: Vec<u32> = heolstorpit::Row::list(&one, reading.rows).flat_map(|row| row.words().unwrap()).collect();
                 assert_eq!(rows, one[..ROW_WORDS * reading.rows as usize]);
             }

@@ -6,7 +6,9 @@ mod common;
 use cases::{List, Random, Shape};
 use common::{settings, Seen, Twice};
 use heolstorpit::{raw, Header};
-use reference::{Settings, HEADER_BYTES, MAX_OFFSET, MAX_PACKET, MAX_PAYLOAD, MAX_ROWS};
+use reference::{
+    Settings, AMR_LENGTHS, AMR_WB_LENGTHS, HEADER_BYTES, MAX_BLOCK, MAX_MODE_REQUEST, MAX_OFFSET, MAX_PACKET, MAX_PAYLOAD, MAX_ROWS,
+};
 
 /// Bytes lent to be written to, at most: some more than any packet.
 const MOST: usize = MAX_PACKET + 252;
@@ -17,9 +19,13 @@ const FULL: &str = "payloads of the most bytes";
 /// Counted: groups of another length than the one before and apart from it, in lists that are written.
 const APART: &str = "groups apart";
 
+/// Counted: calls with a mode request that there is not, their settings in range.
+const OVER: &str = "mode requests over the greatest";
+
 /// What is written beside the rows of a packet.
 #[derive(Clone, Copy, Debug)]
 struct Head {
+    mode_request: u8,
     marker: u8,
     sequence: u16,
     source: u32,
@@ -51,21 +57,30 @@ impl Comparer {
     }
 
     /// Writes one payload with both; answers what the reference does.
-    fn payload(&mut self, s: Settings, list: &List, out: usize) -> Result<u32, u32> {
+    fn payload(&mut self, s: Settings, mode_request: u8, list: &List, out: usize) -> Result<u32, u32> {
         let (mine, theirs) = self.out.lend(out);
-        let answer = raw::write_payload(settings(s), &list.words, &list.bytes, mine);
-        let expected = reference::write_payload(s, &list.words, &list.bytes, theirs);
+        let answer = raw::write_payload(settings(s), mode_request, &list.words, &list.bytes, mine);
+        let expected = reference::write_payload(s, mode_request, &list.words, &list.bytes, theirs);
+        if mode_request > MAX_MODE_REQUEST && s.in_range() {
+            self.seen.add(OVER, 1);
+        }
         self.judge(answer, expected, || {
-            format!("write_payload, settings {s:?}, out {out}\nrows {:?}\nbytes {:02x?}", list.words, list.bytes)
+            format!(
+                "write_payload, settings {s:?}, mode request {mode_request}, out {out}\nrows {:?}\nbytes {:02x?}",
+                list.words, list.bytes
+            )
         });
         expected
     }
 
     fn packet(&mut self, s: Settings, head: Head, counts: &[u32], list: &List, out: usize) -> Result<u32, u32> {
-        let Head { marker, sequence, source } = head;
+        let Head { mode_request, marker, sequence, source } = head;
         let (mine, theirs) = self.out.lend(out);
-        let answer = raw::write_packet(settings(s), marker, sequence, source, counts, &list.words, &list.bytes, mine);
-        let expected = reference::write_packet(s, marker != 0, sequence, source, counts, &list.words, &list.bytes, theirs);
+        let answer = raw::write_packet(settings(s), mode_request, marker, sequence, source, counts, &list.words, &list.bytes, mine);
+        if mode_request > MAX_MODE_REQUEST && s.in_range() {
+            self.seen.add(OVER, 1);
+        }
+        let expected = reference::write_packet(s, mode_request, marker != 0, sequence, source, counts, &list.words, &list.bytes, theirs);
         self.judge(answer, expected, || {
             format!(
                 "write_packet, settings {s:?}, {head:?}, counts {counts:?}, out {out}\nrows {:?}\nbytes {:02x?}",
@@ -90,7 +105,8 @@ impl Comparer {
 }
 
 fn head(r: &mut Random) -> Head {
-    Head { marker: if r.percent(50) { r.pick(&[0, 1]) } else { r.byte() }, sequence: r.word() as u16, source: r.word() }
+    let marker = if r.percent(50) { r.pick(&[0, 1]) } else { r.byte() };
+    Head { mode_request: cases::mode_request(r), marker, sequence: r.word() as u16, source: r.word() }
 }
 
 fn time(r: &mut Random) -> u32 {
@@ -122,7 +138,7 @@ fn list(r: &mut Random, s: Settings) -> List {
 fn payloads() {
     let mut r = Random::new(11);
     let mut c = Comparer::new(&mut r);
-    for _ in 0..300_000 {
+    for _ in 0..400_000 {
         let s = if r.percent(2) { cases::bad_settings(&mut r) } else { cases::settings(&mut r) };
         let good = if s.in_range() { s } else { cases::settings(&mut r) };
         let mut list = list(&mut r, good);
@@ -132,7 +148,8 @@ fn payloads() {
                 cases::damage_list(&mut r, good, &mut list);
             }
         }
-        let written = c.payload(s, &list, MOST);
+        let mode_request = cases::mode_request(&mut r);
+        let written = c.payload(s, mode_request, &list, MOST);
         if written.is_ok_and(|length| length as usize == MAX_PAYLOAD) {
             c.seen.add(FULL, 1);
         }
@@ -140,12 +157,13 @@ fn payloads() {
             c.seen.add(APART, cases::groups_apart(s, &list.words));
         }
         c.out_lengths(&mut r, written, |c, out| {
-            c.payload(s, &list, out).ok();
+            c.payload(s, mode_request, &list, out).ok();
         });
     }
     c.seen.report("write_payload");
     c.seen.at_least(1000, &["accepted", "refusal 11", "refusal 12", "refusal 13", "refusal 14"]);
     c.seen.at_least(20, &[FULL]);
+    c.seen.at_least(1000, &[OVER]);
     c.seen.at_least(10_000, &[APART]);
 }
 
@@ -164,9 +182,9 @@ fn what_was_read_can_be_written() {
         }
         let mut out = vec![0; MOST];
         let length =
-            heolstorpit::write_payload(settings(s).into(), &list.words, &list.bytes, &mut out).expect("a payload reads to this list");
+            heolstorpit::write_payload(settings(s).into(), 0, &list.words, &list.bytes, &mut out).expect("a payload reads to this list");
         assert!(length <= list.bytes.len() - HEADER_BYTES, "the payload written is no longer than the one read");
-        let head = head(&mut r);
+        let head = Head { mode_request: r.below(16) as u8, ..head(&mut r) };
         c.packet(s, head, &[list.rows() as u32], &list, MOST).expect("a packet reads to this list");
     }
     c.seen.report("write, what was read");
@@ -211,6 +229,7 @@ fn packets() {
             "packets of 3 lists",
             "packets of 4 lists",
             "packets of 5 lists",
+            OVER,
         ],
     );
 }
@@ -221,7 +240,7 @@ fn limits() {
     let mut r = Random::new(14);
     let mut c = Comparer::new(&mut r);
     let bytes = r.bytes(400);
-    let head = Head { marker: 1, sequence: 2, source: 3 };
+    let head = Head { mode_request: 4, marker: 1, sequence: 2, source: 3 };
     // Lists of `sound` frames and then `none` rows of no data: kind 3 takes 15 bytes for the first and 1 for the second.
     let made = |step: u32, length: u32, time: u32, sound: usize, none: usize| -> Vec<u32> {
         (0..sound + none)
@@ -239,7 +258,7 @@ fn limits() {
     for none in 0..=MAX_ROWS + 12 {
         for sound in [0, 1, 66, 67, 68, 69] {
             let list = List { words: made(160, 14, 0, sound, none), bytes: bytes.clone() };
-            c.payload(gsm, &list, MOST).ok();
+            c.payload(gsm, 5, &list, MOST).ok();
             // as a redundant block before one frame, and as the primary after it
             for (counts, before) in [([(sound + none) as u32, 1], true), ([1, (sound + none) as u32], false)] {
                 let one = made(160, 14, 3200, 1, 0);
@@ -254,7 +273,7 @@ fn limits() {
         for none in 0..=MAX_ROWS {
             for (length, sound) in [(320, 6), (80, 24), (80, 25), (220, 9), (240, 8), (100, 20), (170, 6), (80, 12), (90, 11)] {
                 let list = List { words: made(960, length, 0, sound, none), bytes: bytes.clone() };
-                c.payload(s, &list, MOST).ok();
+                c.payload(s, 5, &list, MOST).ok();
                 let one = made(960, 80, 9600, 1, 0);
                 let words = [&list.words[..], &one[..]].concat();
                 c.packet(s, head, &[(sound + none) as u32, 1], &List { words, bytes: bytes.clone() }, MOST).ok();
@@ -289,13 +308,30 @@ fn limits() {
         let list = List { words: made(160, 14, 5, 1, 0), bytes: bytes.clone() };
         c.packet(gsm, Head { marker, ..head }, &[1], &list, MOST).unwrap();
     }
+    // AMR and AMR-WB: sound of every length, then no data, in payloads, redundant blocks and packets of about the most bytes
+    for (format, step, lengths) in [(4, 160, &AMR_LENGTHS[..]), (5, 320, &AMR_WB_LENGTHS[..])] {
+        let s = Settings { format, channels: 1, payload_type: 3, redundancy_type: 4 };
+        for length in lengths.iter().filter(|length| **length > 5) {
+            for most in [MAX_BLOCK, MAX_PAYLOAD] {
+                // as many frames as fit behind the mode byte, each with its entry
+                let sound = ((most - 1) / (*length as usize + 1)).min(MAX_ROWS);
+                for none in 0..=70 {
+                    let list = List { words: made(step, *length, 0, sound, none), bytes: bytes.clone() };
+                    c.payload(s, none as u8 % 16, &list, MOST).ok();
+                    let one = made(step, *length, 3200, 1, 0);
+                    let words = [&list.words[..], &one[..]].concat();
+                    c.packet(s, head, &[(sound + none) as u32, 1], &List { words, bytes: bytes.clone() }, MOST).ok();
+                }
+            }
+        }
+    }
     // every displacement, and steps that have none
     let s = Settings { format: 2, channels: 1, payload_type: 3, redundancy_type: 4 };
     for steps in 0..=40u32 {
         for extra in [0, 1, 959] {
             let second = 960 * steps + extra;
             let words = vec![0, 256, 0, 80, second, 256, 0, 80, second + 960, 256, 0, 80];
-            c.payload(s, &List { words, bytes: bytes.clone() }, MOST).ok();
+            c.payload(s, 5, &List { words, bytes: bytes.clone() }, MOST).ok();
         }
     }
     // the same between groups of two lengths, at times around the wrap too, and as a block
@@ -309,7 +345,7 @@ fn limits() {
                     .flat_map(|(time, length)| [time, class(length), 0, length])
                     .collect();
                 let list = List { words, bytes: bytes.clone() };
-                let payload = c.payload(s, &list, MOST);
+                let payload = c.payload(s, 5, &list, MOST);
                 assert_eq!(payload.is_ok(), (1..=16).contains(&steps) && extra == 0);
                 let both = List { words: [&list.words[..], &list.words[..]].concat(), bytes: bytes.clone() };
                 assert_eq!(c.packet(s, head, &[4, 4], &both, MOST).is_ok(), payload.is_ok());
@@ -317,6 +353,46 @@ fn limits() {
         }
     }
     c.seen.report("write, limits");
+}
+
+/// Every class and length of one frame in every format, and after another frame; with mode requests 0 to 20, and every one for some.
+#[test]
+fn classes_lengths_and_mode_requests() {
+    let mut r = Random::new(16);
+    let mut c = Comparer::new(&mut r);
+    let bytes = r.bytes(400);
+    for format in 1..=5u8 {
+        let s = Settings { format, channels: 1, payload_type: 3, redundancy_type: 4 };
+        let step = reference::step_ticks(format);
+        for class in 0..=8u32 {
+            for length in 0..=330u32 {
+                for (mode_request, time) in [(r.below(21) as u8, step), (r.below(16) as u8, step), (15, step - 1), (0, 2 * step)] {
+                    let one = vec![0, 256 * class, r.below(60) as u32, length];
+                    let list = List { words: one.clone(), bytes: bytes.clone() };
+                    c.payload(s, mode_request, &list, MOST).ok();
+                    // after a frame that the format has
+                    let first = [0, 256, 0, [80, 80, 14, 31, 60][format as usize - 1]];
+                    let words = [&first[..], &[time], &one[1..]].concat();
+                    let list = List { words, bytes: bytes.clone() };
+                    c.payload(s, mode_request, &list, MOST).ok();
+                    c.packet(s, Head { mode_request, ..head(&mut r) }, &[1, 1], &list, MOST).ok();
+                }
+            }
+        }
+        for mode_request in 0..=255 {
+            let list = List { words: vec![7, 256, 0, [80, 80, 14, 31, 60][format as usize - 1]], bytes: bytes.clone() };
+            let fits = mode_request <= MAX_MODE_REQUEST;
+            assert_eq!(c.payload(s, mode_request, &list, MOST).is_ok(), fits);
+            assert_eq!(c.packet(s, Head { mode_request, ..head(&mut r) }, &[1], &list, MOST).is_ok(), fits);
+            // a row outside and rows that cannot be written: 11 is asked first
+            for words in [vec![7, 256, 400, 1], vec![7, 256, 0, 81], vec![]] {
+                c.payload(s, mode_request, &List { words, bytes: bytes.clone() }, MOST).ok();
+            }
+        }
+    }
+    c.seen.report("write, classes, lengths and mode requests");
+    c.seen.at_least(500, &["accepted"]);
+    c.seen.at_least(1000, &["refusal 11", "refusal 13", OVER]);
 }
 
 /// The friendly answers say the same as the raw ones.
@@ -329,11 +405,13 @@ fn friendly_answers() {
         if r.percent(30) {
             cases::damage_list(&mut r, s, &mut list);
         }
-        let header = Header { marker: r.percent(50), sequence: r.word() as u16, source: r.word() };
+        let mode_request = cases::mode_request(&mut r);
+        let header = Header { mode_request, marker: r.percent(50), sequence: r.word() as u16, source: r.word() };
         let (mut one, mut two) = (vec![0; MOST], vec![0; MOST]);
         let friendly = heolstorpit::write_packet(settings(s).into(), header, &counts, &list.words, &list.bytes, &mut one);
         let answer = raw::write_packet(
             settings(s),
+            header.mode_request,
             header.marker as u8,
             header.sequence,
             header.source,
@@ -342,6 +420,13 @@ fn friendly_answers() {
             &list.bytes,
             &mut two,
         );
+        assert_eq!(
+            (friendly.map_err(|refusal| refusal.number()), one),
+            (if answer.refusal == 0 { Ok(answer.length as usize) } else { Err(answer.refusal) }, two)
+        );
+        let (mut one, mut two) = (vec![0; MOST], vec![0; MOST]);
+        let friendly = heolstorpit::write_payload(settings(s).into(), mode_request, &list.words, &list.bytes, &mut one);
+        let answer = raw::write_payload(settings(s), mode_request, &list.words, &list.bytes, &mut two);
         assert_eq!(
             (friendly.map_err(|refusal| refusal.number()), one),
             (if answer.refusal == 0 { Ok(answer.length as usize) } else { Err(answer.refusal) }, two)

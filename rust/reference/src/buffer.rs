@@ -124,7 +124,8 @@ fn unpack(buffer: &Buffer) -> Option<Model> {
     slots.sort();
     let distinct = slots.windows(2).all(|two| two[0] != two[1]);
     let exactly_marked = slots.iter().all(|slot| (*slot as usize) < SLOTS && marked(&buffer.occupied, *slot));
-    let frames = entries.iter().all(|e| (e.class == 1 || e.class == 2) && code_of(settings.format, e.class, e.length).is_some());
+    // "sorts 1 or 2 and lengths as the kind allows"; document 02: "A sound take allows the new sorts and lengths."
+    let frames = entries.iter().all(|e| e.class != 0 && code_of(settings.format, e.class, e.length).is_some());
     let channels = entries.iter().all(|e| e.pair.channel < settings.channels as u32);
     let unused_zero = (held..SLOTS).all(|i| buffer.times[i] == 0 && buffer.tags[i] == 0 && buffer.lengths[i] == 0 && buffer.slots[i] == 0);
     let after_last = match buffer.drawn {
@@ -247,10 +248,16 @@ fn slot_start(slot: u32) -> usize {
     slot as usize * SLOT_BYTES
 }
 
-/// "sound beats SID; then the longer; then the greater at the first differing byte. Equal is a repeat."
+/// "sound beats SID; then the longer; then the greater at the first differing byte. Equal is a repeat." Document 02: `"better" asks
+/// good over damaged first`.
 fn better(class: u32, bytes: &[u8], held_class: u32, held_bytes: &[u8]) -> bool {
-    if class != held_class {
-        return class == 1;
+    let good = |class| class == 1 || class == 2;
+    let sound = |class| class == 1 || class == 5;
+    if good(class) != good(held_class) {
+        return good(class);
+    }
+    if sound(class) != sound(held_class) {
+        return sound(class);
     }
     if bytes.len() != held_bytes.len() {
         return bytes.len() > held_bytes.len();

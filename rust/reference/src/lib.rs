@@ -1,6 +1,7 @@
-//! Document 01 ("The intended build and its rules") and document 02's P7 in plain Rust: what the proved library is compared with.
+//! Document 01 ("The intended build and its rules") in plain Rust, with the requests of document 02 that have landed: what the
+//! proved library is compared with.
 //!
-//! It is written from the papers alone, sentence by sentence, to be read beside them: lists instead of areas, one
+//! It is written from those papers alone, sentence by sentence, to be read beside it: lists instead of areas, one
 //! pass for each rule, no care for speed. Nothing of the library is used here, and nothing here is used by the library.
 //!
 //! A refusal is its number in document 01's table, in `Err`.
@@ -29,11 +30,11 @@ pub struct Settings {
 
 impl Settings {
     /// "Settings: kind 1 to 3; channels 1 or 2 (kind 3: only 1); plain payload type 0 to 127; redundancy type 0 to
-    /// 127 and not the plain one, or 128 for none."
+    /// 127 and not the plain one, or 128 for none." Document 02: "kinds 4 and 5", "mono".
     pub fn in_range(&self) -> bool {
-        let format = (1..=3).contains(&self.format);
+        let format = (1..=5).contains(&self.format);
         let channels = match self.format {
-            3 => self.channels == 1,
+            3..=5 => self.channels == 1,
             _ => self.channels == 1 || self.channels == 2,
         };
         let plain = self.payload_type <= 127;
@@ -47,7 +48,7 @@ impl Settings {
 #[derive(Clone, Copy, Debug, PartialEq, Eq)]
 pub struct Row {
     pub time: u32,
-    /// 0 no data, 1 sound, 2 SID (document 01: sort)
+    /// 0 no data, 1 sound, 2 SID; document 02: 5 damaged sound, 6 damaged SID (document 01: sort)
     pub class: u32,
     pub channel: u32,
     pub start: u32,

@@ -1,4 +1,4 @@
-//! Reading a packet: "The RTP header", "Redundancy", "G.719 tables of contents", "GSM-HR tables".
+//! Reading a packet: "The RTP header", "Redundancy", "G.719 tables of contents", "GSM-HR tables"; document 02, P1: AMR and AMR-WB.
 
 use crate::*;
 
@@ -10,6 +10,7 @@ pub struct Reading {
     pub sequence: u32,
     pub timestamp: u32,
     pub source: u32,
+    pub mode_request: u32,
 }
 
 /// Reads a packet into the row area. The answer and the words after the last row stay as document 01 says; a refusal
@@ -73,16 +74,24 @@ pub(crate) fn packet_rows(settings: Settings, packet: &[u8]) -> Result<(Reading,
         end -= padding;
     }
 
-    let mut rows = Vec::new();
+    // "reading answers that of the last plain payload or block with rows, 15 if there is none or in kinds 1 to 3"
+    let mut found = Found { rows: Vec::new(), mode_request: NO_MODE_REQUEST };
     if payload_type == settings.payload_type {
-        payload_rows(settings, packet, start, end, timestamp, &mut rows)?;
+        payload_rows(settings, packet, start, end, timestamp, &mut found)?;
     } else if payload_type == settings.redundancy_type {
-        redundancy_rows(settings, packet, start, end, timestamp, &mut rows)?;
+        redundancy_rows(settings, packet, start, end, timestamp, &mut found)?;
     } else {
         return Err(OTHER_TYPE);
     }
-    let reading = Reading { rows: rows.len() as u32, marker, sequence, timestamp, source };
+    let Found { rows, mode_request } = found;
+    let reading = Reading { rows: rows.len() as u32, marker, sequence, timestamp, source, mode_request: mode_request as u32 };
     Ok((reading, rows))
+}
+
+/// What the payloads of a packet gave so far.
+struct Found {
+    rows: Vec<Row>,
+    mode_request: u8,
 }
 
 struct Block {
@@ -92,7 +101,7 @@ struct Block {
 }
 
 /// The redundancy payload that lies at `start..end` of the packet.
-fn redundancy_rows(settings: Settings, packet: &[u8], start: usize, end: usize, timestamp: u32, rows: &mut Vec<Row>) -> Result<(), u32> {
+fn redundancy_rows(settings: Settings, packet: &[u8], start: usize, end: usize, timestamp: u32, found: &mut Found) -> Result<(), u32> {
     // "all block headers are walked first (6)"
     let mut blocks = Vec::new();
     let mut at = start;
@@ -128,7 +137,7 @@ fn redundancy_rows(settings: Settings, packet: &[u8], start: usize, end: usize, 
     // redundancy type included, are passed over. A block of length 0 gives no rows."
     for block in blocks {
         if block.payload_type == settings.payload_type && block.length != 0 {
-            payload_rows(settings, packet, at, at + block.length, block.time, rows)?;
+            payload_rows(settings, packet, at, at + block.length, block.time, found)?;
         }
         at += block.length;
     }
@@ -142,12 +151,21 @@ struct Entry {
     steps: Vec<u32>,
 }
 
-/// The payload that lies at `start..end` of the packet, its first frame-block at `time`; its rows are added to `rows`.
-fn payload_rows(settings: Settings, packet: &[u8], start: usize, end: usize, time: u32, rows: &mut Vec<Row>) -> Result<(), u32> {
+/// The payload that lies at `start..end` of the packet, its first frame-block at `time`; its rows are added to those found.
+fn payload_rows(settings: Settings, packet: &[u8], start: usize, end: usize, time: u32, found: &mut Found) -> Result<(), u32> {
     let channels = settings.channels as usize;
     let mut entries: Vec<Entry> = Vec::new();
-    let mut so_far = rows.len();
+    let mut so_far = found.rows.len();
     let mut at = start;
+    let mut mode_request = NO_MODE_REQUEST;
+    if is_amr(settings.format) {
+        // "Payload header: 4-bit mode request, 4 reserved bits." An empty payload is 6.
+        if at + 1 > end {
+            return Err(TABLE_PAST_END);
+        }
+        mode_request = packet[at] >> 4;
+        at += 1;
+    }
     loop {
         // 6: a table entry runs past the end
         let size = match settings.format {
@@ -162,14 +180,17 @@ fn payload_rows(settings: Settings, packet: &[u8], start: usize, end: usize, tim
         // 7: reserved L or type
         let code = match settings.format {
             3 => (packet[at] >> 4) & 7,
+            // "Entry: F, type 4 bits, quality bit, two padding bits."
+            4 | 5 => (packet[at] >> 3) & 15,
             _ => (packet[at] >> 2) & 31,
         };
-        let Some((class, length)) = frame_of(settings.format, code) else {
+        let good = !is_amr(settings.format) || packet[at] & QUALITY_BIT != 0;
+        let Some((class, length)) = frame_of(settings.format, code, good) else {
             return Err(RESERVED_CODE);
         };
         // 8: frame-block count 0
         let blocks = match settings.format {
-            3 => 1,
+            3..=5 => 1,
             _ => packet[at + 1] as usize,
         };
         if blocks == 0 {
@@ -218,47 +239,89 @@ fn payload_rows(settings: Settings, packet: &[u8], start: usize, end: usize, tim
         for step in &entry.steps {
             now = now.wrapping_add(step * step_ticks(settings.format));
             for channel in 0..channels as u32 {
-                rows.push(Row { time: now, class: entry.class, channel, start: at as u32, length: entry.length });
+                found.rows.push(Row { time: now, class: entry.class, channel, start: at as u32, length: entry.length });
                 at += entry.length as usize;
             }
         }
     }
+    found.mode_request = mode_request;
     Ok(())
 }
 
-/// Class and length of the frames that a table code announces; nothing where the code is reserved.
-pub(crate) fn frame_of(format: u8, code: u8) -> Option<(u32, u32)> {
+/// Class and length of the frames that a table code announces, with the quality bit set ("good") or not; nothing where the code
+/// is reserved.
+pub(crate) fn frame_of(format: u8, code: u8, good: bool) -> Option<(u32, u32)> {
     let code = code as u32;
-    if format == 3 {
-        // "Type 0 is sound and 2 is SID, 14 bytes each; 7 is no data; the rest are reserved."
-        match code {
-            0 => Some((1, 14)),
-            2 => Some((2, 14)),
-            7 => Some((0, 0)),
-            _ => None,
-        }
-    } else {
+    match format {
         // "L = 0 is no data; 8 to 22 is 80 + 10 × (L − 8) bytes; 23 to 27 is 240 + 20 × (L − 23)"
-        match code {
+        1 | 2 => match code {
             0 => Some((0, 0)),
             8..=22 => Some((1, 80 + 10 * (code - 8))),
             23..=27 => Some((1, 240 + 20 * (code - 23))),
             _ => None,
-        }
+        },
+        // "Type 0 is sound and 2 is SID, 14 bytes each; 7 is no data; the rest are reserved."
+        3 => match code {
+            0 => Some((1, 14)),
+            2 => Some((2, 14)),
+            7 => Some((0, 0)),
+            _ => None,
+        },
+        // "AMR types 0 to 8 take 12, 13, 15, 17, 19, 20, 26, 31, 5 bytes", "each 5 a SID"; "Type 15 is no data"; "AMR 9 to 14 ... are
+        // refusal 7"
+        4 => match code {
+            0..=7 => Some((sound(good), AMR_LENGTHS[code as usize])),
+            8 => Some((sid(good), AMR_LENGTHS[8])),
+            15 => Some((0, 0)),
+            _ => None,
+        },
+        // "AMR-WB types 0 to 9 take 17, 23, 32, 36, 40, 46, 50, 58, 60, 5"; "Type 15 is no data, and so is 14 in AMR-WB"; "AMR-WB 10 to
+        // 13 are refusal 7"
+        _ => match code {
+            0..=8 => Some((sound(good), AMR_WB_LENGTHS[code as usize])),
+            9 => Some((sid(good), AMR_WB_LENGTHS[9])),
+            14 | 15 => Some((0, 0)),
+            _ => None,
+        },
     }
 }
 
-/// The code that announces frames of this class and length, if there is one.
-pub(crate) fn code_of(format: u8, class: u32, length: u32) -> Option<u8> {
-    (0..32).find(|code| (format != 3 || *code < 8) && frame_of(format, *code) == Some((class, length)))
+/// "With quality bit 0 the sort is 5 for sound and 6 for SID"
+fn sound(good: bool) -> u32 {
+    if good {
+        1
+    } else {
+        5
+    }
+}
+
+fn sid(good: bool) -> u32 {
+    if good {
+        2
+    } else {
+        6
+    }
+}
+
+/// The code and the quality bit that announce frames of this class and length, if there are some. "No data ... is written as type
+/// 15 with it set": the bit set comes first, and the greatest code.
+pub(crate) fn code_of(format: u8, class: u32, length: u32) -> Option<(u8, bool)> {
+    let all = [true, false].into_iter().flat_map(|good| (0..32).rev().map(move |code| (code, good)));
+    all.into_iter().find(|(code, good)| frame_of(format, *code, *good) == Some((class, length)))
+}
+
+/// Document 02: "kinds 4 and 5 for their AMR and AMR-WB radios".
+pub(crate) fn is_amr(format: u8) -> bool {
+    format == 4 || format == 5
 }
 
 /// The ticks of one step of a format.
 pub fn step_ticks(format: u8) -> u32 {
-    if format == 3 {
-        GSM_HR_STEP
-    } else {
-        G719_STEP
+    match format {
+        3 => GSM_HR_STEP,
+        4 => AMR_STEP,
+        5 => AMR_WB_STEP,
+        _ => G719_STEP,
     }
 }
 

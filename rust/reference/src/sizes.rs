@@ -20,13 +20,24 @@ pub const MAX_BLOCK: usize = 1_023;
 pub const NO_REDUNDANCY: u8 = 128;
 /// F: the first bit of a table entry or block header, 1 where another follows
 pub const F_BIT: u8 = 0b1000_0000;
+/// document 02: the quality bit of an entry of kinds 4 and 5
+pub const QUALITY_BIT: u8 = 0b0000_0100;
 /// M: the first bit of the packet's second byte
 pub const M_BIT: u8 = 0b1000_0000;
 /// version 2, in the first two bits of a packet
 pub const VERSION_2: u8 = 0b1000_0000;
-/// "one frame-block is 960 ticks"; kind 3: "Step 160 ticks"
+/// "one frame-block is 960 ticks"; kind 3: "Step 160 ticks"; document 02: "Steps are 160 and 320 ticks"
 pub const G719_STEP: u32 = 960;
 pub const GSM_HR_STEP: u32 = 160;
+pub const AMR_STEP: u32 = 160;
+pub const AMR_WB_STEP: u32 = 320;
+/// document 02: "over 15 given is a setting out of range"
+pub const MAX_MODE_REQUEST: u8 = 15;
+/// document 02: "15 if there is none or in kinds 1 to 3"
+pub const NO_MODE_REQUEST: u8 = 15;
+/// the bytes of frames of AMR's types 0 to 8 and of AMR-WB's 0 to 9, the last of each a SID
+pub const AMR_LENGTHS: [u32; 9] = [12, 13, 15, 17, 19, 20, 26, 31, 5];
+pub const AMR_WB_LENGTHS: [u32; 10] = [17, 23, 32, 36, 40, 46, 50, 58, 60, 5];
 
 pub const BAD_PACKET_LENGTH: u32 = 1;
 pub const BAD_VERSION: u32 = 2;

@@ -4,13 +4,14 @@
 //! gives is made, read back by `reading`, and held against the list: where it does not read to the list, the answer is
 //! 13. (That no other payload reads to it either is what the library proves; `tests` below tries all small ones.)
 
-use crate::reading::{code_of, packet_rows, step_ticks};
+use crate::reading::{code_of, is_amr, packet_rows, step_ticks};
 use crate::*;
 
-/// Writes one payload for the list of rows, which point into `bytes`.
-pub fn write_payload(settings: Settings, rows: &[u32], bytes: &[u8], out: &mut [u8]) -> Result<u32, u32> {
-    let list = rows_asked(settings, rows, bytes)?;
-    let payload = payload_of(settings, &list, bytes).ok_or(NOT_WRITABLE)?;
+/// Writes one payload for the list of rows, which point into `bytes`. Document 02: "The mode request is read and written: one
+/// number, put in every block"; kinds 1 to 3 "write none".
+pub fn write_payload(settings: Settings, mode_request: u8, rows: &[u32], bytes: &[u8], out: &mut [u8]) -> Result<u32, u32> {
+    let list = rows_asked(settings, mode_request, rows, bytes)?;
+    let payload = payload_of(settings, mode_request, &list, bytes).ok_or(NOT_WRITABLE)?;
     put(&payload, out)
 }
 
@@ -18,6 +19,7 @@ pub fn write_payload(settings: Settings, rows: &[u32], bytes: &[u8], out: &mut [
 #[allow(clippy::too_many_arguments)]
 pub fn write_packet(
     settings: Settings,
+    mode_request: u8,
     marker: bool,
     sequence: u16,
     source: u32,
@@ -26,14 +28,19 @@ pub fn write_packet(
     bytes: &[u8],
     out: &mut [u8],
 ) -> Result<u32, u32> {
-    let list = rows_asked(settings, rows, bytes)?;
-    let packet = packet_of(settings, marker, sequence, source, counts, &list, bytes).ok_or(NOT_WRITABLE)?;
+    let list = rows_asked(settings, mode_request, rows, bytes)?;
+    let head = Head { mode_request, marker, sequence, source };
+    let packet = packet_of(settings, head, counts, &list, bytes).ok_or(NOT_WRITABLE)?;
     put(&packet, out)
 }
 
 /// The rows of a word area; 11, 14, and 13 for an area that is no whole number of rows.
-fn rows_asked(settings: Settings, words: &[u32], bytes: &[u8]) -> Result<Vec<Row>, u32> {
+fn rows_asked(settings: Settings, mode_request: u8, words: &[u32], bytes: &[u8]) -> Result<Vec<Row>, u32> {
     if !settings.in_range() {
+        return Err(BAD_SETTINGS);
+    }
+    // "over 15 given is a setting out of range", in every kind
+    if mode_request > MAX_MODE_REQUEST {
         return Err(BAD_SETTINGS);
     }
     // "14 is asked of its whole rows only"
@@ -58,8 +65,8 @@ fn put(written: &[u8], out: &mut [u8]) -> Result<u32, u32> {
 }
 
 /// The payload for a list alone, or nothing where that is 13.
-fn payload_of(settings: Settings, list: &[Row], bytes: &[u8]) -> Option<Vec<u8>> {
-    let payload = canonical(settings, list, bytes)?;
+fn payload_of(settings: Settings, mode_request: u8, list: &[Row], bytes: &[u8]) -> Option<Vec<u8>> {
+    let payload = canonical(settings, mode_request, list, bytes)?;
     if payload.len() > MAX_PAYLOAD {
         return None;
     }
@@ -90,15 +97,22 @@ fn frame<'a>(bytes: &'a [u8], row: &Row) -> &'a [u8] {
 }
 
 /// "In kinds 1 and 2 writing uses one entry for each longest run of frame-blocks of equal length, channels of a
-/// frame-block together and equal in length; in kind 3, one entry a frame." Nothing where a class and length has no
-/// code, or a step no displacement.
-fn canonical(settings: Settings, list: &[Row], bytes: &[u8]) -> Option<Vec<u8>> {
+/// frame-block together and equal in length; in kind 3, one entry a frame." So in kinds 4 and 5, after the payload header.
+/// Nothing where a class and length has no code, or a step no displacement.
+fn canonical(settings: Settings, mode_request: u8, list: &[Row], bytes: &[u8]) -> Option<Vec<u8>> {
     let channels = settings.channels as usize;
     let mut payload = Vec::new();
-    if settings.format == 3 {
+    if is_amr(settings.format) {
+        payload.push(mode_request << 4);
+    }
+    if settings.format >= 3 {
         for (i, row) in list.iter().enumerate() {
             let another = if i + 1 < list.len() { F_BIT } else { 0 };
-            payload.push(another + 16 * code_of(3, row.class, row.length)?);
+            let (code, good) = code_of(settings.format, row.class, row.length)?;
+            payload.push(match settings.format {
+                3 => another + 16 * code,
+                _ => another + 8 * code + if good { QUALITY_BIT } else { 0 },
+            });
         }
     } else {
         let blocks: Vec<&[Row]> = list.chunks(channels).collect();
@@ -107,7 +121,8 @@ fn canonical(settings: Settings, list: &[Row], bytes: &[u8]) -> Option<Vec<u8>> 
         for (i, run) in runs.iter().enumerate() {
             let first = run[0][0];
             let another = if i + 1 < runs.len() { F_BIT } else { 0 };
-            payload.push(another + 4 * code_of(settings.format, first.class, first.length)?);
+            let (code, _) = code_of(settings.format, first.class, first.length)?;
+            payload.push(another + 4 * code);
             payload.push(u8::try_from(run.len()).ok()?);
             if settings.format == 2 {
                 // the first entry's DIS1 is 0, and so are the padding bits; a later entry's DIS1 is set (document 02), like any other
@@ -143,8 +158,18 @@ fn displacement(before: u32, time: u32) -> Option<u8> {
     Some((ticks / step_ticks(2) - 1) as u8)
 }
 
+/// What the caller gives of a packet beside its lists.
+#[derive(Clone, Copy)]
+struct Head {
+    mode_request: u8,
+    marker: bool,
+    sequence: u16,
+    source: u32,
+}
+
 /// The packet for the lists, or nothing where that is 13.
-fn packet_of(settings: Settings, marker: bool, sequence: u16, source: u32, counts: &[u32], rows: &[Row], bytes: &[u8]) -> Option<Vec<u8>> {
+fn packet_of(settings: Settings, head: Head, counts: &[u32], rows: &[Row], bytes: &[u8]) -> Option<Vec<u8>> {
+    let Head { mode_request, marker, sequence, source } = head;
     // "no count or more than five counts are given, the counts don't make up the area"
     if counts.is_empty() || counts.len() > MAX_REDUNDANT + 1 {
         return None;
@@ -161,7 +186,7 @@ fn packet_of(settings: Settings, marker: bool, sequence: u16, source: u32, count
     let mut rest = rows;
     for count in counts {
         let (list, after) = rest.split_at(*count as usize);
-        lists.push((list.first()?.time, payload_of(settings, list, bytes)?));
+        lists.push((list.first()?.time, payload_of(settings, mode_request, list, bytes)?));
         rest = after;
     }
     let (timestamp, primary) = lists.pop()?;

@@ -34,8 +34,8 @@ fn tables(format: u8, blocks: usize) -> Vec<Vec<u8>> {
     all
 }
 
-/// The times, tags and lengths that a table reads to, at time 0.
-fn reads_to(settings: Settings, table: &[u8]) -> Vec<(u32, u32, u32)> {
+/// The times, tags and lengths that a table reads to, at time 0; its sound is a whole number of `unit` bytes.
+fn reads_to(settings: Settings, table: &[u8], unit: usize) -> Vec<(u32, u32, u32)> {
     let mut packet = vec![0x80, 97, 0, 0, 0, 0, 0, 0, 0, 0, 0, 0];
     packet.extend_from_slice(table);
     for _ in 0..200 {
@@ -43,7 +43,7 @@ fn reads_to(settings: Settings, table: &[u8]) -> Vec<(u32, u32, u32)> {
         if let Ok(reading) = read(settings, &packet, &mut area) {
             return area[..ROW_WORDS * reading.rows as usize].chunks(ROW_WORDS).map(|row| (row[0], row[1], row[3])).collect();
         }
-        packet.extend([0; 10]);
+        packet.extend(vec![0; unit]);
     }
     panic!("no length of sound fits {table:?}");
 }
@@ -54,7 +54,7 @@ fn thirteen_exactly_when_no_table_reads_to_it() {
         let settings = Settings { format, channels, payload_type: 97, redundancy_type: NO_REDUNDANCY };
         let (mut written, mut refused) = (0, 0);
         for blocks in 1..=4usize {
-            let readable: std::collections::HashSet<_> = tables(format, blocks).iter().map(|t| reads_to(settings, t)).collect();
+            let readable: std::collections::HashSet<_> = tables(format, blocks).iter().map(|t| reads_to(settings, t, 10)).collect();
             // Every list of this many frame-blocks with steps 0 to 3 and those lengths, classes 0 and 1.
             let choices = 4 * 3;
             for number in 0..(choices as u32).pow(blocks as u32) {
@@ -72,7 +72,7 @@ fn thirteen_exactly_when_no_table_reads_to_it() {
                     }
                 }
                 let words: Vec<u32> = list.iter().flat_map(|row| [row.0, row.1, 0, row.2]).collect();
-                let answer = write_payload(settings, &words, &[0; 90], &mut [0; MAX_PAYLOAD]);
+                let answer = write_payload(settings, NO_MODE_REQUEST, &words, &[0; 90], &mut [0; MAX_PAYLOAD]);
                 if readable.contains(&list) {
                     assert!(answer.is_ok(), "{list:?}");
                     written += 1;
@@ -86,6 +86,62 @@ fn thirteen_exactly_when_no_table_reads_to_it() {
     }
 }
 
+/// AMR and AMR-WB: lists of one and two frames of every class and length, against all tables of one and two entries.
+#[test]
+fn thirteen_exactly_when_no_amr_table_reads_to_it() {
+    for (format, step) in [(4, 160u32), (5, 320)] {
+        let settings = Settings { format, channels: 1, payload_type: 97, redundancy_type: NO_REDUNDANCY };
+        let mut readable = std::collections::HashSet::new();
+        for first in 0..=255u8 {
+            // the mode byte, then the entries; those that end the table, and those with another after them
+            let seconds: Vec<Option<u8>> = if first & F_BIT == 0 { vec![None] } else { (0..128).map(Some).collect() };
+            for second in seconds {
+                let mut table = vec![0xF0, first];
+                table.extend(second);
+                let entries = &table[1..];
+                let known = |entry: &u8| {
+                    let code = entry >> 3 & 15;
+                    code == 15 || (format == 5 && code == 14) || code < if format == 4 { 9 } else { 10 }
+                };
+                if entries.iter().all(known) {
+                    readable.insert(reads_to(settings, &table, 1));
+                }
+            }
+        }
+        let (mut written, mut refused) = (0, 0);
+        let mut judge = |list: Vec<(u32, u32, u32)>| {
+            let words: Vec<u32> = list.iter().flat_map(|row| [row.0, row.1, 0, row.2]).collect();
+            let answer = write_payload(settings, 7, &words, &[0; 90], &mut [0; MAX_PAYLOAD]);
+            if readable.contains(&list) {
+                assert!(answer.is_ok(), "{format} {list:?}");
+                written += 1;
+            } else {
+                assert_eq!(answer, Err(13), "{format} {list:?}");
+                refused += 1;
+            }
+        };
+        for class in 0..=8 {
+            for length in 0..=61 {
+                judge(vec![(0, 256 * class, length)]);
+                judge(vec![(0, 256 * class + 1, length)]);
+                for (other, ticks) in
+                    [(0, step), (1, step), (5, step), (6, step), (2, 0), (2, step - 1), (2, step + 1), (2, 2 * step), (2, step)]
+                {
+                    let other_length = if other == 0 {
+                        0
+                    } else if other % 4 == 2 {
+                        5
+                    } else {
+                        17
+                    };
+                    judge(vec![(0, 256 * class, length), (ticks, 256 * other, other_length)]);
+                }
+            }
+        }
+        assert!(written > 100 && refused > 1000, "{written} {refused}");
+    }
+}
+
 #[test]
 fn edges_of_the_sizes() {
     let settings = Settings { format: 1, channels: 1, payload_type: 97, redundancy_type: 121 };
@@ -96,24 +152,24 @@ fn edges_of_the_sizes() {
     let mut out = vec![0; 4096];
     // six frames of 320 and one of 110, in two entries: 4 + 2030 = 2034; with a third entry of no data 2036; with a fourth 2038
     let mut lengths = vec![320, 320, 320, 320, 320, 320, 110];
-    assert_eq!(write_payload(settings, &list(&lengths), &bytes, &mut out), Ok(2034));
+    assert_eq!(write_payload(settings, NO_MODE_REQUEST, &list(&lengths), &bytes, &mut out), Ok(2034));
     lengths.push(0);
-    assert_eq!(write_payload(settings, &list(&lengths), &bytes, &mut out), Ok(MAX_PAYLOAD as u32));
-    assert_eq!(write_payload(settings, &list(&lengths), &bytes, &mut out[..MAX_PAYLOAD - 1]), Err(12));
-    assert_eq!(write_packet(settings, true, 1, 2, &[8], &list(&lengths), &bytes, &mut out), Ok(MAX_PACKET as u32));
+    assert_eq!(write_payload(settings, NO_MODE_REQUEST, &list(&lengths), &bytes, &mut out), Ok(MAX_PAYLOAD as u32));
+    assert_eq!(write_payload(settings, NO_MODE_REQUEST, &list(&lengths), &bytes, &mut out[..MAX_PAYLOAD - 1]), Err(12));
+    assert_eq!(write_packet(settings, NO_MODE_REQUEST, true, 1, 2, &[8], &list(&lengths), &bytes, &mut out), Ok(MAX_PACKET as u32));
     lengths.insert(0, 0);
-    assert_eq!(write_payload(settings, &list(&lengths), &bytes, &mut out), Err(13));
+    assert_eq!(write_payload(settings, NO_MODE_REQUEST, &list(&lengths), &bytes, &mut out), Err(13));
     // the most rows, of no data, and one more
-    assert_eq!(write_payload(settings, &list(&[0; MAX_ROWS]), &[], &mut out), Ok(2));
-    assert_eq!(write_payload(settings, &list(&[0; MAX_ROWS + 1]), &[], &mut out), Err(13));
+    assert_eq!(write_payload(settings, NO_MODE_REQUEST, &list(&[0; MAX_ROWS]), &[], &mut out), Ok(2));
+    assert_eq!(write_payload(settings, NO_MODE_REQUEST, &list(&[0; MAX_ROWS + 1]), &[], &mut out), Err(13));
     // an empty list, a part of a row, a row outside
-    assert_eq!(write_payload(settings, &[], &bytes, &mut out), Err(13));
-    assert_eq!(write_payload(settings, &[0, 256, 0, 80, 0], &bytes, &mut out), Err(13));
-    assert_eq!(write_payload(settings, &[0, 256, 241, 80, 0], &bytes, &mut out), Err(14));
-    assert_eq!(write_payload(settings, &[0, 0, u32::MAX, u32::MAX], &bytes, &mut out), Err(14));
+    assert_eq!(write_payload(settings, NO_MODE_REQUEST, &[], &bytes, &mut out), Err(13));
+    assert_eq!(write_payload(settings, NO_MODE_REQUEST, &[0, 256, 0, 80, 0], &bytes, &mut out), Err(13));
+    assert_eq!(write_payload(settings, NO_MODE_REQUEST, &[0, 256, 241, 80, 0], &bytes, &mut out), Err(14));
+    assert_eq!(write_payload(settings, NO_MODE_REQUEST, &[0, 0, u32::MAX, u32::MAX], &bytes, &mut out), Err(14));
     // offsets of 16383 and 16384
     let two = |first: u32| [first, 256, 0, 80, 20000, 256, 0, 80];
-    assert_eq!(write_packet(settings, false, 1, 2, &[1, 1], &two(20000 - 16383), &bytes, &mut out), Ok(12 + 5 + 164));
+    assert_eq!(write_packet(settings, NO_MODE_REQUEST, false, 1, 2, &[1, 1], &two(20000 - 16383), &bytes, &mut out), Ok(12 + 5 + 164));
     assert_eq!(out[12..17], [0xE1, 0xFF, 0xFC, 0x52, 0x61]);
-    assert_eq!(write_packet(settings, false, 1, 2, &[1, 1], &two(20000 - 16384), &bytes, &mut out), Err(13));
+    assert_eq!(write_packet(settings, NO_MODE_REQUEST, false, 1, 2, &[1, 1], &two(20000 - 16384), &bytes, &mut out), Err(13));
 }

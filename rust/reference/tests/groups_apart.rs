@@ -33,7 +33,7 @@ fn list(frames: &[(u32, u32)]) -> (Vec<u32>, Vec<u8>) {
 fn written(frames: &[(u32, u32)]) -> Result<Vec<u8>, u32> {
     let (words, bytes) = list(frames);
     let mut out = vec![0; MAX_PAYLOAD];
-    let length = write_payload(SETTINGS, &words, &bytes, &mut out)?;
+    let length = write_payload(SETTINGS, NO_MODE_REQUEST, &words, &bytes, &mut out)?;
     Ok(out[..length as usize].to_vec())
 }
 
@@ -68,7 +68,7 @@ fn gaps_that_cannot_be_said() {
         assert!(if fits { answer.is_ok() } else { answer == Err(13) }, "{ticks} {answer:?}");
         let (words, bytes) = list(&[(7, 80), (7 + ticks, 90)]);
         let basic = Settings { format: 1, ..SETTINGS };
-        assert_eq!(write_payload(basic, &words, &bytes, &mut [0; MAX_PAYLOAD]).is_ok(), ticks == 960);
+        assert_eq!(write_payload(basic, NO_MODE_REQUEST, &words, &bytes, &mut [0; MAX_PAYLOAD]).is_ok(), ticks == 960);
     }
 }
 

@@ -9,7 +9,7 @@ use std::slice::{from_raw_parts, from_raw_parts_mut};
 pub struct CSettings(u8, u8, u8, u8);
 
 #[repr(C)]
-pub struct CReading(u32, u32, u32, u32, u32, u32);
+pub struct CReading(u32, u32, u32, u32, u32, u32, u32);
 
 #[repr(C)]
 pub struct CWritten(u32, u32);
@@ -96,14 +96,15 @@ fn written(answer: Result<u32, u32>) -> CWritten {
 #[no_mangle]
 pub unsafe extern "C" fn hsp_read(s: CSettings, packet: *const u8, n: usize, rows: *mut u32, m: usize) -> CReading {
     match reference::read(settings(s), from_raw_parts(packet, n), from_raw_parts_mut(rows, m)) {
-        Ok(r) => CReading(0, r.rows, r.marker, r.sequence, r.timestamp, r.source),
-        Err(refusal) => CReading(refusal, 0, 0, 0, 0, 0),
+        Ok(r) => CReading(0, r.rows, r.marker, r.sequence, r.timestamp, r.source, r.mode_request),
+        Err(refusal) => CReading(refusal, 0, 0, 0, 0, 0, 0),
     }
 }
 
 #[no_mangle]
 pub unsafe extern "C" fn hsp_write_payload(
     s: CSettings,
+    mode_request: u8,
     rows: *const u32,
     n: usize,
     bytes: *const u8,
@@ -111,13 +112,15 @@ pub unsafe extern "C" fn hsp_write_payload(
     out: *mut u8,
     o: usize,
 ) -> CWritten {
-    written(reference::write_payload(settings(s), from_raw_parts(rows, n), from_raw_parts(bytes, m), from_raw_parts_mut(out, o)))
+    let (rows, bytes) = (from_raw_parts(rows, n), from_raw_parts(bytes, m));
+    written(reference::write_payload(settings(s), mode_request, rows, bytes, from_raw_parts_mut(out, o)))
 }
 
 #[no_mangle]
 #[allow(clippy::too_many_arguments)]
 pub unsafe extern "C" fn hsp_write_packet(
     s: CSettings,
+    mode_request: u8,
     marker: u8,
     sequence: u16,
     source: u32,
@@ -133,7 +136,8 @@ pub unsafe extern "C" fn hsp_write_packet(
     let counts = from_raw_parts(counts, c);
     let rows = from_raw_parts(rows, n);
     let bytes = from_raw_parts(bytes, m);
-    written(reference::write_packet(settings(s), marker != 0, sequence, source, counts, rows, bytes, from_raw_parts_mut(out, o)))
+    let out = from_raw_parts_mut(out, o);
+    written(reference::write_packet(settings(s), mode_request, marker != 0, sequence, source, counts, rows, bytes, out))
 }
 
 #[no_mangle]

@@ -7,10 +7,10 @@ use Rattle.describe.proofs.frames.print_frames.Lts as lts
 use Rattle.describe.proofs.frames.print_frame.Reads as print-frame-reads
 
 abbrev Inv-loop : tie.InvT-loop
-Inv-loop rows count i₀ i = Unit
+Inv-loop format rows count i₀ i = Unit
 
 abbrev μ-loop : tie.MeasureT-loop
-μ-loop rows count i₀ i = count - i
+μ-loop format rows count i₀ i = count - i
 
 loop-holds : tie.Need-loop-holds Inv-loop μ-loop
 loop-holds c = search needs

@@ -6,6 +6,7 @@ use denote.Ref.{now}
 use borrow.Author.Tests.{lt-ltb, le-ltb}
 use Rattle.rtp.specs.Sizes.{maxRows}
 use Rattle.rtp.specs.Time.{difference}
+use Rattle.formats.specs.Formats.{formatOf}
 use Rattle.encoder.specs.declared.lists.RowWords.{RowWords}
 use Rattle.encoder.specs.declared.plans.Planned.{Planned}
 use Rattle.encoder.specs.Lists.{rowsIn}
@@ -36,7 +37,7 @@ small-at c p e =
     (subst (λ (x : Planned). Small (a .format) (a .channels) (length (rowsIn (now (a .rows)))) x) (sym (made-at c) ∙ e) (small-plan (a .format) (a .channels) 0 (stepBefore (a .format) (rowAs (wordsAt (now (a .rows)) 0))) (rowsIn (now (a .rows))))) in
     omega (arith, s .tabled, plan-frames (a .format) (a .channels) p s (omega arith))
 
-answer-at : (c : tie.After-plan-from) → let a = c .before .before .before .before .before .before .before .args in planAnswer (a .format) (a .channels) (plan (a .format) (a .channels) (rowsIn (now (a .rows)))) ≡ fittingPlan (c .plan-from .result)
+answer-at : (c : tie.After-plan-from) → let a = c .before .before .before .before .before .before .before .args in planAnswer (a .format) (a .channels) (plan (a .format) (a .channels) (rowsIn (now (a .rows)))) ≡ fittingPlan (a .format) (c .plan-from .result)
 answer-at c = let a = c .before .before .before .before .before .before .before .args in list-answer (a .format) (a .channels) (now (a .rows)) (c .before .before .before .before .before .if1 .left) (omega (arith, c .before .before .before .before .if2 .left)) (c .plan-from .result) (made-at c)
 
 returns : tie.Need-returns
@@ -60,11 +61,11 @@ plan-from-requires c κs = search needs
 enum-known-plan : tie.Need-enum-known-plan
 enum-known-plan c = search needs
 
-add-if3 : tie.Need-add-if3
-add-if3 c = omega (arith, small-at (c .before .before .before .before) (c .before .before .plan .given .0 .0) (c .before .before .plan .given .1))
+payload-size-requires : tie.Need-payload-size-requires
+payload-size-requires c κs = omega (arith, small-at (c .before .before .before) (c .before .plan .given .0 .0) (c .before .plan .given .1))
 
 returns-3 : tie.Need-returns-3
-returns-3 c = sym (answer-at (c .before .before .before .before .before) ∙ ap fittingPlan (c .before .before .before .plan .given .1) ∙ rw (lt-ltb maxPayload (c .before .before .before .plan .given .0 .0 .table + c .before .before .before .plan .given .0 .0 .frames) (omega (arith, c .if3 .taken))))
+returns-3 c = let f = c .before .before .before .before .before .before .before .before .before .before .before .before .args .format in sym (answer-at (c .before .before .before .before .before) ∙ ap (fittingPlan f) (c .before .before .before .plan .given .1) ∙ rw (lt-ltb maxPayload (formatOf f .header + c .before .before .before .plan .given .0 .0 .table + c .before .before .before .plan .given .0 .0 .frames) (omega (arith, c .if3 .taken, c .before .payload-size .ensures))))
 
 enum-told : tie.Need-enum-told
 enum-told c = search needs
@@ -73,13 +74,13 @@ enum-told-2 : tie.Need-enum-told-2
 enum-told-2 c = search needs
 
 returns-4 : tie.Need-returns-4
-returns-4 c = sym (answer-at (c .before .before .before .before .before) ∙ ap fittingPlan (c .before .before .before .plan .given .1) ∙ rw (le-ltb maxPayload (c .before .before .before .plan .given .0 .0 .table + c .before .before .before .plan .given .0 .0 .frames) (omega (arith, c .if3 .left))))
+returns-4 c = let f = c .before .before .before .before .before .before .before .before .before .before .before .before .args .format in sym (answer-at (c .before .before .before .before .before) ∙ ap (fittingPlan f) (c .before .before .before .plan .given .1) ∙ rw (le-ltb maxPayload (formatOf f .header + c .before .before .before .plan .given .0 .0 .table + c .before .before .before .plan .given .0 .0 .frames) (omega (arith, c .if3 .left, c .before .payload-size .ensures))))
 
 returns-5 : tie.Need-returns-5
-returns-5 c = sym (answer-at (c .before .before) ∙ ap fittingPlan (c .enum-told .given .1))
+returns-5 c = sym (answer-at (c .before .before) ∙ ap (fittingPlan (c .before .before .before .before .before .before .before .before .before .args .format)) (c .enum-told .given .1))
 
 returns-6 : tie.Need-returns-6
-returns-6 c = sym (answer-at (c .before .before) ∙ ap fittingPlan (c .enum-told2 .given .1))
+returns-6 c = sym (answer-at (c .before .before) ∙ ap (fittingPlan (c .before .before .before .before .before .before .before .before .before .args .format)) (c .enum-told2 .given .1))
 
 pub plan-list-spec : {M : Type 1} → statement M
 plan-list-spec =
@@ -92,7 +93,7 @@ plan-list-spec =
     difference-requires
     plan-from-requires
     enum-known-plan
-    add-if3
+    payload-size-requires
     returns-3
     enum-told
     enum-told-2

@@ -23,7 +23,7 @@ use Rattle.encoder.proofs.tables.+put_table.Lts-put_table as put-table-
 use Rattle.encoder.proofs.lists.row_at.Reads as row-at-reads
 use Rattle.encoder.proofs.tables.joined_blocks.Reads as joined-blocks-reads
 use Rattle.encoder.proofs.tables.put_entry.Reads as put-entry-reads
-use Rattle.payload.proofs.contents.entry_size.Reads as entry-size-reads
+use Rattle.contents.proofs.entries.entry_size.Reads as entry-size-reads
 use Rattle.encoder.proofs.tables.+put_table.{statement}
 use Rattle.encoder.proofs.tables.+put_table.Tie.{close}
 

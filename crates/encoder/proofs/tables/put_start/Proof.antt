@@ -4,7 +4,7 @@ use native.Mathlib.Omega.{arith}
 use lib.ListN.{length, length-set}
 use denote.Ref.{now}
 use Rattle.formats.specs.declared.facts.Format.{Format}
-use Rattle.payload.proofs.EntryLaws.{min-some, min-counted}
+use Rattle.contents.proofs.EntryLaws.{min-some, min-counted}
 use Rattle.encoder.proofs.EntryLaws.{put-single, put-counted}
 use borrow.Author.Needs.{needs}
 use Rattle.encoder.proofs.tables.put_start.Statement.{statement}

@@ -1,10 +1,13 @@
-use mathlib.Core.Path.{_≡_, sym, _∙_}
+use mathlib.Core.Path.{_≡_, ap, sym, _∙_}
+use Prim.Native.Nat.{ℕ}
 use mathlib.Core.Bool.{true}
 use native.Mathlib.Omega.{arith}
 use denote.Ref.{now}
 use Rattle.rtp.specs.Ranges.{inRange}
 use Rattle.encoder.specs.Lists.{rowsIn}
 use Rattle.encoder.specs.Plans.{plan}
+use Rattle.encoder.specs.declared.writing.Written.{Written}
+use Rattle.encoder.specs.Writings.{writtenNumbers}
 use Rattle.encoder.proofs.PayloadLaws.{listed}
 use Rattle.encoder.proofs.WritingLaws.{in-range-some, Answered, answered, unanswered, not-empty, measured-out, measured-cut, measured-none, measured-all}
 use borrow.Author.Needs.{needs}
@@ -27,8 +30,8 @@ plan-list-requires c κs = let a = c .before .before .before .before .args in in
 enum-known-plan : tie.Need-enum-known-plan
 enum-known-plan c = search needs
 
-add-t12 : tie.Need-add-t12
-add-t12 c = let a = c .before .before .before .before .before .before .before .before .before .args in let d = plan-at (c .before .before) in omega (arith, listed (a .asked .format) (a .asked .channels) (now (a .rows)) (d .table-groups) (d .planned) .fits, d .table, d .frames)
+payload-size-requires : tie.Need-payload-size-requires
+payload-size-requires c κs = let a = c .before .before .before .before .before .before .before .before .args in let d = plan-at (c .before) in omega (arith, listed (a .asked .format) (a .asked .channels) (now (a .rows)) (d .table-groups) (d .planned) .fits, d .table, d .frames)
 
 enum-told : tie.Need-enum-told
 enum-told c = search needs
@@ -37,7 +40,7 @@ enum-told-2 : tie.Need-enum-told-2
 enum-told-2 c = search needs
 
 returns : tie.Need-returns
-returns c = let a = c .before .before .before .before .before .before .before .before .before .args in measured-all (a .asked) (now (a .rows)) (range-at (c .before .before .before .before .before .before)) (c .before .before .before .before .before .if2 .taken) _ (plan-at (c .before .before))
+returns c = let a = c .before .before .before .before .before .before .before .before .before .args in ap (λ (n : ℕ). writtenNumbers (Written.Bytes n)) (c .payload-size .ensures) ∙ measured-all (a .asked) (now (a .rows)) (range-at (c .before .before .before .before .before .before)) (c .before .before .before .before .before .if2 .taken) _ (plan-at (c .before .before))
 
 returns-2 : tie.Need-returns-2
 returns-2 c = let a = c .before .before .before .before .before .before .before .args in absurd (not-empty (a .asked .format) (a .asked .channels) (now (a .rows)) (in-range-some (a .asked) (range-at (c .before .before .before .before))) (sym (c .enum-told .given .1) ∙ c .before .before .plan-list .ensures))
@@ -58,7 +61,7 @@ measure-payload-spec =
     in-range-requires
     plan-list-requires
     enum-known-plan
-    add-t12
+    payload-size-requires
     enum-told
     enum-told-2
     returns

@@ -18,8 +18,8 @@ refusal-number-requires c κs = search needs
 enum-known-count : tie.Need-enum-known-count
 enum-known-count c = search needs
 
-cast-t16 : tie.Need-cast-t16
-cast-t16 c = omega (arith, packet-count-fits _ _ _ _ _ _ _ _ (c .before .count .given .1) (c .before .before .before .before .before .write-packet .ensures .0))
+cast-t17 : tie.Need-cast-t17
+cast-t17 c = omega (arith, packet-count-fits _ _ _ _ _ _ _ _ _ (c .before .count .given .1) (c .before .before .before .before .before .write-packet .ensures .0))
 
 same-length : tie.Need-same-length
 same-length c = search needs
@@ -41,7 +41,7 @@ hsp-write-packet-spec =
     enum-known-reason
     refusal-number-requires
     enum-known-count
-    cast-t16
+    cast-t17
     same-length
     returns
     same-length-2

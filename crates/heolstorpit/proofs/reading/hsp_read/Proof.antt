@@ -22,6 +22,9 @@ cast-t11 c = search needs
 cast-t12 : tie.Need-cast-t12
 cast-t12 c = search needs
 
+cast-t13 : tie.Need-cast-t13
+cast-t13 c = search needs
+
 same-length : tie.Need-same-length
 same-length c = search needs
 
@@ -32,7 +35,7 @@ same-length-2 : tie.Need-same-length-2
 same-length-2 c = search needs
 
 returns-2 : tie.Need-returns-2
-returns-2 c = (read-numbers _ _ (c .before .before .before .found .given .1) ∙ c .before .before .before .before .before .before .before .read .ensures .0, c .before .before .before .before .before .before .before .read .ensures .1)
+returns-2 c = (read-numbers _ _ (c .before .before .before .before .found .given .1) ∙ c .before .before .before .before .before .before .before .before .read .ensures .0, c .before .before .before .before .before .before .before .before .read .ensures .1)
 
 pub hsp-read-spec : {M : Type 1} → statement M
 hsp-read-spec =
@@ -44,6 +47,7 @@ hsp-read-spec =
     enum-known-found
     cast-t11
     cast-t12
+    cast-t13
     same-length
     returns
     same-length-2

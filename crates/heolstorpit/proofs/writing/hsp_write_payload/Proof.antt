@@ -18,8 +18,8 @@ refusal-number-requires c κs = search needs
 enum-known-count : tie.Need-enum-known-count
 enum-known-count c = search needs
 
-cast-t12 : tie.Need-cast-t12
-cast-t12 c = omega (arith, payload-count-fits _ _ _ _ _ _ (c .before .count .given .1) (c .before .before .before .before .before .write-payload .ensures .0))
+cast-t13 : tie.Need-cast-t13
+cast-t13 c = omega (arith, payload-count-fits _ _ _ _ _ _ _ (c .before .count .given .1) (c .before .before .before .before .before .write-payload .ensures .0))
 
 same-length : tie.Need-same-length
 same-length c = search needs
@@ -41,7 +41,7 @@ hsp-write-payload-spec =
     enum-known-reason
     refusal-number-requires
     enum-known-count
-    cast-t12
+    cast-t13
     same-length
     returns
     same-length-2

@@ -1,34 +1,50 @@
 use Rattle.rtp.proofs.AreaLaws.{part-to-end}
-use lib.ListN.{length}
+use lib.ListN.{length, take, drop, length-drop}
 use denote.Ref.{now}
 use mathlib.Core.Path.{_≡_, sym, _∙_, ap}
+use Prim.Native.Nat.{_+_, _-_}
 use native.Mathlib.Omega.{arith}
 use Rattle.rtp.specs.Sizes.{rowArea}
-use Rattle.payload.specs.Payloads.{payloadRows, rowsAnswer, askedRows}
-use Rattle.payload.specs.Contents.{contents, sizesAnswer}
-use Rattle.payload.specs.declared.contents.ContentsRead.{ContentsRead}
-use Rattle.payload.proofs.ContentsLaws.{Small}
-use Rattle.payload.proofs.PayloadLaws.{pay-refused, pay-part, pay-rows, pay-small, asked-out, asked-long, asked-in, answer-none}
-use Rattle.payload.proofs.NumberLaws.{contents-is, rows-has}
+use Rattle.formats.specs.declared.facts.Format.{Format}
+use Rattle.payload.specs.Payloads.{body, payloadRows, rowsAnswer, askedRows}
+use Rattle.contents.specs.Contents.{contents, sizesAnswer}
+use Rattle.contents.specs.declared.entries.ContentsRead.{ContentsRead}
+use Rattle.contents.proofs.ContentsLaws.{Small}
+use Rattle.payload.proofs.PayloadLaws.{pay-refused, pay-headless, pay-part, pay-rows, pay-small, asked-out, asked-long, asked-in, answer-none}
+use Rattle.contents.proofs.NumberLaws.{contents-is}
+use Rattle.payload.proofs.NumberLaws.{rows-has}
 use borrow.Author.Needs.{needs}
 use Rattle.payload.proofs.reading.check_payload.Statement.{statement}
 use Rattle.payload.proofs.reading.check_payload.Tie as tie
 
--- the settings are in range, and the payload is that of the table
+-- the settings are in range, and the payload is no longer than a packet
 asked-at : (c : tie.Else2) → let a = c .before .before .before .before .args in askedRows (a .asked) (a .done) rowArea 0 0 (now (a .s)) ≡ payloadRows (a .asked .format) (a .asked .channels) (a .done) 0 0 (now (a .s))
 asked-at c = let a = c .before .before .before .before .args in asked-in (a .asked) (a .done) rowArea 0 0 (now (a .s)) (sym (c .before .before .in-range .ensures) ∙ c .before .if1 .taken) (omega arith) (omega (arith, c .if2 .left))
 
-table-at : (c : tie.After-sizes) → let a = c .before .before .before .before .before .before .before .before .args in sizesAnswer (a .asked .format) (a .asked .channels) (contents (a .asked .format) (a .asked .channels) (a .done) (now (a .s))) ≡ ContentsRead.Contents (c .sizes .given .0 .0)
-table-at c = sym (contents-is _ _ _ _ (rw (part-to-end 0 (now (c .before .before .before .before .before .before .before .before .args .s))) at (c .before .before .read-contents .ensures))) ∙ c .sizes .given .1
+-- it is a header, and a body that is read on
+body-at : (c : tie.Else3) → let a = c .before .before .before .before .before .before .args in let n = c .before .format-of .result .header in take (length (now (a .s)) - n) (drop n (now (a .s))) ≡ body (a .asked .format) (now (a .s))
+body-at c = let a = c .before .before .before .before .before .before .args in part-to-end (c .before .format-of .result .header) (now (a .s)) ∙ ap (λ (f : Format). drop (f .header) (now (a .s))) (c .before .format-of .ensures)
 
-small-at : (c : tie.After-sizes) → let a = c .before .before .before .before .before .before .before .before .args in Small (a .done) (length (now (a .s))) (c .sizes .given .0 .0)
-small-at c = let a = c .before .before .before .before .before .before .before .before .args in pay-small (a .asked .format) (a .asked .channels) (a .done) 0 0 (now (a .s)) (c .sizes .given .0 .0) (table-at c)
+length-at : (c : tie.Else3) → let a = c .before .before .before .before .before .before .args in c .before .format-of .result .header + length (body (a .asked .format) (now (a .s))) ≡ length (now (a .s))
+length-at c = let a = c .before .before .before .before .before .before .args in rw (length-drop, sym (c .before .format-of .ensures)) (omega (arith, c .if3 .left))
+
+table-at : (c : tie.After-sizes) → let a = c .before .before .before .before .before .before .before .before .before .before .args in sizesAnswer (a .asked .format) (a .asked .channels) (contents (a .asked .format) (a .asked .channels) (a .done) (body (a .asked .format) (now (a .s)))) ≡ ContentsRead.Contents (c .sizes .given .0 .0)
+table-at c = sym (contents-is _ _ _ _ (rw (body-at (c .before .before .before .before)) at (c .before .before .read-contents .ensures))) ∙ c .sizes .given .1
+
+small-at : (c : tie.After-sizes) → let a = c .before .before .before .before .before .before .before .before .before .before .args in Small (a .done) (length (body (a .asked .format) (now (a .s)))) (c .sizes .given .0 .0)
+small-at c = let a = c .before .before .before .before .before .before .before .before .before .before .args in pay-small (a .asked .format) (a .asked .channels) (a .done) 0 0 (now (a .s)) (c .sizes .given .0 .0) (table-at c)
 
 in-range-requires : tie.Need-in-range-requires
 in-range-requires c κs = search needs
 
 returns : tie.Need-returns
 returns c = let a = c .before .before .before .before .args in rows-has _ _ (answer-none _ _ (asked-long (a .asked) (a .done) rowArea 0 0 (now (a .s)) (sym (c .before .before .in-range .ensures) ∙ c .before .if1 .taken) (omega arith) (omega (arith, c .if2 .taken))))
+
+format-of-requires : tie.Need-format-of-requires
+format-of-requires c κs = search needs
+
+returns-2 : tie.Need-returns-2
+returns-2 c = let a = c .before .before .before .before .before .before .args in rows-has _ _ (answer-none _ _ (asked-at (c .before .before) ∙ pay-headless (a .asked .format) (a .asked .channels) (a .done) 0 0 (now (a .s)) (rw (sym (c .before .format-of .ensures)) (c .if3 .taken))))
 
 sub-read-contents : tie.Need-sub-read-contents
 sub-read-contents c = search needs
@@ -48,23 +64,26 @@ enum-known-refusal c = search needs
 enum-known-sizes : tie.Need-enum-known-sizes
 enum-known-sizes c = search needs
 
-add-if3 : tie.Need-add-if3
-add-if3 c = omega (arith, small-at (c .before .before), c .before .before .before .before .before .before .before .before .before .before .good)
+add-if4 : tie.Need-add-if4
+add-if4 c = omega (arith, small-at (c .before .before), length-at (c .before .before .before .before .before .before), c .before .before .before .before .before .before .before .before .before .before .before .before .good)
 
-cast-t20 : tie.Need-cast-t20
-cast-t20 c = omega (arith, small-at (c .before .before .before .before) .few)
+add-if4-2 : tie.Need-add-if4-2
+add-if4-2 c = omega (arith, small-at (c .before .before .before), length-at (c .before .before .before .before .before .before .before), c .before .before .before .before .before .before .before .before .before .before .before .before .before .good)
 
-returns-2 : tie.Need-returns-2
-returns-2 c = let a = c .before .before .before .before .before .before .before .before .before .args in rows-has _ _ (answer-none _ _ (asked-at (c .before .before .before .before .before) ∙ pay-refused (a .asked .format) (a .asked .channels) (a .done) 0 0 (now (a .s)) _ (sym (contents-is _ _ _ _ (rw (part-to-end 0 (now (a .s))) at (c .before .before .before .read-contents .ensures))) ∙ c .before .refusal .given .1)))
+cast-t24 : tie.Need-cast-t24
+cast-t24 c = omega (arith, small-at (c .before .before .before .before .before) .few)
 
 returns-3 : tie.Need-returns-3
-returns-3 c = let a = c .before .before .before .before .before .before .before .before .before .before .before .before .args in rows-has _ _ (sym (ap rowsAnswer (asked-at (c .before .before .before .before .before .before .before .before)) ∙ pay-rows (a .asked .format) (a .asked .channels) (a .done) 0 0 (now (a .s)) _ (table-at (c .before .before .before .before)) (c .before .if3 .taken)))
+returns-3 c = let a = c .before .before .before .before .before .before .before .before .before .before .before .args in rows-has _ _ (answer-none _ _ (asked-at (c .before .before .before .before .before .before .before) ∙ pay-refused (a .asked .format) (a .asked .channels) (a .done) 0 0 (now (a .s)) _ (sym (contents-is _ _ _ _ (rw (body-at (c .before .before .before .before .before)) at (c .before .before .before .read-contents .ensures))) ∙ c .before .refusal .given .1)))
 
 returns-4 : tie.Need-returns-4
-returns-4 c = let a = c .before .before .before .before .before .before .before .before .before .before .before .args in rows-has _ _ (answer-none _ _ (asked-at (c .before .before .before .before .before .before .before) ∙ pay-part (a .asked .format) (a .asked .channels) (a .done) 0 0 (now (a .s)) _ (table-at (c .before .before .before)) (c .if3 .left)))
+returns-4 c = let a = c .before .before .before .before .before .before .before .before .before .before .before .before .before .before .before .args in rows-has _ _ (sym (ap rowsAnswer (asked-at (c .before .before .before .before .before .before .before .before .before .before .before)) ∙ pay-rows (a .asked .format) (a .asked .channels) (a .done) 0 0 (now (a .s)) _ (table-at (c .before .before .before .before .before)) (omega (arith, length-at (c .before .before .before .before .before .before .before .before .before), c .before .if4 .taken))))
 
 returns-5 : tie.Need-returns-5
-returns-5 c = let a = c .before .before .before .args in rows-has _ _ (answer-none _ _ (asked-out (a .asked) (a .done) rowArea 0 0 (now (a .s)) (sym (c .before .in-range .ensures) ∙ c .if1 .left)))
+returns-5 c = let a = c .before .before .before .before .before .before .before .before .before .before .before .before .before .before .args in rows-has _ _ (answer-none _ _ (asked-at (c .before .before .before .before .before .before .before .before .before .before) ∙ pay-part (a .asked .format) (a .asked .channels) (a .done) 0 0 (now (a .s)) _ (table-at (c .before .before .before .before)) (λ e. c .if4 .left (omega (arith, length-at (c .before .before .before .before .before .before .before .before), e)))))
+
+returns-6 : tie.Need-returns-6
+returns-6 c = let a = c .before .before .before .args in rows-has _ _ (answer-none _ _ (asked-out (a .asked) (a .done) rowArea 0 0 (now (a .s)) (sym (c .before .in-range .ensures) ∙ c .if1 .left)))
 
 pub check-payload-spec : {M : Type 1} → statement M
 check-payload-spec =
@@ -72,15 +91,18 @@ check-payload-spec =
     (tie.spec
     in-range-requires
     returns
+    format-of-requires
+    returns-2
     sub-read-contents
     part-read-contents-start
     part-read-contents-end
     read-contents-requires
     enum-known-refusal
     enum-known-sizes
-    add-if3
-    cast-t20
-    returns-2
+    add-if4
+    add-if4-2
+    cast-t24
     returns-3
     returns-4
-    returns-5)
+    returns-5
+    returns-6)

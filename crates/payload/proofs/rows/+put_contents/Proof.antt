@@ -5,13 +5,13 @@ use mathlib.Core.Path.{ap, _≡_, sym, _∙_}
 use native.Mathlib.Omega.{arith}
 use Rattle.rtp.specs.Sizes.{rowWidth, maxRows}
 use Rattle.rtp.proofs.AreaLaws.{part-length, part-to-end}
-use Rattle.payload.specs.declared.contents.EntryRead.{EntryRead}
-use Rattle.payload.specs.Contents.{entryOf, contents, sizesAnswer}
+use Rattle.contents.specs.declared.entries.EntryRead.{EntryRead}
+use Rattle.contents.specs.Contents.{entryOf, contents, sizesAnswer}
 use Rattle.payload.specs.Room.{GroupRoom, TableRoom}
-use Rattle.payload.proofs.EntryLaws.{fair}
-use Rattle.payload.proofs.ContentsLaws.{shorter}
+use Rattle.contents.proofs.EntryLaws.{fair}
+use Rattle.contents.proofs.ContentsLaws.{shorter}
 use Rattle.payload.proofs.TableLaws.{room-few, room-group, room-rest, put-refused, put-last, put-more}
-use Rattle.payload.proofs.NumberLaws.{same-entry}
+use Rattle.contents.proofs.NumberLaws.{same-entry}
 use borrow.Author.Needs.{needs}
 use Prim.Native.Nat.{ℕ, _<_, _*_, _≤_, _+_, _-_}
 use borrow.Fn.Kinds.{In, Out}
@@ -19,7 +19,7 @@ use borrow.Fn.PlainCycle.{Measures, is, falls, and}
 use Rattle.payload.proofs.rows.put_contents.Reads as put-contents
 use Rattle.payload.proofs.rows.put_contents.Kinds as put-contents-kinds
 use Rattle.payload.proofs.rows.+put_contents.Lts-put_contents as put-contents-lts
-use Rattle.payload.proofs.contents.read_entry.Reads as read-entry-reads
+use Rattle.contents.proofs.entries.read_entry.Reads as read-entry-reads
 use Rattle.payload.proofs.rows.put_group.Reads as put-group-reads
 use Rattle.payload.proofs.rows.+put_contents.{statement}
 use Rattle.payload.proofs.rows.+put_contents.Tie.{close}

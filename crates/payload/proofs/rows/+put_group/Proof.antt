@@ -6,10 +6,10 @@ use native.Mathlib.Nat.{mul-le-mul-left}
 use Rattle.rtp.specs.Sizes.{rowWidth}
 use Rattle.rtp.proofs.AreaLaws.{part-length}
 use Rattle.formats.specs.Frames.{stepOf}
-use Rattle.payload.specs.Contents.{gapAt}
+use Rattle.contents.specs.Contents.{gapAt}
 use Rattle.payload.specs.Rows.{placed}
 use Rattle.formats.proofs.FormatLaws.{maxStep, step-fine}
-use Rattle.payload.proofs.GroupLaws.{group-area, group-frames, group-block, group-entry, group-next, time-none, group-none, time-more, group-put}
+use Rattle.payload.proofs.GroupLaws.{group-area, group-frames, group-block, group-next, time-none, group-none, time-more, group-put}
 use borrow.Author.Needs.{needs}
 use Prim.Native.Nat.{ℕ, _<_, _*_, _≤_, _+_, _-_, _^_, _%_}
 use borrow.Fn.Kinds.{In, Out}
@@ -17,7 +17,7 @@ use borrow.Fn.PlainCycle.{Measures, is, falls, and}
 use Rattle.payload.proofs.rows.put_group.Reads as put-group
 use Rattle.payload.proofs.rows.put_group.Kinds as put-group-kinds
 use Rattle.payload.proofs.rows.+put_group.Lts-put_group as put-group-lts
-use Rattle.payload.proofs.contents.gap.Reads as gap-reads
+use Rattle.contents.proofs.entries.gap.Reads as gap-reads
 use Rattle.formats.proofs.frames.step_of.Reads as step-of-reads
 use Rattle.payload.proofs.rows.put_block.Reads as put-block-reads
 use Rattle.std.proofs.num.wrapping_add_u32.Reads as wrapping-add-u32-reads
@@ -61,7 +61,7 @@ put-group-step-of-requires : (t : ℕ) → At put-group-lts.Need-step-of-require
 put-group-step-of-requires t c κs = search needs
 
 put-group-gap-requires : (t : ℕ) → At put-group-lts.Need-gap-requires t
-put-group-gap-requires t c κs = let a = c .before .before .before .before .args in group-entry (a .format) (now (a .s)) (a .k) (a .count) (a .channels) (a .class) (a .start) (a .size) (length (now (a .rows))) (c .before .before .before .before .pre .1) (c .before .if1 .left)
+put-group-gap-requires t c κs = search needs
 
 put-group-mul-skipped : (t : ℕ) → At put-group-lts.Need-mul-skipped t
 put-group-mul-skipped t c =

@@ -21,7 +21,7 @@ use Rattle.sender.proofs.packets.+put_payloads.{statement}
 use Rattle.sender.proofs.packets.+put_payloads.Tie.{close}
 
 abbrev μ-put-payloads : Measures 4 put-payloads-kinds.ps ℕ
-μ-put-payloads κs a = length (a .1 .0 .now)
+μ-put-payloads κs a = length (a .1 .1 .0 .now)
 
 abbrev put-payloads-at : ℕ → In 4 put-payloads-kinds.ps
 put-payloads-at t =
@@ -43,21 +43,21 @@ callees t = (put-list-reads.Asked, put-list-reads.Learnt, first-words-reads.Aske
 abbrev At : (put-payloads-lts.Claims → In 4 put-payloads-kinds.ps → Out 4 put-payloads-kinds.ps put-payloads-kinds.r → Type 0) → ℕ → Type 0
 At P t = P (callees t) (put-payloads-at t) put-payloads.Post
 
-first-at : (t : ℕ) (c : At put-payloads-lts.After-first-words t) → let a = c .before .before .before .before .before .before .args in ListRoom (a .asked) (now (a .bytes)) (take (c .first-words .result) (now (a .rows))) (length (now (a .out)))
-first-at t c = let a = c .before .before .before .before .before .before .args in room-first (a .asked) (now (a .bytes)) (now (a .counts)) (now (a .rows)) (length (now (a .out))) (c .before .before .before .before .before .before .pre .1) (c .before .if1 .left) (c .first-words .result) (c .first-words .ensures .0)
+first-at : (t : ℕ) (c : At put-payloads-lts.After-first-words t) → let a = c .before .before .before .before .before .before .args in ListRoom (a .asked) (a .mode-request) (now (a .bytes)) (take (c .first-words .result) (now (a .rows))) (length (now (a .out)))
+first-at t c = let a = c .before .before .before .before .before .before .args in room-first (a .asked) (a .mode-request) (now (a .bytes)) (now (a .counts)) (now (a .rows)) (length (now (a .out))) (c .before .before .before .before .before .before .pre .1) (c .before .if1 .left) (c .first-words .result) (c .first-words .ensures .0)
 
 -- the first payload's place
-size-at : (t : ℕ) (c : At put-payloads-lts.After-put-list2 t) → c .put-list2 .result ≤ length (c .put-list2 .last .1 .1 .1 .0)
-size-at t c = omega (arith, first-at t (c .before .before .before) .room, c .put-list2 .ensures .0, c .put-list2 .kept .1 .1 .1 .0)
+size-at : (t : ℕ) (c : At put-payloads-lts.After-put-list2 t) → c .put-list2 .result ≤ length (c .put-list2 .last .1 .1 .1 .1 .0)
+size-at t c = omega (arith, first-at t (c .before .before .before) .room, c .put-list2 .ensures .0, c .put-list2 .kept .1 .1 .1 .1 .0)
 
 put-payloads-put-list-requires : (t : ℕ) → At put-payloads-lts.Need-put-list-requires t
-put-payloads-put-list-requires t c κs = let a = c .before .before .before .before .before .before .args in room-one (a .asked) (now (a .bytes)) (now (a .counts)) (now (a .rows)) (length (now (a .out))) (c .before .before .before .before .before .before .pre .1) (c .before .if1 .taken)
+put-payloads-put-list-requires t c κs = let a = c .before .before .before .before .before .before .args in room-one (a .asked) (a .mode-request) (now (a .bytes)) (now (a .counts)) (now (a .rows)) (length (now (a .out))) (c .before .before .before .before .before .before .pre .1) (c .before .if1 .taken)
 
 put-payloads-same-length : (t : ℕ) → At put-payloads-lts.Need-same-length t
 put-payloads-same-length t c = search needs
 
 put-payloads-returns : (t : ℕ) → At put-payloads-lts.Need-returns t
-put-payloads-returns t c = let a = c .before .before .before .before .before .before .before .before .before .args in c .before .before .put-list .ensures .1 ∙ ap (λ (x : List ℕ). over x (now (a .out))) (sym (payloads-one (a .asked) (now (a .bytes)) (now (a .counts)) (now (a .rows)) (c .before .before .before .before .if1 .taken)))
+put-payloads-returns t c = let a = c .before .before .before .before .before .before .before .before .before .args in c .before .before .put-list .ensures .1 ∙ ap (λ (x : List ℕ). over x (now (a .out))) (sym (payloads-one (a .asked) (a .mode-request) (now (a .bytes)) (now (a .counts)) (now (a .rows)) (c .before .before .before .before .if1 .taken)))
 
 put-payloads-first-words-requires : (t : ℕ) → At put-payloads-lts.Need-first-words-requires t
 put-payloads-first-words-requires t c κs = search needs
@@ -101,8 +101,8 @@ put-payloads-part-put-payloads-end-3 t c = search needs
 put-payloads-put-payloads-requires : (t : ℕ) → At put-payloads-lts.Need-put-payloads-requires t
 put-payloads-put-payloads-requires t c κs = let a = c .before .before .before .before .before .before .before .before .before .before .before .before .before .before .args in (
   rw (part-to-end 1 (now (a .counts)), length-drop) (omega (arith, c .before .before .before .before .before .before .before .before .before .before .before .before .before .before .pre .0, c .before .before .before .before .before .before .before .before .before .if1 .left)),
-  rw (part-to-end 1 (now (a .counts)), part-to-end (c .before .before .before .before .before .before .before .before .first-words .result) (now (a .rows)), part-length (c .before .before .before .before .before .put-list2 .last .1 .1 .1 .0) (now (a .out)) (c .before .before .before .before .before .put-list2 .result) (c .before .before .before .before .before .put-list2 .kept .1 .1 .1 .0))
-      (room-rest (a .asked) (now (a .bytes)) (now (a .counts)) (now (a .rows)) (length (now (a .out))) (c .before .before .before .before .before .before .before .before .before .before .before .before .before .before .pre .1) (c .before .before .before .before .before .before .before .before .before .if1 .left) (c .before .before .before .before .before .before .before .before .first-words .result) (c .before .before .before .before .before .before .before .before .first-words .ensures .0) _ (c .before .before .before .before .before .put-list2 .ensures .0)),
+  rw (part-to-end 1 (now (a .counts)), part-to-end (c .before .before .before .before .before .before .before .before .first-words .result) (now (a .rows)), part-length (c .before .before .before .before .before .put-list2 .last .1 .1 .1 .1 .0) (now (a .out)) (c .before .before .before .before .before .put-list2 .result) (c .before .before .before .before .before .put-list2 .kept .1 .1 .1 .1 .0))
+      (room-rest (a .asked) (a .mode-request) (now (a .bytes)) (now (a .counts)) (now (a .rows)) (length (now (a .out))) (c .before .before .before .before .before .before .before .before .before .before .before .before .before .before .pre .1) (c .before .before .before .before .before .before .before .before .before .if1 .left) (c .before .before .before .before .before .before .before .before .first-words .result) (c .before .before .before .before .before .before .before .before .first-words .ensures .0) _ (c .before .before .before .before .before .put-list2 .ensures .0)),
 )
 
 put-payloads-same-length-2 : (t : ℕ) → At put-payloads-lts.Need-same-length-2 t
@@ -111,9 +111,9 @@ put-payloads-same-length-2 t c = search needs
 put-payloads-returns-2 : (t : ℕ) → At put-payloads-lts.Need-returns-2 t
 put-payloads-returns-2 t c = let a = c .before .before .before .before .before .before .before .before .before .before .before .before .before .before .before .before .before .args in
     let n = c .before .before .before .before .before .before .before .before .before .before .before .first-words .result in
-    over-part (listBytes (a .asked) (now (a .bytes)) (take n (now (a .rows)))) (listsPayloads (a .asked) (now (a .bytes)) (drop 1 (now (a .counts))) (drop n (now (a .rows)))) (now (a .out)) (c .before .before .before .before .before .before .before .before .put-list2 .last .1 .1 .1 .0) _ (c .before .before .before .before .before .before .before .before .put-list2 .result) (sym (c .before .before .before .before .before .before .before .before .put-list2 .ensures .0)) (c .before .before .before .before .before .before .before .before .put-list2 .ensures .1)
+    over-part (listBytes (a .asked) (a .mode-request) (now (a .bytes)) (take n (now (a .rows)))) (listsPayloads (a .asked) (a .mode-request) (now (a .bytes)) (drop 1 (now (a .counts))) (drop n (now (a .rows)))) (now (a .out)) (c .before .before .before .before .before .before .before .before .put-list2 .last .1 .1 .1 .1 .0) _ (c .before .before .before .before .before .before .before .before .put-list2 .result) (sym (c .before .before .before .before .before .before .before .before .put-list2 .ensures .0)) (c .before .before .before .before .before .before .before .before .put-list2 .ensures .1)
     (c .before .before .put-payloads .ensures ∙ rw (part-to-end 1 (now (a .counts)), part-to-end n (now (a .rows))))
-    ∙ ap (λ (x : List ℕ). over x (now (a .out))) (sym (payloads-split (a .asked) (now (a .bytes)) (now (a .counts)) (now (a .rows)) (length (now (a .out))) (c .before .before .before .before .before .before .before .before .before .before .before .before .before .before .before .before .before .pre .1) (c .before .before .before .before .before .before .before .before .before .before .before .before .if1 .left) n (c .before .before .before .before .before .before .before .before .before .before .before .first-words .ensures .0)))
+    ∙ ap (λ (x : List ℕ). over x (now (a .out))) (sym (payloads-split (a .asked) (a .mode-request) (now (a .bytes)) (now (a .counts)) (now (a .rows)) (length (now (a .out))) (c .before .before .before .before .before .before .before .before .before .before .before .before .before .before .before .before .before .pre .1) (c .before .before .before .before .before .before .before .before .before .before .before .before .if1 .left) n (c .before .before .before .before .before .before .before .before .before .before .before .first-words .ensures .0)))
 
 pub +put-payloads-spec : {M : Type 1} → statement M
 +put-payloads-spec = close μ-put-payloads λ t. put-payloads-lts.spec (callees t)

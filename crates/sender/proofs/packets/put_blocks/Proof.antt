@@ -36,7 +36,7 @@ same-length c = search needs
 
 returns : tie.Need-returns
 returns c = let a = c .before .before .before .before .before .before .before .before .before .before .before .before .args in
-    over-part (listsHeaders (a .asked) (a .time) (now (a .counts)) (now (a .rows))) (listsPayloads (a .asked) (now (a .bytes)) (now (a .counts)) (now (a .rows))) (now (a .out)) (c .before .before .before .before .before .before .put-headers .last .1 .1 .1 .1 .0) _
+    over-part (listsHeaders (a .asked) (a .time) (now (a .counts)) (now (a .rows))) (listsPayloads (a .asked) (a .mode-request) (now (a .bytes)) (now (a .counts)) (now (a .rows))) (now (a .out)) (c .before .before .before .before .before .before .put-headers .last .1 .1 .1 .1 .0) _
     (listHeadersSize (length (now (a .counts)))) (length-headers (a .asked) (a .time) (now (a .counts)) (now (a .rows))) (c .before .before .before .before .before .before .put-headers .ensures) (c .before .before .put-payloads .ensures)
 
 pub put-blocks-spec : {M : Type 1} → statement M

@@ -12,6 +12,7 @@ use Rattle.sender.specs.Parts.{parts}
 use Rattle.sender.specs.Packets.{Heading, headerBytes, assembledFrom}
 use Rattle.sender.specs.Room.{listsHeaders, listsPayloads}
 use Rattle.rtp.proofs.RangeLaws.{ranged}
+use Rattle.encoder.proofs.RequestLaws.{asked}
 use Rattle.sender.proofs.SendingLaws.{Plain, plain-packet, Redundant, redundant-packet}
 use borrow.Author.Needs.{needs}
 use Rattle.sender.proofs.packets.put_packet.Statement.{statement}
@@ -20,14 +21,14 @@ use Rattle.sender.proofs.packets.put_packet.Tie as tie
 abbrev heading : tie.Start → Heading
 heading c = record { marker = c .args .marker; sequence = c .args .sequence; source = c .args .source }
 
-plain-at : (c : tie.Then1) → let a = c .before .before .before .before .before .args in Plain (a .asked) (heading (c .before .before .before .before .before)) (a .time) (now (a .bytes)) (now (a .counts)) (now (a .rows)) (length (now (a .out))) (assembledFrom (a .asked) (heading (c .before .before .before .before .before)) (a .time) (parts (a .asked) (now (a .bytes)) (a .time) (now (a .counts)) (rowsIn (now (a .rows)))))
-plain-at c = let a = c .before .before .before .before .before .args in plain-packet (a .asked) (heading (c .before .before .before .before .before)) (a .time) (now (a .bytes)) (now (a .counts)) (now (a .rows)) (length (now (a .out))) (c .before .before .before .before .before .pre) (c .if1 .taken)
+plain-at : (c : tie.Then1) → let a = c .before .before .before .before .before .args in Plain (a .asked) (a .mode-request) (heading (c .before .before .before .before .before)) (a .time) (now (a .bytes)) (now (a .counts)) (now (a .rows)) (length (now (a .out))) (assembledFrom (a .asked) (heading (c .before .before .before .before .before)) (a .time) (parts (a .asked) (a .mode-request) (now (a .bytes)) (a .time) (now (a .counts)) (rowsIn (now (a .rows)))))
+plain-at c = let a = c .before .before .before .before .before .args in plain-packet (a .asked) (a .mode-request) (heading (c .before .before .before .before .before)) (a .time) (now (a .bytes)) (now (a .counts)) (now (a .rows)) (length (now (a .out))) (c .before .before .before .before .before .pre) (c .if1 .taken)
 
-redundant-at : (c : tie.Else1) → let a = c .before .before .before .before .before .args in Redundant (a .asked) (heading (c .before .before .before .before .before)) (a .time) (now (a .bytes)) (now (a .counts)) (now (a .rows)) (length (now (a .out))) (assembledFrom (a .asked) (heading (c .before .before .before .before .before)) (a .time) (parts (a .asked) (now (a .bytes)) (a .time) (now (a .counts)) (rowsIn (now (a .rows)))))
-redundant-at c = let a = c .before .before .before .before .before .args in redundant-packet (a .asked) (heading (c .before .before .before .before .before)) (a .time) (now (a .bytes)) (now (a .counts)) (now (a .rows)) (length (now (a .out))) (c .before .before .before .before .before .pre) (c .if1 .left)
+redundant-at : (c : tie.Else1) → let a = c .before .before .before .before .before .args in Redundant (a .asked) (a .mode-request) (heading (c .before .before .before .before .before)) (a .time) (now (a .bytes)) (now (a .counts)) (now (a .rows)) (length (now (a .out))) (assembledFrom (a .asked) (heading (c .before .before .before .before .before)) (a .time) (parts (a .asked) (a .mode-request) (now (a .bytes)) (a .time) (now (a .counts)) (rowsIn (now (a .rows)))))
+redundant-at c = let a = c .before .before .before .before .before .args in redundant-packet (a .asked) (a .mode-request) (heading (c .before .before .before .before .before)) (a .time) (now (a .bytes)) (now (a .counts)) (now (a .rows)) (length (now (a .out))) (c .before .before .before .before .before .pre) (c .if1 .left)
 
 put-header-requires : tie.Need-put-header-requires
-put-header-requires c κs = (plain-at (c .before) .room, ranged (c .before .before .before .before .before .before .args .asked) (c .before .before .before .before .before .before .pre .settings) .plain)
+put-header-requires c κs = let a = c .before .before .before .before .before .before .args in (plain-at (c .before) .room, ranged (a .asked) (asked (a .asked) (a .mode-request) (c .before .before .before .before .before .before .pre .settings) .settings) .plain)
 
 sub-put-payloads : tie.Need-sub-put-payloads
 sub-put-payloads c = omega (arith, plain-at (c .before .before .before .before) .room, c .before .before .put-header .kept .0)
@@ -46,7 +47,7 @@ same-length c = search needs
 
 returns : tie.Need-returns
 returns c = let a = c .before .before .before .before .before .before .before .before .before .before .before .before .before .args in
-    over-part (headerBytes (heading (c .before .before .before .before .before .before .before .before .before .before .before .before .before)) (a .asked .«payload_type») (a .time)) (listsPayloads (a .asked) (now (a .bytes)) (now (a .counts)) (now (a .rows))) (now (a .out)) (c .before .before .before .before .before .before .put-header .last .0) _ minPacket refl (c .before .before .before .before .before .before .put-header .ensures) (c .before .before .put-payloads .ensures)
+    over-part (headerBytes (heading (c .before .before .before .before .before .before .before .before .before .before .before .before .before)) (a .asked .«payload_type») (a .time)) (listsPayloads (a .asked) (a .mode-request) (now (a .bytes)) (now (a .counts)) (now (a .rows))) (now (a .out)) (c .before .before .before .before .before .before .put-header .last .0) _ minPacket refl (c .before .before .before .before .before .before .put-header .ensures) (c .before .before .put-payloads .ensures)
     ∙ ap (λ (x : List ℕ). over x (now (a .out))) (sym (plain-at (c .before .before .before .before .before .before .before .before) .packet))
 
 put-header-requires-2 : tie.Need-put-header-requires-2
@@ -69,7 +70,7 @@ same-length-2 c = search needs
 
 returns-2 : tie.Need-returns-2
 returns-2 c = let a = c .before .before .before .before .before .before .before .before .before .before .before .before .before .args in
-    over-part (headerBytes (heading (c .before .before .before .before .before .before .before .before .before .before .before .before .before)) (a .asked .«redundancy_type») (a .time)) (listsHeaders (a .asked) (a .time) (now (a .counts)) (now (a .rows)) ++ listsPayloads (a .asked) (now (a .bytes)) (now (a .counts)) (now (a .rows))) (now (a .out)) (c .before .before .before .before .before .before .put-header2 .last .0) _ minPacket refl (c .before .before .before .before .before .before .put-header2 .ensures) (c .before .before .put-blocks .ensures)
+    over-part (headerBytes (heading (c .before .before .before .before .before .before .before .before .before .before .before .before .before)) (a .asked .«redundancy_type») (a .time)) (listsHeaders (a .asked) (a .time) (now (a .counts)) (now (a .rows)) ++ listsPayloads (a .asked) (a .mode-request) (now (a .bytes)) (now (a .counts)) (now (a .rows))) (now (a .out)) (c .before .before .before .before .before .before .put-header2 .last .0) _ minPacket refl (c .before .before .before .before .before .before .put-header2 .ensures) (c .before .before .put-blocks .ensures)
     ∙ ap (λ (x : List ℕ). over x (now (a .out))) (sym (redundant-at (c .before .before .before .before .before .before .before .before) .packet))
 
 pub put-packet-spec : {M : Type 1} → statement M

@@ -1,0 +1,2 @@
+// Tables of contents: entries and tables, over the formats.
+pub mod entries;

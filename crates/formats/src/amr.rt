@@ -1,0 +1,301 @@
+// Frame tables of AMR and AMR-WB (RFC 4867), by frame type and by length.
+use crate::codes::NO_CODE;
+use crate::frames::DAMAGED;
+ghost use mathlib.Core.Path.{_≡_};
+ghost use Prim.Native.Nat.{_<_, _≤_};
+ghost use Rattle.formats.specs.declared.facts.FrameTable.{FrameTable};
+ghost use Rattle.formats.specs.Formats.{amrFormat, amrWbFormat};
+ghost use Rattle.formats.specs.Frames.{goodClass, amrLength, amrWbLength};
+ghost use lib.Dec.{ltb};
+ghost use Rattle.formats.specs.Codes.{noCode, amrLongest, amrWbLongest, typeFor, gradedCode, highestCode, lengthBits, hasLength};
+
+// The types that are SIDs.
+pub(crate) const AMR_SID: usize = 8;
+
+pub(crate) const AMR_WB_SID: usize = 9;
+
+// AMR frame lengths in bytes by type.
+const AMR_LENGTHS: [usize; 16] = [
+    12,
+    13,
+    15,
+    17,
+    19,
+    20,
+    26,
+    31,
+    5, // 8, a SID
+    65535, // 9 to 14, reserved
+    65535,
+    65535,
+    65535,
+    65535,
+    65535,
+    0, // 15, no data
+];
+
+// .. of AMR-WB.
+const AMR_WB_LENGTHS: [usize; 16] = [
+    17,
+    23,
+    32,
+    36,
+    40,
+    46,
+    50,
+    58,
+    60,
+    5, // 9, a SID
+    65535, // 10 to 13, reserved
+    65535,
+    65535,
+    65535,
+    0, // 14 and 15, no data
+    0,
+];
+
+pub(crate) fn amr_length(kind: usize) -> usize
+    requires { ⌜ kind < 16 ⌝ }
+    ensures { λ r. ⌜ r ≡ amrLength kind ⌝ }
+{
+    AMR_LENGTHS[kind]
+}
+
+pub(crate) fn amr_wb_length(kind: usize) -> usize
+    requires { ⌜ kind < 16 ⌝ }
+    ensures { λ r. ⌜ r ≡ amrWbLength kind ⌝ }
+{
+    AMR_WB_LENGTHS[kind]
+}
+
+// The bytes of the longest frames.
+const AMR_LONGEST: u32 = 31;
+
+const AMR_WB_LONGEST: u32 = 60;
+
+// No type: a length that the format has not. And the highest type that is no data.
+const NO_TYPE: u8 = 16;
+
+const NO_DATA_TYPE: u8 = 15;
+
+// The highest type of each length, 16 where there is none.
+const AMR_TYPES: [u8; 32] = [
+    15,
+    16,
+    16,
+    16,
+    16,
+    8,
+    16,
+    16,
+    16,
+    16,
+    16,
+    16,
+    0,
+    1,
+    16,
+    2,
+    16,
+    3,
+    16,
+    4,
+    5,
+    16,
+    16,
+    16,
+    16,
+    16,
+    6,
+    16,
+    16,
+    16,
+    16,
+    7,
+];
+
+const AMR_WB_TYPES: [u8; 61] = [
+    15,
+    16,
+    16,
+    16,
+    16,
+    9,
+    16,
+    16,
+    16,
+    16,
+    16,
+    16,
+    16,
+    16,
+    16,
+    16,
+    16,
+    0,
+    16,
+    16,
+    16,
+    16,
+    16,
+    1,
+    16,
+    16,
+    16,
+    16,
+    16,
+    16,
+    16,
+    16,
+    2,
+    16,
+    16,
+    16,
+    3,
+    16,
+    16,
+    16,
+    4,
+    16,
+    16,
+    16,
+    16,
+    16,
+    5,
+    16,
+    16,
+    16,
+    6,
+    16,
+    16,
+    16,
+    16,
+    16,
+    16,
+    16,
+    7,
+    16,
+    8,
+];
+
+fn amr_type(n: usize) -> u8
+    requires { ⌜ n ≤ amrLongest ⌝ }
+    ensures { λ r. ⌜ r ≡ typeFor FrameTable.Amr n ⌝ }
+{
+    AMR_TYPES[n]
+}
+
+fn amr_wb_type(n: usize) -> u8
+    requires { ⌜ n ≤ amrWbLongest ⌝ }
+    ensures { λ r. ⌜ r ≡ typeFor FrameTable.AmrWb n ⌝ }
+{
+    AMR_WB_TYPES[n]
+}
+
+// The class of a good frame of a type that has bytes, where `sid` is the type that is a SID.
+fn good_class(sid: u8, kind: u8) -> u32
+    ensures { λ r. ⌜ r ≡ goodClass sid kind ⌝ }
+{
+    if kind == sid {
+        return 2;
+    }
+    1
+}
+
+// The code of a frame type and a class: the type above the quality bit, which no data has set.
+fn graded_code(sid: u8, kind: u8, class: u32) -> u32
+    ensures { λ r. ⌜ r ≡ gradedCode sid kind class ⌝ }
+{
+    if kind == NO_TYPE {
+        return NO_CODE;
+    }
+    if kind == NO_DATA_TYPE {
+        if class == 0 {
+            return 31;
+        }
+        return NO_CODE;
+    }
+    let good = good_class(sid, kind);
+    if class == good {
+        return 2 * (kind as u32) + 1;
+    }
+    if class == good + (DAMAGED as u32) {
+        return 2 * (kind as u32);
+    }
+    NO_CODE
+}
+
+// The code of a class and a length, which is that of one type at most.
+pub(crate) fn amr_code(class: u32, n: u32) -> u32
+    ensures { λ r. ⌜ r ≡ highestCode amrFormat class n ⌝ }
+{
+    if n <= AMR_LONGEST {
+        return graded_code(AMR_SID as u8, amr_type(n as usize), class);
+    }
+    NO_CODE
+}
+
+pub(crate) fn amr_wb_code(class: u32, n: u32) -> u32
+    ensures { λ r. ⌜ r ≡ highestCode amrWbFormat class n ⌝ }
+{
+    if n <= AMR_WB_LONGEST {
+        return graded_code(AMR_WB_SID as u8, amr_wb_type(n as usize), class);
+    }
+    NO_CODE
+}
+
+// The lengths of a class as the bits of a word, so that a frame is asked for without a table.
+
+// .. of sound.
+const AMR_SOUND: u64 = 0x841ab000;
+
+const AMR_WB_SOUND: u64 = 0x1404411100820000;
+
+// .. of no data and of a SID.
+const NO_DATA_BITS: u64 = 1;
+
+const SID_BITS: u64 = 32;
+
+fn length_bits(sounds: u64, class: u32) -> u64
+    ensures { λ r. ⌜ r ≡ lengthBits sounds class ⌝ }
+{
+    if class == 0 {
+        return NO_DATA_BITS;
+    }
+    if class == 1 {
+        return sounds;
+    }
+    if class == 5 {
+        return sounds;
+    }
+    if class == 2 {
+        return SID_BITS;
+    }
+    if class == 6 {
+        return SID_BITS;
+    }
+    0
+}
+
+fn has_length(sounds: u64, class: u32, n: u32) -> bool
+    ensures { λ r. ⌜ r ≡ hasLength sounds class n ⌝ }
+{
+    if n < 64 {
+        let shifted = length_bits(sounds, class) >> n;
+        return shifted % 2 == 1;
+    }
+    false
+}
+
+// Whether a class and a length have a code.
+pub(crate) fn has_amr(class: u32, n: u32) -> bool
+    ensures { λ r. ⌜ r ≡ ltb (highestCode amrFormat class n) noCode ⌝ }
+{
+    has_length(AMR_SOUND, class, n)
+}
+
+pub(crate) fn has_amr_wb(class: u32, n: u32) -> bool
+    ensures { λ r. ⌜ r ≡ ltb (highestCode amrWbFormat class n) noCode ⌝ }
+{
+    has_length(AMR_WB_SOUND, class, n)
+}
