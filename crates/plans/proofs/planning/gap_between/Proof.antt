@@ -1,0 +1,17 @@
+use Rattle.plans.specs.Plans.{gapBetween}
+use borrow.Author.Needs.{needs}
+use Rattle.plans.proofs.planning.gap_between.Statement.{statement}
+use Rattle.plans.proofs.planning.gap_between.Tie as tie
+
+ticks-after-requires : tie.Need-ticks-after-requires
+ticks-after-requires c κs = search needs
+
+in-steps-requires : tie.Need-in-steps-requires
+in-steps-requires c κs = search needs
+
+returns : tie.Need-returns
+unfolding gapBetween
+returns c = simp (← (c .before .ticks-after .ensures), ← (c .in-steps .ensures))
+
+pub gap-between-spec : {M : Type 1} → statement M
+gap-between-spec = tie.close (tie.spec ticks-after-requires in-steps-requires returns)
