@@ -1,4 +1,4 @@
--- Plans as the code holds them, and what the functions that plan ask of one another inside this crate.
+-- Rows and plans as the code holds them, and what the functions that plan ask of one another inside this crate.
 use Prim.Native.Nat.{ℕ, _+_, _-_, _*_, _≤_, _<_}
 use mathlib.Core.List.{List, [], _∷_}
 use mathlib.Core.Bool.{cond}
@@ -15,7 +15,7 @@ use Rattle.plans.specs.declared.planning.ListPlan.{ListPlan}
 use Rattle.plans.specs.Lists.{rowOf}
 use Rattle.plans.specs.Plans.{headGap, joinsRun, payloadSize}
 
--- the words of the row at a word of the area
+-- the words of the row at a word of the area, with 0 for one past the end
 abbrev pub wordsAt : List ℕ → ℕ → RowWords
 wordsAt ws at = record { time = getD ws at 0; tag = getD ws (at + 1) 0; start = getD ws (at + 2) 0; length = getD ws (at + 3) 0 }
 
@@ -85,7 +85,7 @@ pub record Attachable (format ch : ℕ) (r : Row) (rest : Planned) : Type 0 wher
   pub short : r .length ≤ maxFrame
   pub small : Small format ch maxRows rest
 
--- the plan of a whole list by its sizes
+-- the plan of a whole list by the bytes of its table and of the payload
 unfoldable pub listAnswer : ℕ → ℕ → Contents → ListPlan
 listAnswer format ch (refused q) = ListPlan.Unwritable
 listAnswer format ch (groups gs) = ListPlan.Fits (record { table = sizeIn format gs; payload = payloadSize format ch gs })

@@ -21,7 +21,7 @@ fn word_at(rows: &[u32], at: usize) -> u32
     if at < rows.len() { rows[at] } else { 0 }
 }
 
-// The words of the area's first row, each that it has not 0.
+// The words of the area's first row, with 0 for one past the end.
 pub fn first_row(rows: &[u32]) -> RowWords
     ensures { λ r. ⌜ r ≡ wordsAt (now (rows .entry)) 0 ⌝ }
 {
