@@ -5,7 +5,7 @@ use mathlib.Core.Bool.{cond}
 use lib.ListN.{length, getD}
 use lib.Dec.{leb}
 use Rattle.rtp.specs.Sizes.{maxRows, maxFrame}
-use Rattle.contents.specs.Contents.{Group, Contents, refused, groups, entrySize, sizeIn, framesIn}
+use Rattle.contents.specs.Contents.{Contents, refused, groups, entrySize, sizeIn, framesIn}
 use Rattle.formats.specs.Formats.{maxGap}
 use Rattle.payload.specs.Rows.{Row}
 use Rattle.plans.specs.declared.lists.RowWords.{RowWords}
