@@ -1,10 +1,10 @@
 // Frames judged against the buffer.
-use crate::columns;
-use crate::columns::Place;
 use crate::laying;
 use crate::laying::FrameHead;
 use crate::tally;
 use crate::tally::Tally;
+use entries::columns;
+use entries::columns::Place;
 use formats::tagging;
 use layout::bits;
 use layout::buffer::Fixed;
