@@ -12,10 +12,10 @@ use Rattle.playout.specs.Entries.{Entry, frameOf}
 use Rattle.layout.specs.declared.buffer.Buffer.{Buffer}
 use Rattle.layout.specs.Bits.{wordsOf, unmarked}
 use Rattle.layout.specs.Columns.{removeFirst}
-use Rattle.entries.specs.Bounds.{removal}
+use Rattle.placing.specs.Bounds.{removal}
 use Rattle.layout.specs.Layout.{entryTag, column, entryAt, entriesFrom, decode}
 use Rattle.drawing.specs.Drawable.{Drawable}
-use Rattle.entries.proofs.BoundLaws.{removal-is}
+use Rattle.placing.proofs.BoundLaws.{removal-is}
 use Rattle.drawing.proofs.CallLaws.{drawFirst}
 use Rattle.layout.proofs.WordLaws.{slotOf, slotsOf, words-first}
 use Rattle.layout.proofs.LayoutLaws.{column-rest, words-remove}

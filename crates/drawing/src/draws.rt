@@ -1,6 +1,4 @@
 // The third call on a reorder buffer: draw.
-use entries::areas;
-use entries::columns;
 use formats::tagging;
 use layout::bits;
 use layout::buffer::Buffer;
@@ -8,6 +6,8 @@ use layout::buffer::Fixed;
 use layout::buffer::SLOT_SIZE;
 use layout::buffer::STORE_SIZE;
 use layout::well_formed;
+use placing::areas;
+use placing::columns;
 use rtp::refusal::Refusal;
 use rtp::settings;
 ghost use mathlib.Core.Path.{_≡_};

@@ -1,10 +1,10 @@
 // Frames laid into the columns and the store.
-use entries::areas;
-use entries::columns;
 use formats::tagging;
 use layout::bits;
 use layout::buffer::SLOT_SIZE;
 use layout::buffer::SLOTS;
+use placing::areas;
+use placing::columns;
 use playout::compare;
 use playout::verdict::Verdict;
 ghost use mathlib.Core.Path.{_≡_};

@@ -8,7 +8,7 @@ use denote.Ref.{now}
 use Rattle.playout.specs.Sizes.{slots, slotSize}
 use Rattle.layout.proofs.FreeLaws.{released-marked}
 use Rattle.drawing.proofs.DrawLaws.{first-slot, first-short, first-marked, left}
-use Rattle.entries.proofs.BoundLaws.{laid-is}
+use Rattle.placing.proofs.BoundLaws.{laid-is}
 use borrow.Author.Needs.{needs}
 use Rattle.drawing.proofs.draws.draw_first.Statement.{statement}
 use Rattle.drawing.proofs.draws.draw_first.Tie as tie

@@ -3,7 +3,7 @@ use mathlib.Core.Bool.{not}
 use borrow.Author.Tests.{eq-eqb, ne-eqb}
 use denote.Ref.{now}
 use Rattle.layout.specs.Columns.{fitsFrom}
-use Rattle.entries.proofs.BoundLaws.{used-is}
+use Rattle.placing.proofs.BoundLaws.{used-is}
 use borrow.Author.Needs.{needs}
 use Rattle.reorder.proofs.judging.is_far.Statement.{statement}
 use Rattle.reorder.proofs.judging.is_far.Tie as tie

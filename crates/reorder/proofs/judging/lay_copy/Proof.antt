@@ -6,12 +6,12 @@ use lib.ListN.{length}
 use denote.Ref.{now}
 use Rattle.playout.specs.Sizes.{slotSize}
 use Rattle.layout.specs.declared.buffer.Buffer.{Buffer}
-use Rattle.entries.specs.declared.columns.Place.{Place}
-use Rattle.entries.specs.Places.{Parted, placeFrom}
+use Rattle.placing.specs.declared.columns.Place.{Place}
+use Rattle.placing.specs.Places.{Parted, placeFrom}
 use Rattle.layout.specs.Layout.{assembled}
 use Rattle.reorder.specs.Laying.{classIn, channelIn}
 use Rattle.layout.proofs.AllowedLaws.{allowed-frame}
-use Rattle.entries.proofs.BoundLaws.{used-is}
+use Rattle.placing.proofs.BoundLaws.{used-is}
 use Rattle.reorder.proofs.VerdictLaws.{held-at, step-found, place-in, step-full, step-new}
 use Rattle.reorder.proofs.PlaceSearchLaws.{parts}
 use borrow.Author.Needs.{needs}

@@ -8,7 +8,7 @@ use Rattle.playout.specs.Sizes.{slots, slotSize}
 use Rattle.layout.specs.Bits.{lowestFree, claimed}
 use Rattle.layout.specs.Columns.{insertAt}
 use Rattle.layout.proofs.FreeLaws.{free-when-room, free-unmarked, claimed-free}
-use Rattle.entries.proofs.BoundLaws.{insertion-is, laid-is}
+use Rattle.placing.proofs.BoundLaws.{insertion-is, laid-is}
 use borrow.Author.Needs.{needs}
 use Rattle.reorder.proofs.laying.insert_copy.Statement.{statement}
 use Rattle.reorder.proofs.laying.insert_copy.Tie as tie

@@ -10,7 +10,7 @@ use native.Mathlib.Omega.{arith}
 use denote.Ref.{now}
 use Rattle.playout.specs.Sizes.{slotSize}
 use Rattle.reorder.specs.Laying.{classIn, beats}
-use Rattle.entries.proofs.BoundLaws.{laid-is}
+use Rattle.placing.proofs.BoundLaws.{laid-is}
 use borrow.Author.Needs.{needs}
 use Rattle.reorder.proofs.laying.replace_copy.Statement.{statement}
 use Rattle.reorder.proofs.laying.replace_copy.Tie as tie

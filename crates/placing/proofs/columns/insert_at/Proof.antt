@@ -4,11 +4,11 @@ use lib.ListN.{length, length-set}
 use Rattle.playout.specs.Sizes.{slots}
 use Rattle.layout.specs.Columns.{insertAt}
 use Rattle.layout.proofs.ColumnLaws.{inserting, insert-start, insert-more, insert-end}
-use Rattle.entries.proofs.BoundLaws.{insertion-is, insertion-past, insertion-full}
+use Rattle.placing.proofs.BoundLaws.{insertion-is, insertion-past, insertion-full}
 use borrow.Author.Needs.{needs}
 use native.Mathlib.Omega.{arith}
-use Rattle.entries.proofs.columns.insert_at.Statement.{statement}
-use Rattle.entries.proofs.columns.insert_at.Tie as tie
+use Rattle.placing.proofs.columns.insert_at.Statement.{statement}
+use Rattle.placing.proofs.columns.insert_at.Tie as tie
 
 abbrev Inv-loop : tie.InvT-loop
 Inv-loop n at value values₀ carry₀ i₀ values carry i = (i ≤ n + 1) × (inserting values (n + 1) (n + 1 - i) i carry ≡ insertAt values₀ n at value) × (length values ≡ slots)

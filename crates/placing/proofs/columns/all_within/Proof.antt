@@ -8,8 +8,8 @@ use Rattle.layout.specs.Columns.{withinFrom}
 use Rattle.layout.proofs.ColumnLaws.{within-end, within-step}
 use borrow.Author.Needs.{needs}
 use native.Mathlib.Omega.{arith}
-use Rattle.entries.proofs.columns.all_within.Statement.{statement}
-use Rattle.entries.proofs.columns.all_within.Tie as tie
+use Rattle.placing.proofs.columns.all_within.Statement.{statement}
+use Rattle.placing.proofs.columns.all_within.Tie as tie
 
 abbrev Inv-loop : tie.InvT-loop
 Inv-loop times n time i₀ i = (i ≤ n) × (withinFrom times time (n - i) i ≡ withinFrom times time n 0)

@@ -8,8 +8,8 @@ use lib.ListN.{getD}
 use Rattle.formats.specs.Tags.{tagChannel}
 use Rattle.playout.specs.Pairs.{order, sideOf}
 use Rattle.playout.specs.declared.order.Side.{Side}
-use Rattle.entries.specs.declared.columns.Place.{Place}
-use Rattle.entries.specs.declared.columns.Search.{Search}
+use Rattle.placing.specs.declared.columns.Place.{Place}
+use Rattle.placing.specs.declared.columns.Search.{Search}
 
 -- where the pair (t, c) is held or belongs among k entries from the i-th on: at the first that is not before it
 abbrev pub placeAt : Side → ℕ → Place → Place

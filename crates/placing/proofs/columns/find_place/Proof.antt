@@ -7,14 +7,14 @@ use Rattle.playout.specs.Pairs.{order, sideOf}
 use native.Mathlib.Nat.{sub-zero}
 use native.Mathlib.Omega.{arith}
 use Rattle.playout.specs.declared.order.Side.{Side}
-use Rattle.entries.specs.Bounds.{used}
-use Rattle.entries.specs.Places.{middle, halve, halving}
-use Rattle.entries.proofs.BoundLaws.{used-few}
-use Rattle.entries.proofs.SearchLaws.{from, left, left-none, turn, turn-is, answers}
+use Rattle.placing.specs.Bounds.{used}
+use Rattle.placing.specs.Places.{middle, halve, halving}
+use Rattle.placing.proofs.BoundLaws.{used-few}
+use Rattle.placing.proofs.SearchLaws.{from, left, left-none, turn, turn-is, answers}
 use Rattle.playout.proofs.SideLaws.{side-is}
 use borrow.Author.Needs.{needs}
-use Rattle.entries.proofs.columns.find_place.Statement.{statement}
-use Rattle.entries.proofs.columns.find_place.Tie as tie
+use Rattle.placing.proofs.columns.find_place.Statement.{statement}
+use Rattle.placing.proofs.columns.find_place.Tie as tie
 
 abbrev Inv-loop : tie.InvT-loop
 Inv-loop times tags n time channel low₀ high₀ compared₀ low high compared =

@@ -1,6 +1,6 @@
 use borrow.Author.Tests.{lt-ltb, le-ltb}
-use Rattle.entries.proofs.columns.used.Statement.{statement}
-use Rattle.entries.proofs.columns.used.Tie as tie
+use Rattle.placing.proofs.columns.used.Statement.{statement}
+use Rattle.placing.proofs.columns.used.Tie as tie
 
 returns : tie.Need-returns
 returns c = rw (lt-ltb _ _ (c .if1 .taken))

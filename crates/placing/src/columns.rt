@@ -7,8 +7,8 @@ ghost use mathlib.Core.Path.{_≡_};
 ghost use Prim.Native.Nat.{_≤_};
 ghost use Rattle.playout.specs.Sizes.{slots};
 ghost use Rattle.layout.specs.Columns.{fitsFrom, withinFrom};
-ghost use Rattle.entries.specs.Bounds.{used as usedOf, insertion, removal};
-ghost use Rattle.entries.specs.Places.{placeFrom, Parted, halving, mostCompared};
+ghost use Rattle.placing.specs.Bounds.{used as usedOf, insertion, removal};
+ghost use Rattle.placing.specs.Places.{placeFrom, Parted, halving, mostCompared};
 
 // Where a pair is held, or belongs.
 pub enum Place {

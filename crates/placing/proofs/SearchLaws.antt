@@ -14,9 +14,9 @@ use Rattle.formats.specs.Tags.{tagChannel}
 use Rattle.playout.specs.Sizes.{slots}
 use Rattle.playout.specs.Pairs.{order, sideOf}
 use Rattle.playout.specs.declared.order.Side.{Side}
-use Rattle.entries.specs.declared.columns.Place.{Place}
-use Rattle.entries.specs.declared.columns.Search.{Search}
-use Rattle.entries.specs.Places.{placeAt, placeFrom, Parted, middle, halfAt, halve, halving, mostCompared}
+use Rattle.placing.specs.declared.columns.Place.{Place}
+use Rattle.placing.specs.declared.columns.Search.{Search}
+use Rattle.placing.specs.Places.{placeAt, placeFrom, Parted, middle, halfAt, halve, halving, mostCompared}
 
 eq≢lt : Ordering·eq ≡ Ordering·lt → ⊥
 eq≢lt q = let z : _≡_ {A = ℕ} 0 1 = cc in omega arith

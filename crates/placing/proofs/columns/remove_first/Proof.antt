@@ -4,11 +4,11 @@ use lib.ListN.{length, length-set}
 use Rattle.playout.specs.Sizes.{slots}
 use Rattle.layout.specs.Columns.{removeFirst}
 use Rattle.layout.proofs.ColumnLaws.{removing, remove-start, remove-more, remove-end}
-use Rattle.entries.proofs.BoundLaws.{removal-is, removal-none, removal-past}
+use Rattle.placing.proofs.BoundLaws.{removal-is, removal-none, removal-past}
 use borrow.Author.Needs.{needs}
 use native.Mathlib.Omega.{arith}
-use Rattle.entries.proofs.columns.remove_first.Statement.{statement}
-use Rattle.entries.proofs.columns.remove_first.Tie as tie
+use Rattle.placing.proofs.columns.remove_first.Statement.{statement}
+use Rattle.placing.proofs.columns.remove_first.Tie as tie
 
 abbrev Inv-loop : tie.InvT-loop
 Inv-loop n values₀ i₀ values i = (1 ≤ i) × (i ≤ n) × (removing values n (n - i) (i - 1) ≡ removeFirst values₀ n) × (length values ≡ slots)

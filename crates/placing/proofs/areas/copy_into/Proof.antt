@@ -7,9 +7,9 @@ use native.Mathlib.Omega.{arith}
 use lib.ListN.{length, getD, set, length-set}
 use lib.Seq.{paste, paste-zero, paste-suc}
 use denote.Ref.{now}
-use Rattle.entries.proofs.BoundLaws.{laid-is, laid-past}
-use Rattle.entries.proofs.areas.copy_into.Statement.{statement}
-use Rattle.entries.proofs.areas.copy_into.Tie as tie
+use Rattle.placing.proofs.BoundLaws.{laid-is, laid-past}
+use Rattle.placing.proofs.areas.copy_into.Statement.{statement}
+use Rattle.placing.proofs.areas.copy_into.Tie as tie
 
 abbrev Inv-loop : tie.InvT-loop
 Inv-loop area₀ at src i₀ area i = (i ≤ length src) × (area ≡ paste area₀ at src i) × (length area ≡ length area₀)

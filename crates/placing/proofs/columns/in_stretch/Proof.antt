@@ -1,9 +1,9 @@
 use borrow.Author.Tests.{eq-eqb, ne-eqb, lt-ltb, le-ltb}
 use Rattle.layout.specs.Columns.{fitsFrom}
-use Rattle.entries.proofs.BoundLaws.{used-few}
+use Rattle.placing.proofs.BoundLaws.{used-few}
 use borrow.Author.Needs.{needs}
-use Rattle.entries.proofs.columns.in_stretch.Statement.{statement}
-use Rattle.entries.proofs.columns.in_stretch.Tie as tie
+use Rattle.placing.proofs.columns.in_stretch.Statement.{statement}
+use Rattle.placing.proofs.columns.in_stretch.Tie as tie
 
 used-requires : tie.Need-used-requires
 used-requires c κs = search needs

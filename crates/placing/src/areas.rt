@@ -1,6 +1,6 @@
 // Bytes laid into areas.
 ghost use mathlib.Core.Path.{_≡_};
-ghost use Rattle.entries.specs.Bounds.{laid};
+ghost use Rattle.placing.specs.Bounds.{laid};
 
 // Bytes laid into an area at a place; where they do not fit, the area stays as it stood.
 pub fn copy_into(area: &mut [u8], at: usize, src: &[u8])

@@ -10,7 +10,7 @@ use borrow.Author.Tests.{lt-ltb, le-ltb, ltb-true, ltb-false}
 use Rattle.rtp.proofs.TestLaws.{by-test}
 use Rattle.playout.specs.Sizes.{slots}
 use Rattle.layout.specs.Columns.{insertAt, removeFirst}
-use Rattle.entries.specs.Bounds.{used, insertion, removal, laid}
+use Rattle.placing.specs.Bounds.{used, insertion, removal, laid}
 
 pub used-few : (n : ℕ) → used n ≤ slots
 used-few n = by-test (ltb n slots) (λ e. rw e (omega (arith, ltb-true n slots e))) (λ e. rw e (omega arith))
