@@ -6,6 +6,7 @@ use payload::reading::PayloadRead;
 use rtp::header;
 use rtp::header::Header;
 use rtp::header::HeaderRead;
+use rtp::refusal::Fault;
 use rtp::refusal::Refusal;
 use rtp::settings::Settings;
 use rtp::sizes::ROW_AREA;
@@ -16,9 +17,11 @@ ghost use lib.ListN.{length};
 ghost use Rattle.rtp.specs.Sizes.{rowArea};
 ghost use Rattle.rtp.specs.Areas.{over};
 ghost use Rattle.rtp.specs.Ranges.{inRange};
+ghost use Rattle.rtp.specs.Faults.{fault};
 ghost use Rattle.rtp.specs.Header.{header};
 ghost use Rattle.payload.specs.Payloads.{rowsAnswer, rowsWords};
 ghost use Rattle.rtp.specs.declared.header.HeaderRead.{HeaderRead};
+ghost use Rattle.packet.specs.declared.reading.Reading.{Reading};
 ghost use Rattle.packet.specs.Readings.{payloadIn, typedRows, reading, readingNumbers, outcomeNumbers, outcomeWords};
 
 // What a packet that was read says of itself: the number of its rows, its header, and its mode request.
@@ -33,7 +36,7 @@ pub struct Packet {
 
 pub enum Reading {
     Read(Packet),
-    Refused(Refusal),
+    Refused(Fault),
 }
 
 // The payload of a packet with this header, by the packet's type.
@@ -58,7 +61,17 @@ fn read_typed(settings: Settings, head: Header, packet: &[u8], rows: &mut [u32])
     if head.payload_type == settings.redundancy_type {
         return blocks::read_redundant(settings, head.timestamp, place, &packet[start..end], rows);
     }
-    PayloadRead::Refused(Refusal::UnknownPayloadType)
+    PayloadRead::Refused(Fault {
+        refusal: Refusal::UnknownPayloadType,
+        offset: 0,
+    })
+}
+
+// A refusal that has no place.
+fn refuse(refusal: Refusal) -> Reading
+    ensures { λ r. ⌜ r ≡ Reading.Refused (fault refusal) ⌝ }
+{
+    Reading::Refused(Fault { refusal, offset: 0 })
 }
 
 // The packet's rows at the front of the area, with the row count, the header and the mode request; or a refusal, and the area unchanged.
@@ -68,12 +81,12 @@ pub fn read(settings: Settings, packet: &[u8], rows: &mut [u32]) -> Reading
 {
     if rtp::settings::in_range(settings) {
         if rows.len() < ROW_AREA {
-            return Reading::Refused(Refusal::AreaTooShort);
+            return refuse(Refusal::AreaTooShort);
         }
         match header::read_header(packet) {
-            HeaderRead::Refused(refusal) => Reading::Refused(refusal),
+            HeaderRead::Refused(refusal) => refuse(refusal),
             HeaderRead::Header(head) => match read_typed(settings, head, packet, rows) {
-                PayloadRead::Refused(refusal) => Reading::Refused(refusal),
+                PayloadRead::Refused(fault) => Reading::Refused(fault),
                 PayloadRead::Rows(count) => {
                     let start = head.start;
                     let end = head.end;
@@ -93,6 +106,6 @@ pub fn read(settings: Settings, packet: &[u8], rows: &mut [u32]) -> Reading
             },
         }
     } else {
-        Reading::Refused(Refusal::SettingsOutOfRange)
+        refuse(Refusal::SettingsOutOfRange)
     }
 }

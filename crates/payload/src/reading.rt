@@ -3,6 +3,7 @@ use crate::rows;
 use contents::entries;
 use contents::entries::ContentsRead;
 use formats::facts;
+use rtp::refusal::Fault;
 use rtp::refusal::Refusal;
 use rtp::settings;
 use rtp::settings::Settings;
@@ -13,6 +14,8 @@ ghost use mathlib.Core.Path.{_≡_};
 ghost use lib.ListN.{length};
 ghost use Rattle.rtp.specs.Sizes.{rowArea};
 ghost use Rattle.rtp.specs.Areas.{over};
+ghost use Rattle.rtp.specs.Faults.{fault};
+ghost use Rattle.payload.specs.declared.reading.PayloadRead.{PayloadRead};
 ghost use Rattle.payload.specs.Payloads.{requestOf, askedRows, payloadNumbers, rowsNumbers, rowsWords};
 
 // The mode request of a payload without one.
@@ -21,7 +24,14 @@ pub const NO_REQUEST: u8 = 15;
 // The number of rows, or why there are none.
 pub enum PayloadRead {
     Rows(u32),
-    Refused(Refusal),
+    Refused(Fault),
+}
+
+// A refusal that has no place, or is at fault at the front.
+fn refuse(refusal: Refusal) -> PayloadRead
+    ensures { λ r. ⌜ r ≡ PayloadRead.Refused (fault refusal) ⌝ }
+{
+    PayloadRead::Refused(Fault { refusal, offset: 0 })
 }
 
 // Whether a payload can be read after `done` rows of its packet, and how many rows it gives.
@@ -30,24 +40,33 @@ pub fn check_payload(asked: Settings, done: u32, s: &[u8]) -> PayloadRead
 {
     if settings::in_range(asked) {
         if MAX_PACKET < s.len() {
-            return PayloadRead::Refused(Refusal::PacketLength);
+            return refuse(Refusal::PacketLength);
         }
         let header = facts::format_of(asked.format).header;
         if s.len() < header {
-            return PayloadRead::Refused(Refusal::ContentsTruncated);
+            return refuse(Refusal::ContentsTruncated);
         }
         match entries::read_contents(asked.format, asked.channels, done, &s[header..]) {
-            ContentsRead::Refused(refusal) => PayloadRead::Refused(refusal),
+            ContentsRead::Refused(fault) => {
+                let refusal = fault.refusal;
+                PayloadRead::Refused(Fault {
+                    refusal,
+                    offset: header + fault.offset,
+                })
+            }
             ContentsRead::Contents(sizes) => {
                 if header + sizes.size + sizes.frames == s.len() {
                     PayloadRead::Rows(sizes.rows as u32)
                 } else {
-                    PayloadRead::Refused(Refusal::LengthMismatch)
+                    PayloadRead::Refused(Fault {
+                        refusal: Refusal::LengthMismatch,
+                        offset: header + sizes.size,
+                    })
                 }
             }
         }
     } else {
-        PayloadRead::Refused(Refusal::SettingsOutOfRange)
+        refuse(Refusal::SettingsOutOfRange)
     }
 }
 
@@ -66,17 +85,26 @@ pub fn read_payload(
 {
     if settings::in_range(asked) {
         if ROW_WIDTH * (done as usize) + area.len() < ROW_AREA {
-            return PayloadRead::Refused(Refusal::AreaTooShort);
+            return refuse(Refusal::AreaTooShort);
         }
         if MAX_PACKET < (at as usize) + s.len() {
-            return PayloadRead::Refused(Refusal::PacketLength);
+            return refuse(Refusal::PacketLength);
         }
         let header = facts::format_of(asked.format).header;
         if s.len() < header {
-            return PayloadRead::Refused(Refusal::ContentsTruncated);
+            return PayloadRead::Refused(Fault {
+                refusal: Refusal::ContentsTruncated,
+                offset: at as usize,
+            });
         }
         match entries::read_contents(asked.format, asked.channels, done, &s[header..]) {
-            ContentsRead::Refused(refusal) => PayloadRead::Refused(refusal),
+            ContentsRead::Refused(fault) => {
+                let refusal = fault.refusal;
+                PayloadRead::Refused(Fault {
+                    refusal,
+                    offset: (at as usize) + header + fault.offset,
+                })
+            }
             ContentsRead::Contents(sizes) => {
                 if header + sizes.size + sizes.frames == s.len() {
                     rows::put_contents(
@@ -90,12 +118,15 @@ pub fn read_payload(
                     );
                     PayloadRead::Rows(sizes.rows as u32)
                 } else {
-                    PayloadRead::Refused(Refusal::LengthMismatch)
+                    PayloadRead::Refused(Fault {
+                        refusal: Refusal::LengthMismatch,
+                        offset: (at as usize) + header + sizes.size,
+                    })
                 }
             }
         }
     } else {
-        PayloadRead::Refused(Refusal::SettingsOutOfRange)
+        refuse(Refusal::SettingsOutOfRange)
     }
 }
 

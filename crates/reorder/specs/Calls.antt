@@ -6,9 +6,11 @@ use mathlib.Core.Option.{Option, none, some}
 use lib.ListN.{length}
 use Rattle.rtp.specs.Ranges.{inRange}
 use Rattle.rtp.specs.Refusals.{number}
+use Rattle.rtp.specs.Faults.{fault}
 use Rattle.rtp.specs.Areas.{over}
 use Rattle.rtp.specs.declared.settings.Settings.{Settings}
 use Rattle.rtp.specs.declared.refusal.Refusal.{Refusal}
+use Rattle.rtp.specs.declared.refusal.Fault.{Fault}
 use Rattle.rtp.specs.declared.refusal.Refusal.the-variants.{SettingsOutOfRange, MalformedBuffer}
 use Rattle.payload.specs.Rows.{words}
 use Rattle.playout.specs.Verdicts.{Counts, noCounts, tally}
@@ -41,9 +43,10 @@ newCall st = cond (inRange st) (record { refusal = 0; buffer = fresh st }) (reco
 
 -- Offer
 
--- the answer in numbers: the refusal number or 0, and how often each verdict was given, zeros on refusal
+-- the answer in numbers: the refusal number or 0, the place of the fault in the packet, and how often each verdict was given, zeros on refusal
 pub record OfferNumbers : Type 0 where
   pub refusal : ℕ
+  pub offset : ℕ
   pub late : ℕ
   pub far : ℕ
   pub repeated : ℕ
@@ -51,14 +54,18 @@ pub record OfferNumbers : Type 0 where
   pub noRoom : ℕ
   pub inserted : ℕ
 
-abbrev pub countNumbers : ℕ → Counts → OfferNumbers
-countNumbers r n = record { refusal = r; late = n .late; far = n .far; repeated = n .repeated; better = n .better; noRoom = n .noRoom; inserted = n .inserted }
+abbrev pub faultNumbers : Fault → OfferNumbers
+faultNumbers f = record { refusal = number (f .refusal); offset = f .offset; late = 0; far = 0; repeated = 0; better = 0; noRoom = 0; inserted = 0 }
+
+abbrev pub countNumbers : Counts → OfferNumbers
+countNumbers n = record { refusal = 0; offset = 0; late = n .late; far = n .far; repeated = n .repeated; better = n .better; noRoom = n .noRoom; inserted = n .inserted }
 
 -- of the code's answer, case by case
 abbrev pub offerNumbers : OfferAnswer → OfferNumbers
-offerNumbers (OfferAnswer.Refused r) = countNumbers (number r) noCounts
+offerNumbers (OfferAnswer.Refused f) = faultNumbers f
 offerNumbers (OfferAnswer.Judged t) = record {
   refusal = 0;
+  offset = 0;
   late = t .late;
   far = t .far;
   repeated = t .repeated;
@@ -74,14 +81,14 @@ pub record OfferOutcome : Type 0 where
   pub rows : List ℕ
   pub store : List ℕ
 
-abbrev pub offerRefused : Refusal → Buffer → List ℕ → List ℕ → OfferOutcome
-offerRefused r b rows store = record { answer = countNumbers (number r) noCounts; buffer = b; rows = rows; store = store }
+abbrev pub offerRefused : Fault → Buffer → List ℕ → List ℕ → OfferOutcome
+offerRefused f b rows store = record { answer = faultNumbers f; buffer = b; rows = rows; store = store }
 
 -- what an offer does to the model, as buffer and areas
 abbrev pub offerDone : Buffer → List ℕ → List ℕ → Result Offered → OfferOutcome
-offerDone b rows store (refused r) = offerRefused r b rows store
+offerDone b rows store (refused f) = offerRefused f b rows store
 offerDone b rows store (done o) = record {
-  answer = countNumbers 0 (tally noCounts (o .gathered .judgements));
+  answer = countNumbers (tally noCounts (o .gathered .judgements));
   buffer = encode (b .settings) (o .gathered .held);
   rows = over (words (o .rows)) rows;
   store = o .gathered .store;
@@ -92,8 +99,8 @@ unfoldable pub offerCall : Buffer → List ℕ → List ℕ → List ℕ → Off
 offerCall b packet rows store =
     cond (inRange (b .settings))
     (cond (wellFormed b) (offerDone b rows store (offerTo (model b) packet (length rows) store))
-    (offerRefused MalformedBuffer b rows store))
-    (offerRefused SettingsOutOfRange b rows store)
+    (offerRefused (fault MalformedBuffer) b rows store))
+    (offerRefused (fault SettingsOutOfRange) b rows store)
 
 -- Draw
 
@@ -125,7 +132,7 @@ drawRefused r b area = record { answer = noFrame (number r) 0; buffer = b; area 
 
 -- what a draw does to the model, as buffer and area; an empty buffer stays as it stood
 abbrev pub drawDone : Buffer → List ℕ → Result (Option HandedOut) → DrawOutcome
-drawDone b area (refused r) = drawRefused r b area
+drawDone b area (refused f) = drawRefused (f .refusal) b area
 drawDone b area (done none) = record { answer = noFrame 0 1; buffer = b; area = area }
 drawDone b area (done (some d)) = record {
   answer = record { refusal = 0; empty = 0; time = d .entry .time; channel = d .entry .channel; class = d .entry .class; length = d .entry .length };

@@ -14,6 +14,7 @@ use Rattle.rtp.specs.declared.redundancy.BlockHeader.{BlockHeader}
 use Rattle.rtp.specs.declared.redundancy.HeaderSizes.{HeaderSizes}
 use Rattle.rtp.specs.declared.redundancy.HeadersRead.{HeadersRead}
 use Rattle.rtp.specs.Numbers.{byteAt}
+use Rattle.rtp.specs.Faults.{fault, shifted}
 use Rattle.rtp.specs.Redundancy.{blockHeader, Headers, refused, headersOf, prepend, headersStep, headersBy, headers, headersSize, redundantSize, headersAnswer}
 use Rattle.rtp.proofs.TestLaws.{by-test}
 
@@ -79,7 +80,7 @@ headers-step s =
 -- The answer by the first header
 
 abbrev pub ahead : Redundant → HeadersRead → HeadersRead
-ahead e (HeadersRead.Refused r) = HeadersRead.Refused r
+ahead e (HeadersRead.Refused f) = HeadersRead.Refused (shifted 4 f)
 ahead e (HeadersRead.Headers z) = HeadersRead.Headers (record { size = 4 + z .size; redundant = e .length + z .redundant })
 
 prepend-answer : (e : Redundant) (h : Headers) → headersAnswer (prepend e h) ≡ ahead e (headersAnswer h)
@@ -88,7 +89,7 @@ prepend-answer e (refused r) = refl
 prepend-answer e (headersOf bs t) = refl
 
 module _ (s : List ℕ) where
-  pub at-refused : (r : Refusal) → blockHeader s ≡ BlockHeader.Refused r → headersAnswer (headers s) ≡ HeadersRead.Refused r
+  pub at-refused : (r : Refusal) → blockHeader s ≡ BlockHeader.Refused r → headersAnswer (headers s) ≡ HeadersRead.Refused (fault r)
   unfolding headersAnswer
   at-refused r h = rw (headers-step, h)
 
@@ -99,7 +100,7 @@ module _ (s : List ℕ) where
   pub at-redundant : (e : Redundant) → blockHeader s ≡ BlockHeader.Redundant e → headersAnswer (headers s) ≡ ahead e (headersAnswer (headers (drop 4 s)))
   at-redundant e h = rw (headers-step s, h) (prepend-answer e (headers (drop 4 s)))
 
--- Bounds: the headers lie inside the payload, and a redundant block is at most 1,023 bytes
+-- Bounds: the headers, or the place at fault, lie inside the payload, and a redundant block is at most 1,023 bytes
 pub record Small (n : ℕ) (z : HeaderSizes) : Type 0 where
   pub some : 1 ≤ z .size
   pub within : z .size ≤ n
@@ -107,19 +108,19 @@ pub record Small (n : ℕ) (z : HeaderSizes) : Type 0 where
 
 abbrev pub Within : ℕ → HeadersRead → Type 0
 Within n (HeadersRead.Headers z) = Small n z
-Within n (HeadersRead.Refused r) = Unit {0}
+Within n (HeadersRead.Refused f) = f .offset ≤ n
 
 pub bytes-drop : (n : ℕ) (s : List ℕ) → Bytes s → Bytes (drop n s)
 bytes-drop n s bs i = rw getD-drop (bs (n + i))
 
 within-more : (n : ℕ) (e : Redundant) (h : HeadersRead) → 4 ≤ n → e .length < 1024 → Within (n - 4) h → Within n (ahead e h)
-within-more n e (HeadersRead.Refused r) f l w = tt
+within-more n e (HeadersRead.Refused p) f l w = omega arith
 within-more n e (HeadersRead.Headers z) f l w = record { some = omega arith; within = omega arith; short = omega arith }
 
 within-step : (f : ℕ) (s : List ℕ) → length s < suc f → Bytes s
     → ((t : List ℕ) → length t < f → Bytes t → Within (length t) (headersAnswer (headers t)))
     → (b : BlockHeader) → blockHeader s ≡ b → Within (length s) (headersAnswer (headers s))
-within-step f s l bs ih (BlockHeader.Refused r) q = rw (at-refused s r q) tt
+within-step f s l bs ih (BlockHeader.Refused r) q = rw (at-refused s r q) (omega arith)
 within-step f s l bs ih (BlockHeader.Primary t) q =
     rw (at-primary s t q) (record { some = omega arith; within = some-byte s t q; short = omega arith })
 within-step f s l bs ih (BlockHeader.Redundant e) q =
