@@ -17,11 +17,9 @@ ghost use lib.ListN.{length};
 ghost use Rattle.rtp.specs.Sizes.{rowArea};
 ghost use Rattle.rtp.specs.Areas.{over};
 ghost use Rattle.rtp.specs.Ranges.{inRange};
-ghost use Rattle.rtp.specs.Faults.{fault};
 ghost use Rattle.rtp.specs.Header.{header};
 ghost use Rattle.payload.specs.Payloads.{rowsAnswer, rowsWords};
 ghost use Rattle.rtp.specs.declared.header.HeaderRead.{HeaderRead};
-ghost use Rattle.packet.specs.declared.reading.Reading.{Reading};
 ghost use Rattle.packet.specs.Readings.{payloadIn, typedRows, reading, readingNumbers, outcomeNumbers, outcomeWords};
 
 // What a packet that was read says of itself: the number of its rows, its header, and its mode request.
@@ -67,13 +65,6 @@ fn read_typed(settings: Settings, head: Header, packet: &[u8], rows: &mut [u32])
     })
 }
 
-// A refusal that has no place.
-fn refuse(refusal: Refusal) -> Reading
-    ensures { λ r. ⌜ r ≡ Reading.Refused (fault refusal) ⌝ }
-{
-    Reading::Refused(Fault { refusal, offset: 0 })
-}
-
 // The packet's rows at the front of the area, with the row count, the header and the mode request; or a refusal, and the area unchanged.
 pub fn read(settings: Settings, packet: &[u8], rows: &mut [u32]) -> Reading
     ensures { λ r. ⌜ (readingNumbers r ≡ outcomeNumbers (reading settings (length (now (rows .entry))) (now (packet .entry))))
@@ -81,10 +72,13 @@ pub fn read(settings: Settings, packet: &[u8], rows: &mut [u32]) -> Reading
 {
     if rtp::settings::in_range(settings) {
         if rows.len() < ROW_AREA {
-            return refuse(Refusal::AreaTooShort);
+            return Reading::Refused(Fault {
+                refusal: Refusal::AreaTooShort,
+                offset: 0,
+            });
         }
         match header::read_header(packet) {
-            HeaderRead::Refused(refusal) => refuse(refusal),
+            HeaderRead::Refused(refusal) => Reading::Refused(Fault { refusal, offset: 0 }),
             HeaderRead::Header(head) => match read_typed(settings, head, packet, rows) {
                 PayloadRead::Refused(fault) => Reading::Refused(fault),
                 PayloadRead::Rows(count) => {
@@ -106,6 +100,9 @@ pub fn read(settings: Settings, packet: &[u8], rows: &mut [u32]) -> Reading
             },
         }
     } else {
-        refuse(Refusal::SettingsOutOfRange)
+        Reading::Refused(Fault {
+            refusal: Refusal::SettingsOutOfRange,
+            offset: 0,
+        })
     }
 }

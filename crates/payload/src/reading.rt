@@ -14,8 +14,6 @@ ghost use mathlib.Core.Path.{_≡_};
 ghost use lib.ListN.{length};
 ghost use Rattle.rtp.specs.Sizes.{rowArea};
 ghost use Rattle.rtp.specs.Areas.{over};
-ghost use Rattle.rtp.specs.Faults.{fault};
-ghost use Rattle.payload.specs.declared.reading.PayloadRead.{PayloadRead};
 ghost use Rattle.payload.specs.Payloads.{requestOf, askedRows, payloadNumbers, rowsNumbers, rowsWords};
 
 // The mode request of a payload without one.
@@ -27,24 +25,23 @@ pub enum PayloadRead {
     Refused(Fault),
 }
 
-// A refusal that has no place, or is at fault at the front.
-fn refuse(refusal: Refusal) -> PayloadRead
-    ensures { λ r. ⌜ r ≡ PayloadRead.Refused (fault refusal) ⌝ }
-{
-    PayloadRead::Refused(Fault { refusal, offset: 0 })
-}
-
 // Whether a payload can be read after `done` rows of its packet, and how many rows it gives.
 pub fn check_payload(asked: Settings, done: u32, s: &[u8]) -> PayloadRead
     ensures { λ r. ⌜ payloadNumbers r ≡ rowsNumbers (askedRows asked done rowArea 0 0 (now (s .entry))) ⌝ }
 {
     if settings::in_range(asked) {
         if MAX_PACKET < s.len() {
-            return refuse(Refusal::PacketLength);
+            return PayloadRead::Refused(Fault {
+                refusal: Refusal::PacketLength,
+                offset: 0,
+            });
         }
         let header = facts::format_of(asked.format).header;
         if s.len() < header {
-            return refuse(Refusal::ContentsTruncated);
+            return PayloadRead::Refused(Fault {
+                refusal: Refusal::ContentsTruncated,
+                offset: 0,
+            });
         }
         match entries::read_contents(asked.format, asked.channels, done, &s[header..]) {
             ContentsRead::Refused(fault) => {
@@ -66,7 +63,10 @@ pub fn check_payload(asked: Settings, done: u32, s: &[u8]) -> PayloadRead
             }
         }
     } else {
-        refuse(Refusal::SettingsOutOfRange)
+        PayloadRead::Refused(Fault {
+            refusal: Refusal::SettingsOutOfRange,
+            offset: 0,
+        })
     }
 }
 
@@ -85,10 +85,16 @@ pub fn read_payload(
 {
     if settings::in_range(asked) {
         if ROW_WIDTH * (done as usize) + area.len() < ROW_AREA {
-            return refuse(Refusal::AreaTooShort);
+            return PayloadRead::Refused(Fault {
+                refusal: Refusal::AreaTooShort,
+                offset: 0,
+            });
         }
         if MAX_PACKET < (at as usize) + s.len() {
-            return refuse(Refusal::PacketLength);
+            return PayloadRead::Refused(Fault {
+                refusal: Refusal::PacketLength,
+                offset: 0,
+            });
         }
         let header = facts::format_of(asked.format).header;
         if s.len() < header {
@@ -126,7 +132,10 @@ pub fn read_payload(
             }
         }
     } else {
-        refuse(Refusal::SettingsOutOfRange)
+        PayloadRead::Refused(Fault {
+            refusal: Refusal::SettingsOutOfRange,
+            offset: 0,
+        })
     }
 }
 
