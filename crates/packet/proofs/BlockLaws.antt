@@ -89,7 +89,7 @@ module _ (st : Settings) where
 
   -- The place at fault lies inside the blocks
 
-  pay-inside : (done time at : ℕ) (s : List ℕ) → Inside (at + length s) (rowsAnswer (payloadRows (st .format) (st .channels) done time at s))
+  pub pay-inside : (done time at : ℕ) (s : List ℕ) → Inside (at + length s) (rowsAnswer (payloadRows (st .format) (st .channels) done time at s))
   unfolding rowsAnswer
   pay-inside done time at s = table-inside (sizesAnswer (st .format) (st .channels) (contents (st .format) (st .channels) done (body (st .format) s))) refl
     where

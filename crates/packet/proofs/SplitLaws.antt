@@ -15,7 +15,7 @@ use Rattle.rtp.specs.declared.refusal.Fault.{Fault}
 use Rattle.rtp.specs.declared.refusal.Refusal.the-variants.{LengthMismatch}
 use Rattle.rtp.specs.declared.redundancy.HeaderSizes.{HeaderSizes}
 use Rattle.rtp.specs.declared.redundancy.HeadersRead.{HeadersRead}
-use Rattle.rtp.proofs.RedundancyLaws.{Bytes, Small, Within, within}
+use Rattle.rtp.proofs.RedundancyLaws.{Bytes, Small, Within, within, InFront, front}
 use Rattle.payload.specs.Payloads.{Rows, noRows, rowsAnswer}
 use Rattle.payload.specs.declared.reading.PayloadRead.{PayloadRead}
 use Rattle.packet.specs.Blocks.{splitRows, redundantRows}
@@ -53,9 +53,9 @@ module _ (st : Settings) (time at : ℕ) (s : List ℕ) where
   split-refused r h = is-refused st time at s r (redundancyHeaders s) h
 
   -- the place at fault lies inside
-  pub split-place : at + length s ≤ maxPacket → (r : Fault) → headersAnswer (redundancyHeaders s) ≡ HeadersRead.Refused r → Bytes s → r .offset ≤ length s
+  pub split-place : at + length s ≤ maxPacket → (r : Fault) → headersAnswer (redundancyHeaders s) ≡ HeadersRead.Refused r → r .offset ≤ length s
   unfolding redundancyHeaders
-  split-place l r h bs = subst (λ (x : HeadersRead). Within (length s) x) (ap headersAnswer (sym (rw (le-ltb maxPacket (length s) (omega arith)))) ∙ h) (within s bs)
+  split-place l r h = subst (λ (x : HeadersRead). InFront (length s) x) (ap headersAnswer (sym (rw (le-ltb maxPacket (length s) (omega arith)))) ∙ h) (front s)
 
   module _ (l : at + length s ≤ maxPacket) (z : HeaderSizes) (h : headersAnswer (redundancyHeaders s) ≡ HeadersRead.Headers z) where
     pub split-short : length s - z .size < z .redundant → redundantRows st time at s ≡ noRows (faultAt (at + z .size) LengthMismatch)
@@ -66,7 +66,7 @@ module _ (st : Settings) (time at : ℕ) (s : List ℕ) where
     unfolding redundancyHeaders
     headers-in = rw (le-ltb maxPacket (length s) (omega arith))
 
-    headers-at : headersAnswer (headers s) ≡ HeadersRead.Headers z
+    pub headers-at : headersAnswer (headers s) ≡ HeadersRead.Headers z
     headers-at = ap headersAnswer (sym headers-in) ∙ h
 
     pub split-small : Bytes s → Small (length s) z

@@ -100,7 +100,7 @@ module _ (s : List ℕ) where
   pub at-redundant : (e : Redundant) → blockHeader s ≡ BlockHeader.Redundant e → headersAnswer (headers s) ≡ ahead e (headersAnswer (headers (drop 4 s)))
   at-redundant e h = rw (headers-step s, h) (prepend-answer e (headers (drop 4 s)))
 
--- Bounds: the headers, or the place at fault, lie inside the payload, and a redundant block is at most 1,023 bytes
+-- Bounds: the headers lie inside the payload, and a redundant block is at most 1,023 bytes
 pub record Small (n : ℕ) (z : HeaderSizes) : Type 0 where
   pub some : 1 ≤ z .size
   pub within : z .size ≤ n
@@ -108,19 +108,19 @@ pub record Small (n : ℕ) (z : HeaderSizes) : Type 0 where
 
 abbrev pub Within : ℕ → HeadersRead → Type 0
 Within n (HeadersRead.Headers z) = Small n z
-Within n (HeadersRead.Refused f) = f .offset ≤ n
+Within n (HeadersRead.Refused f) = Unit {0}
 
 pub bytes-drop : (n : ℕ) (s : List ℕ) → Bytes s → Bytes (drop n s)
 bytes-drop n s bs i = rw getD-drop (bs (n + i))
 
 within-more : (n : ℕ) (e : Redundant) (h : HeadersRead) → 4 ≤ n → e .length < 1024 → Within (n - 4) h → Within n (ahead e h)
-within-more n e (HeadersRead.Refused p) f l w = omega arith
+within-more n e (HeadersRead.Refused p) f l w = tt
 within-more n e (HeadersRead.Headers z) f l w = record { some = omega arith; within = omega arith; short = omega arith }
 
 within-step : (f : ℕ) (s : List ℕ) → length s < suc f → Bytes s
     → ((t : List ℕ) → length t < f → Bytes t → Within (length t) (headersAnswer (headers t)))
     → (b : BlockHeader) → blockHeader s ≡ b → Within (length s) (headersAnswer (headers s))
-within-step f s l bs ih (BlockHeader.Refused r) q = rw (at-refused s r q) (omega arith)
+within-step f s l bs ih (BlockHeader.Refused r) q = rw (at-refused s r q) tt
 within-step f s l bs ih (BlockHeader.Primary t) q =
     rw (at-primary s t q) (record { some = omega arith; within = some-byte s t q; short = omega arith })
 within-step f s l bs ih (BlockHeader.Redundant e) q =
@@ -135,3 +135,27 @@ within-by (suc f) s l bs = within-step f s l bs (λ t m cs. within-by f t m cs) 
 
 pub within : (s : List ℕ) → Bytes s → Within (length s) (headersAnswer (headers s))
 within s bs = within-by (suc (length s)) s (omega arith) bs
+
+-- The headers, or the place at fault, lie inside n bytes
+abbrev pub InFront : ℕ → HeadersRead → Type 0
+InFront n (HeadersRead.Headers z) = z .size ≤ n
+InFront n (HeadersRead.Refused f) = f .offset ≤ n
+
+front-more : (n : ℕ) (e : Redundant) (h : HeadersRead) → 4 ≤ n → InFront (n - 4) h → InFront n (ahead e h)
+front-more n e (HeadersRead.Refused p) f w = omega arith
+front-more n e (HeadersRead.Headers z) f w = omega arith
+
+front-step : (f : ℕ) (s : List ℕ) → length s < suc f → ((t : List ℕ) → length t < f → InFront (length t) (headersAnswer (headers t)))
+    → (b : BlockHeader) → blockHeader s ≡ b → InFront (length s) (headersAnswer (headers s))
+front-step f s l ih (BlockHeader.Refused r) q = rw (at-refused s r q) (omega arith)
+front-step f s l ih (BlockHeader.Primary t) q = rw (at-primary s t q) (some-byte s t q)
+front-step f s l ih (BlockHeader.Redundant e) q =
+    rw (at-redundant s e q)
+    (front-more (length s) e (headersAnswer (headers (drop 4 s))) (fair s e q .within) (rw (length-drop 4 s) at (ih (drop 4 s) (omega (arith, shorter s e q)))))
+
+front-by : (f : ℕ) (s : List ℕ) → length s < f → InFront (length s) (headersAnswer (headers s))
+front-by zero s l = absurd (omega arith)
+front-by (suc f) s l = front-step f s l (λ t m. front-by f t m) (blockHeader s) refl
+
+pub front : (s : List ℕ) → InFront (length s) (headersAnswer (headers s))
+front s = front-by (suc (length s)) s (omega arith)

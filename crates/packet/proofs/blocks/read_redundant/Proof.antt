@@ -25,7 +25,7 @@ fault-at : (c : tie.After-fault) → headersAnswer (redundancyHeaders (now (c .b
 fault-at c = sym (headers-is _ _ (c .before .before .read-headers .ensures)) ∙ c .fault .given .1
 
 place-at : (c : tie.After-fault) → c .fault .given .0 .0 .offset ≤ length (now (c .before .before .before .before .before .args .s))
-place-at c = let a = c .before .before .before .before .before .args in split-place (a .settings) (a .timestamp) (a .at) (now (a .s)) (c .before .before .before .before .before .pre .2) _ (fault-at c) (λ i. c .before .before .before .before .shared-slice-known .given i .fits)
+place-at c = let a = c .before .before .before .before .before .args in split-place (a .settings) (a .timestamp) (a .at) (now (a .s)) (c .before .before .before .before .before .pre .2) _ (fault-at c)
 
 -- the sizes of the block headers that were read
 sizes-at : (c : tie.After-sizes) → headersAnswer (redundancyHeaders (now (c .before .before .before .before .before .args .s))) ≡ HeadersRead.Headers (c .sizes .given .0 .0)

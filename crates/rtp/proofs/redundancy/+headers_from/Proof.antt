@@ -7,7 +7,7 @@ use Rattle.rtp.specs.declared.redundancy.BlockHeader.{BlockHeader}
 use Rattle.rtp.specs.declared.redundancy.HeadersRead.{HeadersRead}
 use Rattle.rtp.specs.Redundancy.{blockHeader, headers, headersAnswer}
 use Rattle.rtp.proofs.AreaLaws.{part-to-end}
-use Rattle.rtp.proofs.RedundancyLaws.{fair, shorter, at-refused, at-primary, at-redundant, ahead, within, Within, Small, bytes-drop}
+use Rattle.rtp.proofs.RedundancyLaws.{fair, shorter, at-refused, at-primary, at-redundant, ahead, within, Within, Small, bytes-drop, InFront, front}
 use Rattle.rtp.proofs.NumberLaws.{same-block}
 use borrow.Author.Needs.{needs}
 use Prim.Native.Nat.{ℕ, _-_, _<_, _≤_}
@@ -61,20 +61,17 @@ whole-at t c =
     at-redundant (now (c .before .before .before .before .before .before .before .args .s)) (c .before .before .before .block .given .0 .0) (read-at t (c .before .before .before))
     ∙ ap (ahead (c .before .before .before .block .given .0 .0)) (sym (rest-at t c))
 
--- what it says lies inside
-within-at : (t : ℕ) (c : At headers-from-lts.After-headers-from t) → Within (length (drop 4 (now (c .before .before .before .before .before .before .before .args .s)))) (c .headers-from .result)
-within-at t c =
-    let s = now (c .before .before .before .before .before .before .before .args .s) in
-    subst (λ (r : HeadersRead). Within (length (drop 4 s)) r) (sym (rest-at t c))
-    (within (drop 4 s) (bytes-drop 4 s (λ i. c .before .before .before .before .before .before .shared-slice-known .given i .fits)))
-
-small-at : (t : ℕ) (c : At headers-from-lts.After-rest t)
-    → Small (length (drop 4 (now (c .before .before .before .before .before .before .before .before .before .args .s)))) (c .rest .given .0 .0)
-small-at t c = subst (λ (r : HeadersRead). Within (length (drop 4 (now (c .before .before .before .before .before .before .before .before .before .args .s)))) r) (c .rest .given .1) (within-at t (c .before .before))
+small-at : (t : ℕ) (c : At headers-from-lts.After-rest t) → Small (length (drop 4 (now (c .before .before .before .before .before .before .before .before .before .args .s)))) (c .rest .given .0 .0)
+small-at t c =
+    let s = now (c .before .before .before .before .before .before .before .before .before .args .s) in
+    subst (λ (r : HeadersRead). Within (length (drop 4 s)) r) (sym (rest-at t (c .before .before)) ∙ c .rest .given .1)
+    (within (drop 4 s) (bytes-drop 4 s (λ i. c .before .before .before .before .before .before .before .before .shared-slice-known .given i .fits)))
 
 -- the place at fault
 place-at : (t : ℕ) (c : At headers-from-lts.After-fault t) → c .fault .given .0 .0 .offset ≤ length (drop 4 (now (c .before .before .before .before .before .before .before .before .before .args .s)))
-place-at t c = subst (λ (r : HeadersRead). Within (length (drop 4 (now (c .before .before .before .before .before .before .before .before .before .args .s)))) r) (c .fault .given .1) (within-at t (c .before .before))
+place-at t c =
+    let s = drop 4 (now (c .before .before .before .before .before .before .before .before .before .args .s)) in
+    subst (λ (r : HeadersRead). InFront (length s) r) (sym (rest-at t (c .before .before)) ∙ c .fault .given .1) (front s)
 
 headers-from-read-block-header-requires : (t : ℕ) → At headers-from-lts.Need-read-block-header-requires t
 headers-from-read-block-header-requires t c κs = search needs
