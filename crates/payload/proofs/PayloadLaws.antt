@@ -6,7 +6,7 @@ use Prim.Native.Nat.{ℕ, _+_, _-_, _*_, _/_, _≤_, _<_}
 use native.Mathlib.Omega.{arith}
 use lib.ListN.{length, length-append, length-drop}
 use lib.Dec.{eqb}
-use borrow.Author.Tests.{eq-eqb, ne-eqb, eqb-true, lt-ltb, le-ltb}
+use borrow.Author.Tests.{eq-eqb, ne-eqb, eqb-true, eqb-false, lt-ltb, le-ltb}
 use Rattle.rtp.proofs.TestLaws.{by-test}
 use Rattle.rtp.specs.Sizes.{rowWidth, rowArea, maxPacket}
 use Rattle.rtp.specs.Numbers.{byteAt}
@@ -74,7 +74,14 @@ module _ (format ch done time at : ℕ) (s : List ℕ) where
   starts : formatOf format .header ≤ length s → tableStart format s ≡ formatOf format .header
   starts l = by-test (eqb (length s) 0) (λ z. rw z (omega (arith, eqb-true (length s) 0 z))) (λ z. rw z)
 
-  at-fault : (r : Fault) → sizesAnswer format ch (contents format ch done (body format s)) ≡ ContentsRead.Refused r
+  -- its table starts inside it
+  pub start-in : tableStart format s + length (body format s) ≤ length s
+  start-in =
+      by-test (eqb (length s) 0)
+      (λ z. rw (z, length-drop) (omega (arith, eqb-true (length s) 0 z)))
+      (λ z. rw (z, length-drop) (omega (arith, eqb-false (length s) 0 z, header-small format)))
+
+  pub at-fault : (r : Fault) → sizesAnswer format ch (contents format ch done (body format s)) ≡ ContentsRead.Refused r
       → payloadRows format ch done time at s ≡ noRows (faultAt (at + (tableStart format s + r .offset)) (r .refusal))
   unfolding payloadRows payload placedRows
   at-fault r h = rw (exact-refused format ch (length (body format s)) r (passFirst Table) (sizes-passed format ch Table ∙ h))
@@ -107,7 +114,7 @@ module _ (format ch done time at : ℕ) (s : List ℕ) where
     table-is : What
     table-is = is format ch (length (body format s)) time at t (passFirst Table) passed
 
-    part-fault : (t .size + t .frames ≡ length (body format s) → ⊥)
+    pub part-fault : (t .size + t .frames ≡ length (body format s) → ⊥)
         → payloadRows format ch done time at s ≡ noRows (faultAt (at + (tableStart format s + t .size)) LengthMismatch)
     unfolding payloadRows payload placedRows
     part-fault f = rw (table-is .part f)
