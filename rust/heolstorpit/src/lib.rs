@@ -55,7 +55,8 @@ impl From<Settings> for raw::Settings {
     }
 }
 
-/// Reads a packet into the row area, which has at least [`ROW_AREA`] words. Words after the last row stay. A refusal says where in the packet.
+/// Reads a packet into the row area, which has at least [`ROW_AREA`] words. Words after the last row stay. A refusal says where in the
+/// packet.
 #[cfg(feature = "read")]
 pub fn read(settings: Settings, packet: &[u8], rows: &mut [u32]) -> Result<Reading, Fault> {
     raw::read(settings.into(), packet, rows).result()
