@@ -28,8 +28,10 @@ use Rattle.layout.specs.Arrays.{Machine}
 use Rattle.layout.specs.Layout.{encode, entriesFrom, decode}
 use Rattle.layout.specs.WellFormed.{wellFormed}
 use Rattle.reorder.specs.Rows.{copiesOf}
-use Rattle.reorder.specs.Calls.{OfferOutcome, offerRefused, offerCall, DrawOutcome, drawRefused, drawCall}
-use Rattle.reorder.proofs.CallLaws.{offerRead, offer-out, offer-malformed, offer-rows, offer-store, offer-reads, drawFirst, draw-out, draw-malformed, draw-store, draw-area, draw-goes}
+use Rattle.reorder.specs.Calls.{OfferOutcome, offerRefused, offerCall}
+use Rattle.drawing.specs.Calls.{DrawOutcome, drawRefused, drawCall}
+use Rattle.reorder.proofs.CallLaws.{offerRead, offer-out, offer-malformed, offer-rows, offer-store, offer-reads}
+use Rattle.drawing.proofs.CallLaws.{drawFirst, draw-out, draw-malformed, draw-store, draw-area, draw-goes}
 use Rattle.layout.proofs.WellFormedLaws.{encode-decode}
 use Rattle.delivery.specs.WellFormedClaims.{LeftByOffer, Empty, LeftByDraw, ChangesNothing}
 

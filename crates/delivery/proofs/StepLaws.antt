@@ -30,9 +30,11 @@ use Rattle.layout.specs.declared.buffer.Buffer.{Buffer}
 use Rattle.layout.specs.Layout.{encode, model}
 use Rattle.reorder.specs.Rows.{copiesOf}
 use Rattle.reorder.specs.ModelCalls.{Result, refused, Offered, judgeRead, offerTo}
-use Rattle.reorder.specs.Calls.{NewOutcome, faultNumbers, countNumbers, OfferOutcome, offerDone, offerCall, DrawNumbers, noFrame, DrawOutcome, drawRefused, drawCall}
+use Rattle.reorder.specs.Calls.{NewOutcome, faultNumbers, countNumbers, OfferOutcome, offerDone, offerCall}
+use Rattle.drawing.specs.Calls.{DrawNumbers, noFrame, DrawOutcome, drawRefused, drawCall}
 use Rattle.layout.proofs.LayoutLaws.{fresh-encode}
-use Rattle.reorder.proofs.CallLaws.{new-in, drawFirst, draw-store, draw-area, draw-goes}
+use Rattle.reorder.proofs.CallLaws.{new-in}
+use Rattle.drawing.proofs.CallLaws.{drawFirst, draw-store, draw-area, draw-goes}
 use Rattle.reorder.proofs.StateLaws.{Good, good-facts, judgeAll-good, draw-good}
 use Rattle.reorder.proofs.BufferLaws.{good-fine, good-back}
 use Rattle.reorder.proofs.CopyLaws.{read-fit, fits-frames}

@@ -21,7 +21,8 @@ use Rattle.layout.specs.Arrays.{Machine}
 use Rattle.layout.specs.Layout.{decode}
 use Rattle.layout.specs.WellFormed.{wellFormed}
 use Rattle.reorder.specs.Rows.{readCopies}
-use Rattle.reorder.specs.Calls.{newCall, OfferNumbers, noFrame}
+use Rattle.reorder.specs.Calls.{newCall, OfferNumbers}
+use Rattle.drawing.specs.Calls.{noFrame}
 use Rattle.delivery.specs.Runs.{State, lent, Offer, Call, offer, draw, Yield, offered, drew, step, Run, run, begun, refusalOf, judged, Served, served, frames}
 
 -- What is refused

@@ -10,7 +10,8 @@ use Rattle.playout.specs.Verdicts.{Judgement}
 use Rattle.layout.specs.declared.buffer.Buffer.{Buffer}
 use Rattle.layout.specs.Layout.{model}
 use Rattle.reorder.specs.ModelCalls.{Result, refused, done, Offered, offerTo}
-use Rattle.reorder.specs.Calls.{newCall, OfferNumbers, offerCall, DrawNumbers, drawCall}
+use Rattle.reorder.specs.Calls.{newCall, OfferNumbers, offerCall}
+use Rattle.drawing.specs.Calls.{DrawNumbers, drawCall}
 
 -- The calls
 

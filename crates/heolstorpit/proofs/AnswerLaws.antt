@@ -12,11 +12,12 @@ use Rattle.encoder.specs.declared.writing.Written.{Written}
 use Rattle.encoder.specs.Writings.{writtenNumbers}
 use Rattle.layout.specs.declared.buffer.Buffer.{Buffer}
 use Rattle.reorder.specs.declared.tally.Tally.{Tally}
-use Rattle.reorder.specs.declared.calls.DrawnFrame.{DrawnFrame}
+use Rattle.drawing.specs.declared.draws.DrawnFrame.{DrawnFrame}
 use Rattle.reorder.specs.declared.calls.NewAnswer.{NewAnswer}
 use Rattle.reorder.specs.declared.calls.OfferAnswer.{OfferAnswer}
-use Rattle.reorder.specs.declared.calls.DrawAnswer.{DrawAnswer}
-use Rattle.reorder.specs.Calls.{NewOutcome, newNumber, OfferNumbers, OfferOutcome, offerNumbers, DrawNumbers, DrawOutcome, drawNumbers}
+use Rattle.drawing.specs.declared.draws.DrawAnswer.{DrawAnswer}
+use Rattle.reorder.specs.Calls.{NewOutcome, newNumber, OfferNumbers, OfferOutcome, offerNumbers}
+use Rattle.drawing.specs.Calls.{DrawNumbers, DrawOutcome, drawNumbers}
 use Rattle.heolstorpit.specs.Answers.{readingAnswer, writtenAnswer}
 
 -- Reading

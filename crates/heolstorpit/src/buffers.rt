@@ -1,7 +1,8 @@
 // hsp_new, hsp_offer and hsp_draw: the calls on a reorder buffer.
+use drawing::draws;
+use drawing::draws::DrawAnswer;
 use layout::buffer::Buffer;
 use reorder::calls;
-use reorder::calls::DrawAnswer;
 use reorder::calls::NewAnswer;
 use reorder::calls::OfferAnswer;
 use rtp::refusal;
@@ -9,7 +10,8 @@ use rtp::settings::Settings;
 ghost use mathlib.Core.Path.{_≡_};
 ghost use Prim.Native.Nat.{_≤_};
 ghost use Rattle.rtp.specs.Sizes.{maxPacket};
-ghost use Rattle.reorder.specs.Calls.{newCall, offerNumbers, offerCall, drawNumbers, drawCall};
+ghost use Rattle.reorder.specs.Calls.{newCall, offerNumbers, offerCall};
+ghost use Rattle.drawing.specs.Calls.{drawNumbers, drawCall};
 ghost use Rattle.heolstorpit.specs.Answers.{freshAnswer, offerFields, offeredAnswer, drawFields, drawnAnswer};
 
 // hsp_fresh: the refusal number or 0.
@@ -178,7 +180,7 @@ pub extern "C" fn hsp_draw(buffer: Buffer, store: &[u8], area: &mut [u8]) -> Hsp
     ensures { λ r. ⌜ record { answer = drawnAnswer r; buffer = r .buffer; area = now (area .exit) } ≡
         drawCall buffer (now (store .entry)) (now (area .entry)) ⌝ }
 {
-    let drawn = calls::draw(buffer, store, area);
+    let drawn = draws::draw(buffer, store, area);
     let left = drawn.buffer;
     let answer = drawn.answer;
     let fields = draw_fields(answer);

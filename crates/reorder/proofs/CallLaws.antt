@@ -1,4 +1,4 @@
--- Laws of the calls, one for each way that a call goes.
+-- Laws of new and offer, one for each way that a call goes.
 use mathlib.Core.Path.{_≡_, refl}
 use mathlib.Core.List.{List}
 use mathlib.Core.Bool.{true, false}
@@ -16,21 +16,16 @@ use Rattle.rtp.specs.declared.refusal.Refusal.the-variants.{SettingsOutOfRange,
 use Rattle.rtp.proofs.TestLaws.{by-test}
 use Rattle.packet.specs.Readings.{Outcome, refused, readAs, reading}
 use Rattle.packet.proofs.PlaceLaws.{place-small}
-use Rattle.playout.specs.Sizes.{slotSize, storeSize}
-use Rattle.playout.specs.Entries.{Entry}
+use Rattle.playout.specs.Sizes.{storeSize}
 use Rattle.layout.specs.declared.buffer.Buffer.{Buffer}
 use Rattle.layout.specs.Layout.{decode, fresh}
 use Rattle.layout.specs.WellFormed.{wellFormed}
-use Rattle.reorder.specs.ModelCalls.{done, judgeRead, offerTo, earliest, drawFrom}
-use Rattle.reorder.specs.Calls.{noSettings, newCall, OfferOutcome, offerRefused, offerDone, offerCall, DrawOutcome, drawRefused, drawDone, drawCall}
+use Rattle.reorder.specs.ModelCalls.{judgeRead, offerTo}
+use Rattle.reorder.specs.Calls.{noSettings, newCall, OfferOutcome, offerRefused, offerDone, offerCall}
 
 -- an offer whose packet was read, or not
 abbrev pub offerRead : Buffer → List ℕ → List ℕ → List ℕ → Outcome → OfferOutcome
 offerRead b packet rows store o = offerDone b rows store (judgeRead (decode b) packet store o)
-
--- a draw that goes through the areas, with the entries held
-abbrev pub drawFirst : Buffer → List ℕ → List ℕ → List Entry → DrawOutcome
-drawFirst b store area es = drawDone b area (done (earliest store es))
 
 pub new-in : (st : Settings) → inRange st ≡ true → newCall st ≡ record { refusal = 0; buffer = fresh st }
 unfolding newCall
@@ -79,26 +74,3 @@ module _ (b : Buffer) (packet rows store : List ℕ) where
       (λ a. by-test (ltb (length store) storeSize) (λ s. rw (r, w, a, s) (omega arith)) (λ s. rw (r, w, a, s) (read-place (reading (b .settings) (length rows) packet) refl))))
       (λ w. rw (r, w) (omega arith)))
       (λ r. rw r (omega arith))
-
-module _ (b : Buffer) (store area : List ℕ) where
-  pub draw-out : inRange (b .settings) ≡ false → drawCall b store area ≡ drawRefused SettingsOutOfRange b area
-  unfolding drawCall
-  draw-out h = rw h
-
-  module _ (h : inRange (b .settings) ≡ true) where
-    pub draw-malformed : wellFormed b ≡ false → drawCall b store area ≡ drawRefused MalformedBuffer b area
-    unfolding drawCall
-    draw-malformed w = rw (h, w)
-
-    module _ (w : wellFormed b ≡ true) where
-      pub draw-store : length store < storeSize → drawCall b store area ≡ drawRefused AreaTooShort b area
-      unfolding drawCall drawFrom
-      draw-store s = rw (h, w, lt-ltb (length store) storeSize s)
-
-      pub draw-area : storeSize ≤ length store → length area < slotSize → drawCall b store area ≡ drawRefused AreaTooShort b area
-      unfolding drawCall drawFrom
-      draw-area s a = rw (h, w, le-ltb (length store) storeSize s, lt-ltb (length area) slotSize a)
-
-      pub draw-goes : storeSize ≤ length store → slotSize ≤ length area → drawCall b store area ≡ drawFirst b store area (decode b .entries)
-      unfolding drawCall drawFrom
-      draw-goes s a = rw (h, w, le-ltb (length store) storeSize s, le-ltb (length area) slotSize a)
