@@ -20,7 +20,7 @@ use Rattle.encoder.specs.declared.plans.Plan.{Plan}
 use Rattle.encoder.specs.declared.plans.Planned.{Planned}
 use Rattle.encoder.specs.declared.writing.Written.{Written}
 use Rattle.encoder.specs.Lists.{rowsIn, whole, outside}
-use Rattle.encoder.specs.Plans.{maxPayload, plan}
+use Rattle.encoder.specs.Plans.{maxPayload, unwritable, plan}
 use Rattle.encoder.specs.Bytes.{requestBytes, tableBytes, frames}
 use Rattle.encoder.specs.Writings.{Encoded, noBytes, bytesOf, maxRequest, askable, plannedBytes, encoded, roomFor, writing, writtenNumbers, encodedNumbers, encodedBytes, plannedNumbers, refusedNumbers, measured}
 use Rattle.encoder.specs.Room.{planAnswer, WholePlan, PayloadRoom}
@@ -53,10 +53,10 @@ answered format ch (refused q) p e = let z : _≡_ {A = ℕ} 0 1 = cc in absurd 
 answered format ch (groups []) p e = let z : _≡_ {A = ℕ} 0 1 = cc in absurd (omega arith)
 answered format ch (groups (g ∷ gs)) p e = record { table-groups = g ∷ gs; planned = refl; table = ap tableOf e; frames = ap framesOf e }
 
-pub unanswered : (format ch : ℕ) (ws : List ℕ) → Planned.Unwritable ≡ planAnswer format ch (plan format ch (rowsIn ws)) → plan format ch (rowsIn ws) ≡ refused Unwritable
+pub unanswered : (format ch : ℕ) (ws : List ℕ) → Planned.Unwritable ≡ planAnswer format ch (plan format ch (rowsIn ws)) → plan format ch (rowsIn ws) ≡ refused unwritable
 unanswered format ch ws e = by-plan (plan format ch (rowsIn ws)) refl e
   where
-    by-plan : (x : Contents) → plan format ch (rowsIn ws) ≡ x → Planned.Unwritable ≡ planAnswer format ch x → plan format ch (rowsIn ws) ≡ refused Unwritable
+    by-plan : (x : Contents) → plan format ch (rowsIn ws) ≡ x → Planned.Unwritable ≡ planAnswer format ch x → plan format ch (rowsIn ws) ≡ refused unwritable
     by-plan (refused q) x y = x ∙ ap refused (plan-refused format ch (rowsIn ws) q x)
     by-plan (groups []) x y = let z : _≡_ {A = ℕ} 0 1 = unfold planAnswer in cc in absurd (omega arith)
     by-plan (groups (g ∷ gs)) x y = let z : _≡_ {A = ℕ} 0 1 = unfold planAnswer in cc in absurd (omega arith)
@@ -94,7 +94,7 @@ module _ (st : Settings) (request : ℕ) (ws bytes : List ℕ) (area : ℕ) (i :
       unfolding writing encoded
       writing-planned = rw (i, o, eq-eqb (length ws % rowWidth) 0 w)
 
-      pub writing-none : plan (st .format) (st .channels) (rowsIn ws) ≡ refused Unwritable → writing st request ws bytes area ≡ noBytes Unwritable
+      pub writing-none : plan (st .format) (st .channels) (rowsIn ws) ≡ refused unwritable → writing st request ws bytes area ≡ noBytes Unwritable
       writing-none e = writing-planned ∙ ap (λ (x : Contents). roomFor area (plannedBytes (st .format) request bytes (rowsIn ws) x)) e
 
       module _ (p : Plan) (d : Answered (st .format) (st .channels) (plan (st .format) (st .channels) (rowsIn ws)) p) where
@@ -144,7 +144,7 @@ module _ (st : Settings) (ws : List ℕ) (i : inRange st ≡ true) where
     unfolding measured
     measured-plan = rw (i, eq-eqb (length ws % rowWidth) 0 w)
 
-    pub measured-none : plan (st .format) (st .channels) (rowsIn ws) ≡ refused Unwritable → refusedNumbers Unwritable ≡ measured st ws
+    pub measured-none : plan (st .format) (st .channels) (rowsIn ws) ≡ refused unwritable → refusedNumbers Unwritable ≡ measured st ws
     measured-none e = sym (measured-plan ∙ ap (plannedNumbers (st .format) (st .channels)) e)
 
     pub measured-all : (p : Plan) → Answered (st .format) (st .channels) (plan (st .format) (st .channels) (rowsIn ws)) p → writtenNumbers (Written.Bytes (formatOf (st .format) .header + p .table + p .frames)) ≡ measured st ws
