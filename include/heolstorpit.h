@@ -12,8 +12,8 @@
  * the call may write to one of them.
  *
  * REFUSALS. Every answer begins with `refusal`: 0, or the number of the first reason that applies. A refusal changes
- * nothing: no byte or word of any area; all other numbers of the answer are 0, and a buffer or a reception record comes
- * back as it was handed in (from hsp_new: all zero).
+ * nothing: no byte or word of any area; all other numbers of the answer are 0 but `offset`, and a buffer or a reception
+ * record comes back as it was handed in (from hsp_new: all zero).
  *
  *    1  packet shorter than 12 or longer than 2,048 bytes
  *    2  RTP version is not 2
@@ -34,6 +34,13 @@
  * The order in which they are asked: reading 11, 12, 1, 2, 3, 4, 5, then 6 to 9 table entry by table entry, then 10.
  * (Redundancy: all block headers 6, then their lengths 10, then block by block as a payload.) Writing 11, 14, 13, 12.
  * hsp_offer and hsp_draw 11, 15, 12, then as reading.
+ *
+ * OFFSETS. With refusals 6 to 10, hsp_read and hsp_offer answer as `offset` a place in the whole packet; else it is 0.
+ *    6 to 9  the first byte of the table entry or block header at fault, also of one cut short; where one is missing, the place
+ *            where it would start (formats 4 and 5: after the mode byte). Of an empty payload: where it would start
+ *    10      the first byte after the tables of the payload or block that has too few bytes or some left over; or after the
+ *            block headers, if their lengths do not fit
+ * Where something is missing there may be padding or the next block at that place, or the end of the packet.
  *
  * ROWS. A frame row is four words:
  *    0  timestamp of the frame
@@ -81,12 +88,12 @@ typedef struct {
 } hsp_settings;
 
 /*
- * hsp_read's answer: the number of rows written, and the packet's header. `marker` is 0 or 1; `source` is the SSRC;
- * `mode_request` is the CMR of RFC 4867, 0 to 15: that of the plain payload, or of the last block with rows. It is 15,
- * which says none, where no block has rows and in formats 1 to 3.
+ * hsp_read's answer: where the fault is (see OFFSETS above), the number of rows written, and the packet's header. `marker`
+ * is 0 or 1; `source` is the SSRC; `mode_request` is the CMR of RFC 4867, 0 to 15: that of the plain payload, or of the last
+ * block with rows. It is 15, which says none, where no block has rows and in formats 1 to 3.
  */
 typedef struct {
-    uint32_t refusal, rows, marker, sequence, timestamp, source, mode_request;
+    uint32_t refusal, offset, rows, marker, sequence, timestamp, source, mode_request;
 } hsp_reading;
 
 /* The writers' answer: the number of bytes written at the front of `out`. */
@@ -121,7 +128,7 @@ typedef struct {
 } hsp_fresh;
 
 /*
- * hsp_offer's answer: how many rows of the packet (those with no data left out)
+ * hsp_offer's answer: where the fault is (see OFFSETS above), and how many rows of the packet (those with no data left out)
  *   late      came too late: a frame was drawn, and this one is not after it
  *   far       lie 2^31 ticks or more from frames held, before any frame was drawn
  *   repeated  are held already, and this copy is no better
@@ -131,7 +138,7 @@ typedef struct {
  *   inserted  are new
  */
 typedef struct {
-    uint32_t refusal, late, far, repeated, better, no_room, inserted;
+    uint32_t refusal, offset, late, far, repeated, better, no_room, inserted;
     hsp_buffer buffer;
 } hsp_offered;
 

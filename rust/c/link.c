@@ -8,7 +8,8 @@
 
 #define HOLDS(name, fact) typedef char name[(fact) ? 1 : -1]
 HOLDS(settings_size, sizeof(hsp_settings) == 4);
-HOLDS(reading_size, sizeof(hsp_reading) == 28 && offsetof(hsp_reading, mode_request) == 24);
+HOLDS(reading_size, sizeof(hsp_reading) == 32 && offsetof(hsp_reading, mode_request) == 28);
+HOLDS(reading_offset, offsetof(hsp_reading, offset) == 4 && offsetof(hsp_reading, rows) == 8);
 HOLDS(written_size, sizeof(hsp_written) == 8);
 HOLDS(buffer_size, sizeof(hsp_buffer) == 3112);
 HOLDS(buffer_tags, offsetof(hsp_buffer, tags) == 768);
@@ -19,6 +20,7 @@ HOLDS(buffer_last, offsetof(hsp_buffer, last_time) == 3096 && offsetof(hsp_buffe
 HOLDS(buffer_drawn, offsetof(hsp_buffer, drawn) == 3104 && offsetof(hsp_buffer, settings) == 3108);
 HOLDS(fresh_size, sizeof(hsp_fresh) == 3120 && offsetof(hsp_fresh, buffer) == 8);
 HOLDS(offered_size, sizeof(hsp_offered) == 3144 && offsetof(hsp_offered, buffer) == 32);
+HOLDS(offered_offset, offsetof(hsp_offered, offset) == 4 && offsetof(hsp_offered, late) == 8 && offsetof(hsp_offered, inserted) == 28);
 HOLDS(drawn_size, sizeof(hsp_drawn) == 3136 && offsetof(hsp_drawn, buffer) == 24);
 HOLDS(reception_size, sizeof(hsp_reception) == 56 && offsetof(hsp_reception, jitter) == 0);
 HOLDS(reception_first, offsetof(hsp_reception, probation) == 8 && offsetof(hsp_reception, started) == 12);
@@ -61,15 +63,21 @@ int main(void) {
     {
         hsp_reading r = hsp_read(settings, packet, sizeof packet, rows, HSP_ROW_AREA);
         EXPECT(r.refusal == 0 && r.rows == 3 && r.marker == 1 && r.sequence == 0x1234 && r.timestamp == 4096 && r.source == 9);
-        EXPECT(r.mode_request == HSP_NO_MODE_REQUEST);
+        EXPECT(r.mode_request == HSP_NO_MODE_REQUEST && r.offset == 0);
         EXPECT(rows[0] == 4096 && rows[1] == 256 && rows[2] == 16 && rows[3] == 80);
         EXPECT(rows[4] == 5056 && rows[5] == 256 && rows[6] == 96 && rows[7] == 80);
         EXPECT(rows[8] == 6016 && rows[9] == 256 && rows[10] == 176 && rows[11] == 120 && rows[12] == 0xEEEEEEEE);
         r = hsp_read(settings, packet, sizeof packet - 1, rows, HSP_ROW_AREA);
         EXPECT(r.refusal == 10 && r.rows == 0 && r.marker == 0 && r.sequence == 0 && r.timestamp == 0 && r.source == 0);
-        EXPECT(r.mode_request == 0);
+        /* the first byte after the two entries; then the second entry cut short, and missing */
+        EXPECT(r.mode_request == 0 && r.offset == 16);
+        r = hsp_read(settings, packet, 15, rows, HSP_ROW_AREA);
+        EXPECT(r.refusal == 6 && r.offset == 14);
+        r = hsp_read(settings, packet, 14, rows, HSP_ROW_AREA);
+        EXPECT(r.refusal == 6 && r.offset == 14);
         settings.channels = 3;
-        EXPECT(hsp_read(settings, packet, sizeof packet, rows, HSP_ROW_AREA).refusal == 11);
+        r = hsp_read(settings, packet, 14, rows, HSP_ROW_AREA);
+        EXPECT(r.refusal == 11 && r.offset == 0);
         settings.channels = 1;
         r = hsp_read(amr_settings, amr, sizeof amr, rows, HSP_ROW_AREA);
         EXPECT(r.refusal == 0 && r.rows == 3 && r.mode_request == 7);
@@ -110,9 +118,12 @@ int main(void) {
         EXPECT(f.refusal == 0);
         o = hsp_offer(f.buffer, packet, sizeof packet, rows, HSP_ROW_AREA, store, sizeof store);
         EXPECT(o.refusal == 0 && o.inserted == 3 && o.late == 0 && o.far == 0 && o.repeated == 0 && o.better == 0 && o.no_room == 0);
+        EXPECT(o.offset == 0);
         first = o.buffer;
         o = hsp_offer(o.buffer, packet, sizeof packet, rows, HSP_ROW_AREA, store, sizeof store);
         EXPECT(o.refusal == 0 && o.repeated == 3 && o.inserted == 0 && memcmp(&first, &o.buffer, sizeof first) == 0);
+        o = hsp_offer(o.buffer, packet, sizeof packet - 1, rows, HSP_ROW_AREA, store, sizeof store);
+        EXPECT(o.refusal == 10 && o.offset == 16 && o.repeated == 0 && memcmp(&first, &o.buffer, sizeof first) == 0);
         d = hsp_draw(o.buffer, store, sizeof store, area, sizeof area);
         EXPECT(d.refusal == 0 && d.empty == 0 && d.time == 4096 && d.channel == 0 && d.frame_class == 1 && d.length == 80);
         EXPECT(memcmp(area, packet + 16, 80) == 0 && d.buffer.drawn == 1 && d.buffer.last_time == 4096);

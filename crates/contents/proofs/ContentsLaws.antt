@@ -16,6 +16,7 @@ use Rattle.contents.specs.declared.entries.Entry.{Entry}
 use Rattle.contents.specs.declared.entries.EntryRead.{EntryRead}
 use Rattle.contents.specs.declared.entries.Sizes.{Sizes}
 use Rattle.contents.specs.declared.entries.ContentsRead.{ContentsRead}
+use Rattle.rtp.specs.Faults.{fault, shifted}
 use Rattle.contents.specs.Contents.{entrySize, entryOf, Contents, refused, groups, gapsFrom, meaning, prepend, contentsStep, contentsBy, contents, rowCount, sizeIn, framesIn, sizesAnswer}
 use Rattle.contents.proofs.EntryLaws.{fair}
 
@@ -69,30 +70,30 @@ pub record Small (rows n : ℕ) (t : Sizes) : Type 0 where
 
 abbrev pub Within : ℕ → ℕ → ContentsRead → Type 0
 Within rows n (ContentsRead.Contents t) = Small rows n t
-Within rows n (ContentsRead.Refused k) = Unit {0}
+Within rows n (ContentsRead.Refused f) = f .offset ≤ n
 
 -- The table and its sizes by the first entry
 
 -- an entry's numbers before those of what follows
 abbrev pub ahead : ℕ → Entry → ContentsRead → ContentsRead
-ahead ch e (ContentsRead.Refused n) = ContentsRead.Refused n
+ahead ch e (ContentsRead.Refused f) = ContentsRead.Refused (shifted (e .size) f)
 ahead ch e (ContentsRead.Contents t) =
     ContentsRead.Contents (record { rows = e .blocks * ch + t .rows; size = e .size + t .size; frames = e .blocks * ch * e .length + t .frames })
 
 module _ (format ch rows : ℕ) (s : List ℕ) where
-  pub contents-refused : (n : Refusal) → entryOf format s ≡ EntryRead.Refused n → contents format ch rows s ≡ refused n
+  pub contents-refused : (n : Refusal) → entryOf format s ≡ EntryRead.Refused n → contents format ch rows s ≡ refused (fault n)
   contents-refused n h = rw (contents-step, h)
 
-  pub at-refused : (n : Refusal) → entryOf format s ≡ EntryRead.Refused n → sizesAnswer format ch (contents format ch rows s) ≡ ContentsRead.Refused n
+  pub at-refused : (n : Refusal) → entryOf format s ≡ EntryRead.Refused n → sizesAnswer format ch (contents format ch rows s) ≡ ContentsRead.Refused (fault n)
   unfolding sizesAnswer
   at-refused n h = rw (contents-refused n h)
 
   module _ (e : Entry) (h : entryOf format s ≡ EntryRead.Entry e) where
-    pub at-many : maxRows < rows + e .blocks * ch → sizesAnswer format ch (contents format ch rows s) ≡ ContentsRead.Refused TooManyRows
+    pub at-many : maxRows < rows + e .blocks * ch → sizesAnswer format ch (contents format ch rows s) ≡ ContentsRead.Refused (fault TooManyRows)
     unfolding sizesAnswer
     at-many l = rw (contents-step, h) (simp (lt-ltb _ _ l))
 
-    more-answer : e .size ≡ entrySize format (e .blocks) → (p : Contents) → sizesAnswer format ch (prepend (meaning format s e) p) ≡ ahead ch e (sizesAnswer format ch p)
+    more-answer : e .size ≡ entrySize format (e .blocks) → (p : Contents) → sizesAnswer format ch (prepend (e .size) (meaning format s e) p) ≡ ahead ch e (sizesAnswer format ch p)
     unfolding sizesAnswer rowCount sizeIn framesIn
     more-answer z (refused n) = refl
     more-answer z (groups es) = simp (blocks-of, len-of, z)
@@ -106,7 +107,7 @@ module _ (format ch rows : ℕ) (s : List ℕ) where
       unfolding sizesAnswer rowCount sizeIn framesIn
       at-last m = let k = fair format s e h in rw (contents-last m) (simp (blocks-of, len-of, add-zero, k .sized))
 
-      pub contents-more : e .more ≡ true → contents format ch rows s ≡ prepend (meaning format s e) (contents format ch (rows + e .blocks * ch) (drop (e .size) s))
+      pub contents-more : e .more ≡ true → contents format ch rows s ≡ prepend (e .size) (meaning format s e) (contents format ch (rows + e .blocks * ch) (drop (e .size) s))
       contents-more m = rw (contents-step format ch rows s, h) (simp (le-ltb _ _ l, m))
 
       pub at-more : e .more ≡ true
@@ -121,18 +122,18 @@ within-last rows n ch e h k l = record { few = h; within = k; short = omega (ari
 
 within-more : (rows n ch : ℕ) (e : Entry) (r : ContentsRead) → e .size ≤ n → e .length ≤ maxFrame
     → Within (rows + e .blocks * ch) (n - e .size) r → Within rows n (ahead ch e r)
-within-more rows n ch e (ContentsRead.Refused k) z l w = tt
+within-more rows n ch e (ContentsRead.Refused f) z l w = omega arith
 within-more rows n ch e (ContentsRead.Contents t) z l w =
     record { few = omega arith; within = omega arith; short = omega (arith, mul-le-mul-left (e .blocks * ch) l) }
 
 within-step : (f format ch rows : ℕ) (s : List ℕ) → length s < suc f
     → ((n : ℕ) (t : List ℕ) → length t < f → Within n (length t) (sizesAnswer format ch (contents format ch n t)))
     → (r : EntryRead) → entryOf format s ≡ r → Within rows (length s) (sizesAnswer format ch (contents format ch rows s))
-within-step f format ch rows s h ih (EntryRead.Refused n) q = rw (at-refused format ch rows s n q) tt
+within-step f format ch rows s h ih (EntryRead.Refused n) q = rw (at-refused format ch rows s n q) (omega arith)
 within-step f format ch rows s h ih (EntryRead.Entry e) q =
     let k = fair format s e q in
     by-test (ltb maxRows (rows + e .blocks * ch))
-    (λ a. rw (at-many format ch rows s e q (ltb-true _ _ a)) tt)
+    (λ a. rw (at-many format ch rows s e q (ltb-true _ _ a)) (omega arith))
     (λ a. by-test (e .more)
     (λ m. rw (at-more format ch rows s e q (ltb-false _ _ a) m)
     (within-more rows (length s) ch e (sizesAnswer format ch (contents format ch (rows + e .blocks * ch) (drop (e .size) s))) (k .within) (k .short)

@@ -1,7 +1,7 @@
 -- Answers with the same numbers are the same.
 use mathlib.Core.Path.{_≡_, refl, ap, sym, _∙_}
 use Prim.Native.Nat.{ℕ}
-use Rattle.rtp.proofs.RefusalLaws.{same-number, not-zero}
+use Rattle.rtp.proofs.RefusalLaws.{same-number, same-fault, not-zero}
 use Rattle.contents.specs.declared.entries.EntryRead.{EntryRead}
 use Rattle.contents.specs.declared.entries.ContentsRead.{ContentsRead}
 use Rattle.contents.specs.Contents.{EntryNumbers, entryNumbers, Contents, refused, groups, ContentsNumbers, contentsReadNumbers, contentsNumbers, sizesAnswer}
@@ -13,9 +13,10 @@ same-entry (EntryRead.Entry x) (EntryRead.Refused q) e = not-zero q (sym (ap (λ
 same-entry (EntryRead.Entry x) (EntryRead.Entry y) e = ap (λ (n : EntryNumbers). EntryRead.Entry (n .entry)) e
 
 same-contents : (a b : ContentsRead) → contentsReadNumbers a ≡ contentsReadNumbers b → a ≡ b
-same-contents (ContentsRead.Refused p) (ContentsRead.Refused q) e = ap ContentsRead.Refused (same-number p q (ap (λ (n : ContentsNumbers). n .refusal) e))
-same-contents (ContentsRead.Refused p) (ContentsRead.Contents t) e = not-zero p (ap (λ (n : ContentsNumbers). n .refusal) e)
-same-contents (ContentsRead.Contents t) (ContentsRead.Refused q) e = not-zero q (sym (ap (λ (n : ContentsNumbers). n .refusal) e))
+same-contents (ContentsRead.Refused p) (ContentsRead.Refused q) e =
+    ap ContentsRead.Refused (same-fault p q (ap (λ (n : ContentsNumbers). n .refusal) e) (ap (λ (n : ContentsNumbers). n .offset) e))
+same-contents (ContentsRead.Refused p) (ContentsRead.Contents t) e = not-zero (p .refusal) (ap (λ (n : ContentsNumbers). n .refusal) e)
+same-contents (ContentsRead.Contents t) (ContentsRead.Refused q) e = not-zero (q .refusal) (sym (ap (λ (n : ContentsNumbers). n .refusal) e))
 same-contents (ContentsRead.Contents t) (ContentsRead.Contents u) e =
     ap (λ (n : ContentsNumbers). ContentsRead.Contents (record { rows = n .rows; size = n .size; frames = n .frames })) e
 

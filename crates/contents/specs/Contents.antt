@@ -7,7 +7,8 @@ use lib.Dec.{ltb, leb, eqb}
 use Rattle.rtp.specs.Sizes.{maxRows}
 use Rattle.rtp.specs.Numbers.{byteAt}
 use Rattle.rtp.specs.Refusals.{number}
-use Rattle.rtp.specs.declared.refusal.Refusal.{Refusal}
+use Rattle.rtp.specs.Faults.{fault, shifted}
+use Rattle.rtp.specs.declared.refusal.Fault.{Fault}
 use Rattle.rtp.specs.declared.refusal.Refusal.the-variants.{ContentsTruncated, ReservedCode, NoFrameBlocks, TooManyRows}
 use Rattle.formats.specs.declared.frames.Coded.{Coded}
 use Rattle.contents.specs.declared.entries.Entry.{Entry}
@@ -72,7 +73,7 @@ pub record Group : Type 0 where
   pub gaps : List ℕ
 
 pub data Contents : Type 0 where
-  refused : Refusal → Contents
+  refused : Fault → Contents
   groups : List Group → Contents
 
 -- the k-th half byte of s, high half first
@@ -91,21 +92,22 @@ gapsFrom format s k (suc n) = gapAt format s k ∷ gapsFrom format s (k + 1) n
 unfoldable pub meaning : ℕ → List ℕ → Entry → Group
 meaning format s e = record { class = e .class; length = e .length; gaps = gapsFrom format s 0 (e .blocks) }
 
-abbrev pub prepend : Group → Contents → Contents
-prepend g (refused r) = refused r
-prepend g (groups gs) = groups (g ∷ gs)
+-- an entry of so many bytes before the others
+abbrev pub prepend : ℕ → Group → Contents → Contents
+prepend size g (refused f) = refused (shifted size f)
+prepend size g (groups gs) = groups (g ∷ gs)
 
 -- what the entry read at the front of s makes of the table, where `next` reads what follows
 abbrev pub contentsStep : ℕ → ℕ → ℕ → List ℕ → (ℕ → List ℕ → Contents) → EntryRead → Contents
-contentsStep format ch rows s next (EntryRead.Refused r) = refused r
+contentsStep format ch rows s next (EntryRead.Refused r) = refused (fault r)
 contentsStep format ch rows s next (EntryRead.Entry e) =
-    cond (ltb maxRows (rows + e .blocks * ch)) (refused TooManyRows)
-    (cond (e .more) (prepend (meaning format s e) (next (rows + e .blocks * ch) (drop (e .size) s)))
+    cond (ltb maxRows (rows + e .blocks * ch)) (refused (fault TooManyRows))
+    (cond (e .more) (prepend (e .size) (meaning format s e) (next (rows + e .blocks * ch) (drop (e .size) s)))
     (groups (meaning format s e ∷ [])))
 
 -- by fuel
 unfoldable pub contentsBy : ℕ → ℕ → ℕ → ℕ → List ℕ → Contents
-contentsBy zero format ch rows s = refused ContentsTruncated
+contentsBy zero format ch rows s = refused (fault ContentsTruncated)
 contentsBy (suc f) format ch rows s = contentsStep format ch rows s (λ r t. contentsBy f format ch r t) (entryOf format s)
 
 -- the table at the front of s, after `rows` rows of the same packet; an entry with F set is followed by another
@@ -120,7 +122,7 @@ direct [] = []
 direct (gap ∷ gaps) = 0 ∷ gaps
 
 abbrev pub passFirst : Contents → Contents
-passFirst (refused r) = refused r
+passFirst (refused f) = refused f
 passFirst (groups []) = groups []
 passFirst (groups (g ∷ gs)) = groups (record { class = g .class; length = g .length; gaps = direct (g .gaps) } ∷ gs)
 
@@ -137,24 +139,25 @@ unfoldable pub framesIn : ℕ → List Group → ℕ
 framesIn ch [] = 0
 framesIn ch (g ∷ gs) = length (g .gaps) * ch * g .length + framesIn ch gs
 
--- The answer in numbers: the refusal number or 0, and the three sizes, 0 on refusal
+-- The answer in numbers: the refusal number or 0, the place of the fault, and the three sizes, 0 on refusal
 pub record ContentsNumbers : Type 0 where
   pub refusal : ℕ
+  pub offset : ℕ
   pub rows : ℕ
   pub size : ℕ
   pub frames : ℕ
 
 -- of the code's answer, case by case
 abbrev pub contentsReadNumbers : ContentsRead → ContentsNumbers
-contentsReadNumbers (ContentsRead.Refused r) = record { refusal = number r; rows = 0; size = 0; frames = 0 }
-contentsReadNumbers (ContentsRead.Contents t) = record { refusal = 0; rows = t .rows; size = t .size; frames = t .frames }
+contentsReadNumbers (ContentsRead.Refused f) = record { refusal = number (f .refusal); offset = f .offset; rows = 0; size = 0; frames = 0 }
+contentsReadNumbers (ContentsRead.Contents t) = record { refusal = 0; offset = 0; rows = t .rows; size = t .size; frames = t .frames }
 
 -- of the table
 unfoldable pub contentsNumbers : ℕ → ℕ → Contents → ContentsNumbers
-contentsNumbers format ch (refused r) = record { refusal = number r; rows = 0; size = 0; frames = 0 }
-contentsNumbers format ch (groups gs) = record { refusal = 0; rows = rowCount ch gs; size = sizeIn format gs; frames = framesIn ch gs }
+contentsNumbers format ch (refused f) = record { refusal = number (f .refusal); offset = f .offset; rows = 0; size = 0; frames = 0 }
+contentsNumbers format ch (groups gs) = record { refusal = 0; offset = 0; rows = rowCount ch gs; size = sizeIn format gs; frames = framesIn ch gs }
 
 -- the code's answer that has them
 unfoldable pub sizesAnswer : ℕ → ℕ → Contents → ContentsRead
-sizesAnswer format ch (refused r) = ContentsRead.Refused r
+sizesAnswer format ch (refused f) = ContentsRead.Refused f
 sizesAnswer format ch (groups gs) = ContentsRead.Contents (record { rows = rowCount ch gs; size = sizeIn format gs; frames = framesIn ch gs })

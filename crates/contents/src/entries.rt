@@ -3,6 +3,7 @@ use formats::facts;
 use formats::frames;
 use formats::frames::Coded;
 use rtp::bytes;
+use rtp::refusal::Fault;
 use rtp::refusal::Refusal;
 use rtp::sizes::MAX_ROWS;
 ghost use mathlib.Core.Path.{_≡_};
@@ -34,7 +35,7 @@ pub struct Sizes {
 
 pub enum ContentsRead {
     Contents(Sizes),
-    Refused(Refusal),
+    Refused(Fault),
 }
 
 // The bytes that an entry has at least.
@@ -113,18 +114,27 @@ pub fn read_contents(format: u8, channels: u8, rows: u32, s: &[u8]) -> ContentsR
     ensures { λ r. ⌜ contentsReadNumbers r ≡ contentsNumbers format channels (contents format channels rows (now (s .entry))) ⌝ }
 {
     match read_entry(format, &s[0..]) {
-        EntryRead::Refused(refusal) => ContentsRead::Refused(refusal),
+        EntryRead::Refused(refusal) => ContentsRead::Refused(Fault { refusal, offset: 0 }),
         EntryRead::Entry(entry) => {
             let here = entry.blocks * (channels as usize);
             let so_far = (rows as usize) + here;
             if MAX_ROWS < so_far {
-                return ContentsRead::Refused(Refusal::TooManyRows);
+                return ContentsRead::Refused(Fault {
+                    refusal: Refusal::TooManyRows,
+                    offset: 0,
+                });
             }
             let frames = here * entry.length;
             let size = entry.size;
             if entry.more {
                 match read_contents(format, channels, so_far as u32, &s[size..]) {
-                    ContentsRead::Refused(refusal) => ContentsRead::Refused(refusal),
+                    ContentsRead::Refused(fault) => {
+                        let refusal = fault.refusal;
+                        ContentsRead::Refused(Fault {
+                            refusal,
+                            offset: size + fault.offset,
+                        })
+                    }
                     ContentsRead::Contents(rest) => ContentsRead::Contents(Sizes {
                         rows: here + rest.rows,
                         size: size + rest.size,

@@ -52,7 +52,7 @@ pub record Step : Type 0 where
 
 -- the copies that an offer judges: those of its packet, in order; none if it is refused
 abbrev pub judgementsOf : Result Offered → List Judgement
-judgementsOf (refused r) = []
+judgementsOf (refused f) = []
 judgementsOf (done o) = o .gathered .judgements
 
 unfoldable pub judgedBy : Buffer → List ℕ → List ℕ → List ℕ → List Judgement

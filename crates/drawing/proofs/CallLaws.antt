@@ -12,8 +12,7 @@ use Rattle.playout.specs.Entries.{Entry}
 use Rattle.layout.specs.declared.buffer.Buffer.{Buffer}
 use Rattle.layout.specs.Layout.{decode}
 use Rattle.layout.specs.WellFormed.{wellFormed}
-use Rattle.reorder.specs.ModelCalls.{done}
-use Rattle.drawing.specs.ModelCalls.{earliest, drawFrom}
+use Rattle.drawing.specs.ModelCalls.{done, earliest, drawFrom}
 use Rattle.drawing.specs.Calls.{DrawOutcome, drawRefused, drawDone, drawCall}
 
 -- a draw that goes through the areas, with the entries held

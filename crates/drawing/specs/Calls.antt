@@ -2,7 +2,7 @@
 use Prim.Native.Nat.{ℕ}
 use mathlib.Core.List.{List}
 use mathlib.Core.Bool.{cond}
-use mathlib.Core.Option.{Option, none, some}
+use mathlib.Core.Option.{none, some}
 use lib.ListN.{length}
 use Rattle.rtp.specs.Ranges.{inRange}
 use Rattle.rtp.specs.Refusals.{number}
@@ -12,9 +12,8 @@ use Rattle.rtp.specs.declared.refusal.Refusal.the-variants.{SettingsOutOfRange,
 use Rattle.layout.specs.declared.buffer.Buffer.{Buffer}
 use Rattle.layout.specs.Layout.{encode, model}
 use Rattle.layout.specs.WellFormed.{wellFormed}
-use Rattle.reorder.specs.ModelCalls.{Result, refused, done}
 use Rattle.drawing.specs.declared.draws.DrawAnswer.{DrawAnswer}
-use Rattle.drawing.specs.ModelCalls.{HandedOut, drawFrom}
+use Rattle.drawing.specs.ModelCalls.{Result, refused, done, drawFrom}
 
 -- the answer in numbers: the refusal number or 0, 1 if the buffer is empty, and the frame's time, channel, class and length, or zeros
 pub record DrawNumbers : Type 0 where
@@ -43,7 +42,7 @@ abbrev pub drawRefused : Refusal → Buffer → List ℕ → DrawOutcome
 drawRefused r b area = record { answer = noFrame (number r) 0; buffer = b; area = area }
 
 -- what a draw does to the model, as buffer and area; an empty buffer stays as it stood
-abbrev pub drawDone : Buffer → List ℕ → Result (Option HandedOut) → DrawOutcome
+abbrev pub drawDone : Buffer → List ℕ → Result → DrawOutcome
 drawDone b area (refused r) = drawRefused r b area
 drawDone b area (done none) = record { answer = noFrame 0 1; buffer = b; area = area }
 drawDone b area (done (some d)) = record {

@@ -14,8 +14,7 @@ ghost use mathlib.Core.Path.{_≡_};
 ghost use mathlib.Core.Bool.{true};
 ghost use Rattle.rtp.specs.Ranges.{inRange};
 ghost use Rattle.layout.specs.Layout.{decode};
-ghost use Rattle.reorder.specs.ModelCalls.{done};
-ghost use Rattle.drawing.specs.ModelCalls.{earliest};
+ghost use Rattle.drawing.specs.ModelCalls.{done, earliest};
 ghost use Rattle.drawing.specs.Calls.{drawNumbers, drawDone, drawCall};
 ghost use Rattle.drawing.specs.Drawable.{Drawable};
 

@@ -12,15 +12,14 @@ use borrow.Rule.Slice.PartMut.{putMid}
 use Rattle.rtp.specs.Sizes.{rowWidth, maxRows}
 use Rattle.rtp.specs.Areas.{over}
 use Rattle.rtp.specs.Time.{difference}
-use Rattle.rtp.specs.declared.refusal.Refusal.{Refusal}
-use Rattle.rtp.specs.declared.refusal.Refusal.the-variants.{Unwritable}
+use Rattle.rtp.specs.declared.refusal.Fault.{Fault}
 use Rattle.rtp.proofs.TestLaws.{by-test}
 use Rattle.rtp.proofs.AreaLaws.{over-part}
 use Rattle.formats.specs.Formats.{formatOf, stepOf, maxGap}
 use Rattle.contents.specs.Contents.{Group, Contents, refused, groups, sizeIn, framesIn}
 use Rattle.payload.specs.Rows.{Row}
 use Rattle.plans.specs.Lists.{rowsIn, outside}
-use Rattle.plans.specs.Plans.{maxPayload, gapBetween, headGap, joins, attach, follows, nextChannel, planFrom, stepBefore, payloadSize, fitting, plan}
+use Rattle.plans.specs.Plans.{maxPayload, unwritable, gapBetween, headGap, joins, attach, follows, nextChannel, planFrom, stepBefore, payloadSize, fitting, plan}
 use Rattle.encoder.specs.Bytes.{requestBytes, tableBytes, frames}
 use Rattle.encoder.specs.Writings.{plannedBytes, encodedBytes}
 use Rattle.plans.specs.Room.{rowAs, wordsAt}
@@ -35,7 +34,7 @@ use Rattle.encoder.proofs.RequestLaws.{length-request}
 -- Where there is no plan, the reason is 13
 
 abbrev Plain : Contents → Type 0
-Plain (refused q) = q ≡ Unwritable
+Plain (refused q) = q ≡ unwritable
 Plain (groups gs) = Unit {0}
 
 plain-attach : (format : ℕ) (r : Row) (gap : ℕ) (x : Contents) → Plain x → Plain (attach format r gap x)
@@ -63,7 +62,7 @@ plain-plan format ch [] = refl
 plain-plan format ch (r ∷ rs) =
     by-test (ltb maxRows (length (r ∷ rs))) (λ a. rw a refl) (λ a. rw a (plain-fitting format ch (planFrom format ch 0 (stepBefore format r) (r ∷ rs)) (plain-from format ch 0 (stepBefore format r) (r ∷ rs))))
 
-pub plan-refused : (format ch : ℕ) (rs : List Row) (q : Refusal) → plan format ch rs ≡ refused q → q ≡ Unwritable
+pub plan-refused : (format ch : ℕ) (rs : List Row) (q : Fault) → plan format ch rs ≡ refused q → q ≡ unwritable
 plan-refused format ch rs q e = subst (λ (x : Contents). Plain x) e (plain-plan format ch rs)
 
 -- What a plan says of a whole list

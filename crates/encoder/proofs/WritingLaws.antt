@@ -20,7 +20,7 @@ use Rattle.plans.specs.declared.planning.Sizes.{Sizes}
 use Rattle.plans.specs.declared.planning.ListPlan.{ListPlan}
 use Rattle.encoder.specs.declared.writing.Written.{Written}
 use Rattle.plans.specs.Lists.{rowsIn, whole, outside}
-use Rattle.plans.specs.Plans.{maxPayload, payloadSize, plan}
+use Rattle.plans.specs.Plans.{maxPayload, unwritable, payloadSize, plan}
 use Rattle.encoder.specs.Bytes.{requestBytes, tableBytes, frames}
 use Rattle.encoder.specs.Writings.{Encoded, noBytes, bytesOf, maxRequest, askable, plannedBytes, encoded, roomFor, writing, writtenNumbers, encodedNumbers, encodedBytes, plannedNumbers, refusedNumbers, measured}
 use Rattle.plans.specs.Room.{listAnswer}
@@ -50,10 +50,10 @@ unfolding listAnswer
 answered format ch (refused q) s e = let z : _≡_ {A = ℕ} 0 1 = cc in absurd (omega arith)
 answered format ch (groups gs) s e = record { table-groups = gs; planned = refl; table = ap tableOf e; payload = ap payloadOf e }
 
-pub unanswered : (format ch : ℕ) (ws : List ℕ) → ListPlan.Unwritable ≡ listAnswer format ch (plan format ch (rowsIn ws)) → plan format ch (rowsIn ws) ≡ refused Unwritable
+pub unanswered : (format ch : ℕ) (ws : List ℕ) → ListPlan.Unwritable ≡ listAnswer format ch (plan format ch (rowsIn ws)) → plan format ch (rowsIn ws) ≡ refused unwritable
 unanswered format ch ws e = by-plan (plan format ch (rowsIn ws)) refl e
   where
-    by-plan : (x : Contents) → plan format ch (rowsIn ws) ≡ x → ListPlan.Unwritable ≡ listAnswer format ch x → plan format ch (rowsIn ws) ≡ refused Unwritable
+    by-plan : (x : Contents) → plan format ch (rowsIn ws) ≡ x → ListPlan.Unwritable ≡ listAnswer format ch x → plan format ch (rowsIn ws) ≡ refused unwritable
     by-plan (refused q) x y = x ∙ ap refused (plan-refused format ch (rowsIn ws) q x)
     by-plan (groups gs) x y = let z : _≡_ {A = ℕ} 0 1 = unfold listAnswer in cc in absurd (omega arith)
 
@@ -82,7 +82,7 @@ module _ (st : Settings) (request : ℕ) (ws bytes : List ℕ) (area : ℕ) (i :
       unfolding writing encoded
       writing-planned = rw (i, o, eq-eqb (length ws % rowWidth) 0 w)
 
-      pub writing-none : plan (st .format) (st .channels) (rowsIn ws) ≡ refused Unwritable → writing st request ws bytes area ≡ noBytes Unwritable
+      pub writing-none : plan (st .format) (st .channels) (rowsIn ws) ≡ refused unwritable → writing st request ws bytes area ≡ noBytes Unwritable
       writing-none e = writing-planned ∙ ap (λ (x : Contents). roomFor area (plannedBytes (st .format) request bytes (rowsIn ws) x)) e
 
       module _ (s : Sizes) (d : Answered (st .format) (st .channels) (plan (st .format) (st .channels) (rowsIn ws)) s) where
@@ -132,7 +132,7 @@ module _ (st : Settings) (ws : List ℕ) (i : inRange st ≡ true) where
     unfolding measured
     measured-plan = rw (i, eq-eqb (length ws % rowWidth) 0 w)
 
-    pub measured-none : plan (st .format) (st .channels) (rowsIn ws) ≡ refused Unwritable → refusedNumbers Unwritable ≡ measured st ws
+    pub measured-none : plan (st .format) (st .channels) (rowsIn ws) ≡ refused unwritable → refusedNumbers Unwritable ≡ measured st ws
     measured-none e = sym (measured-plan ∙ ap (plannedNumbers (st .format) (st .channels)) e)
 
     pub measured-all : (s : Sizes) → Answered (st .format) (st .channels) (plan (st .format) (st .channels) (rowsIn ws)) s → writtenNumbers (Written.Bytes (s .payload)) ≡ measured st ws

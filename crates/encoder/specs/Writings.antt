@@ -22,7 +22,7 @@ pub data Encoded : Type 0 where
   bytesOf : List ℕ → Encoded
 
 abbrev pub plannedBytes : ℕ → ℕ → List ℕ → List Row → Contents → Encoded
-plannedBytes format request bytes rs (refused q) = noBytes q
+plannedBytes format request bytes rs (refused f) = noBytes (f .refusal)
 plannedBytes format request bytes rs (groups gs) = bytesOf (requestBytes format request ++ (tableBytes format gs ++ frames bytes rs))
 
 -- the canonical payload of a frame list, with this mode request
@@ -77,7 +77,7 @@ abbrev pub refusedNumbers : Refusal → Numbers
 refusedNumbers r = record { refusal = number r; count = 0 }
 
 abbrev pub plannedNumbers : ℕ → ℕ → Contents → Numbers
-plannedNumbers format ch (refused r) = refusedNumbers r
+plannedNumbers format ch (refused f) = refusedNumbers (f .refusal)
 plannedNumbers format ch (groups gs) = record { refusal = 0; count = payloadSize format ch gs }
 
 unfoldable pub measured : Settings → List ℕ → Numbers

@@ -6,7 +6,8 @@ use native.Mathlib.Omega.{arith}
 use lib.ListN.{length, length-append}
 use Rattle.rtp.specs.Sizes.{maxRows, rowWidth}
 use Rattle.rtp.specs.Areas.{over}
-use Rattle.rtp.specs.declared.refusal.Refusal.{Refusal}
+use Rattle.rtp.specs.Faults.{shifted}
+use Rattle.rtp.specs.declared.refusal.Fault.{Fault}
 use Rattle.rtp.proofs.AreaLaws.{over-none}
 use Rattle.payload.specs.declared.reading.PayloadRead.{PayloadRead}
 use Rattle.payload.specs.Rows.{Row, words}
@@ -41,7 +42,7 @@ unfolding rowsAnswer
 then-answer (noRows r) next = refl
 then-answer (rowsOf rs) next = prepend-answer rs (next (length rs))
 
-answer-same : (p : PayloadRead) (f g : ℕ → PayloadRead) → ((n : ℕ) → f n ≡ g n) → thenAnswer p f ≡ thenAnswer p g
+pub answer-same : (p : PayloadRead) (f g : ℕ → PayloadRead) → ((n : ℕ) → f n ≡ g n) → thenAnswer p f ≡ thenAnswer p g
 answer-same (PayloadRead.Refused r) f g h = refl
 answer-same (PayloadRead.Rows n) f g h = ap (addAnswer n) (h n)
 
@@ -51,6 +52,55 @@ then-same x y f g h k =
     ∙ ap (λ (p : PayloadRead). thenAnswer p (λ n. rowsAnswer (f n))) h
     ∙ answer-same (rowsAnswer y) (λ n. rowsAnswer (f n)) (λ n. rowsAnswer (g n)) k
     ∙ sym (then-answer y g)
+
+-- Counted from n bytes before
+
+abbrev pub further : ℕ → PayloadRead → PayloadRead
+further n (PayloadRead.Refused f) = PayloadRead.Refused (shifted n f)
+further n (PayloadRead.Rows m) = PayloadRead.Rows m
+
+add-further : (n m : ℕ) (p : PayloadRead) → addAnswer m (further n p) ≡ further n (addAnswer m p)
+add-further n m (PayloadRead.Refused f) = refl
+add-further n m (PayloadRead.Rows k) = refl
+
+answer-further : (n : ℕ) (p : PayloadRead) (f : ℕ → PayloadRead) → thenAnswer (further n p) (λ i. further n (f i)) ≡ further n (thenAnswer p f)
+answer-further n (PayloadRead.Refused r) f = refl
+answer-further n (PayloadRead.Rows m) f = add-further n m (f m)
+
+pub then-further : (n : ℕ) (x y : Rows) (f g : ℕ → Rows) → rowsAnswer x ≡ further n (rowsAnswer y) → ((i : ℕ) → rowsAnswer (f i) ≡ further n (rowsAnswer (g i)))
+    → rowsAnswer (thenRows x f) ≡ further n (rowsAnswer (thenRows y g))
+then-further n x y f g h k =
+    then-answer x f
+    ∙ ap (λ (p : PayloadRead). thenAnswer p (λ i. rowsAnswer (f i))) h
+    ∙ answer-same (further n (rowsAnswer y)) (λ i. rowsAnswer (f i)) (λ i. further n (rowsAnswer (g i))) k
+    ∙ answer-further n (rowsAnswer y) (λ i. rowsAnswer (g i))
+    ∙ ap (further n) (sym (then-answer y g))
+
+pub none-further : (n : ℕ) → rowsAnswer (rowsOf []) ≡ further n (rowsAnswer (rowsOf []))
+unfolding rowsAnswer
+none-further n = refl
+
+-- A place at fault lies within n bytes
+
+abbrev pub Inside : ℕ → PayloadRead → Type 0
+Inside n (PayloadRead.Refused f) = f .offset ≤ n
+Inside n (PayloadRead.Rows m) = Unit {0}
+
+add-inside : (n m : ℕ) (p : PayloadRead) → Inside n p → Inside n (addAnswer m p)
+add-inside n m (PayloadRead.Refused f) h = h
+add-inside n m (PayloadRead.Rows k) h = tt
+
+pub then-inside : (n : ℕ) (p : PayloadRead) (f : ℕ → PayloadRead) → Inside n p → ((i : ℕ) → Inside n (f i)) → Inside n (thenAnswer p f)
+then-inside n (PayloadRead.Refused r) f h k = h
+then-inside n (PayloadRead.Rows m) f h k = add-inside n m (f m) (k m)
+
+pub none-inside : (n : ℕ) → Inside n (rowsAnswer (rowsOf []))
+unfolding rowsAnswer
+none-inside n = tt
+
+pub inside-more : (n m : ℕ) (p : PayloadRead) → n ≤ m → Inside n p → Inside m p
+inside-more n m (PayloadRead.Refused f) l h = omega arith
+inside-more n m (PayloadRead.Rows k) l h = tt
 
 -- what follows was found where the whole was
 pub then-taken : (p : PayloadRead) (f : ℕ → PayloadRead) (n : ℕ) → p ≡ PayloadRead.Rows n → Taken (thenAnswer p f) → Taken (f n)
@@ -104,7 +154,7 @@ Gives p l m x = (p ≡ rowsAnswer x) × (m ≡ over (rowsWords x) l)
 pub gives-read : (p : PayloadRead) (l m : List ℕ) (x : Rows) → (payloadNumbers p ≡ rowsNumbers x) × (m ≡ over (rowsWords x) l) → Gives p l m x
 gives-read p l m x g = (rows-is p x (g .0), g .1)
 
-pub gives-none : (r : Refusal) (l : List ℕ) (x : Rows) → x ≡ noRows r → Gives (PayloadRead.Refused r) l l x
+pub gives-none : (r : Fault) (l : List ℕ) (x : Rows) → x ≡ noRows r → Gives (PayloadRead.Refused r) l l x
 gives-none r l x h = (answer-none x r h, words-none x r l h)
 
 pub gives-empty : (l : List ℕ) (x : Rows) → x ≡ rowsOf [] → Gives (PayloadRead.Rows 0) l l x
@@ -115,7 +165,7 @@ pub gives-same : (p : PayloadRead) (l m : List ℕ) (x y : Rows) → x ≡ y →
 gives-same p l m x y h g = (g .0 ∙ ap rowsAnswer h, g .1 ∙ ap (λ (z : Rows). over (rowsWords z) l) h)
 
 -- a refusal is all that such an answer says
-pub only-refusal : (r : Refusal) (x : Rows) → rowsAnswer x ≡ PayloadRead.Refused r → x ≡ noRows r
+pub only-refusal : (r : Fault) (x : Rows) → rowsAnswer x ≡ PayloadRead.Refused r → x ≡ noRows r
 unfolding rowsAnswer
 only-refusal r (noRows f) h = cc
 only-refusal r (rowsOf rs) h = let z : _≡_ {A = ℕ} 0 1 = cc in absurd (omega arith)

@@ -12,9 +12,11 @@ use Rattle.rtp.specs.Sizes.{maxPacket, maxRows, rowWidth, rowArea}
 use Rattle.rtp.specs.Areas.{over}
 use Rattle.rtp.specs.Ranges.{inRange}
 use Rattle.rtp.specs.Time.{difference}
-use Rattle.rtp.specs.Redundancy.{blockHeader, Headers, refused, headersOf, prepend, headers, headersAnswer}
+use Rattle.rtp.specs.Faults.{faultAt, fault, shifted}
+use Rattle.rtp.specs.Redundancy.{blockHeader, Headers, refused, headersOf, prepend, headers, redundantSize, headersAnswer}
 use Rattle.rtp.specs.declared.settings.Settings.{Settings}
 use Rattle.rtp.specs.declared.refusal.Refusal.{Refusal}
+use Rattle.rtp.specs.declared.refusal.Fault.{Fault}
 use Rattle.rtp.specs.declared.redundancy.Redundant.{Redundant}
 use Rattle.rtp.specs.declared.redundancy.BlockHeader.{BlockHeader}
 use Rattle.rtp.specs.declared.redundancy.HeadersRead.{HeadersRead}
@@ -27,49 +29,108 @@ use Rattle.formats.specs.Formats.{formatOf}
 use Rattle.formats.specs.Frames.{stepOf}
 use Rattle.contents.specs.Contents.{Contents, refused as unread, groups, contents, sizeIn, sizesAnswer}
 use Rattle.payload.specs.Payloads.{body, payload, Rows, noRows, rowsOf, placedRows, payloadRows, rowsAnswer, rowsWords, askedRows}
-use Rattle.payload.proofs.PayloadLaws.{length-table, pay-refused, pay-part, pay-rows, pay-small, asked-in}
+use Rattle.payload.proofs.PayloadLaws.{length-table, start-in, at-fault, part-fault, pay-rows, pay-place, pay-small, asked-in}
 use Rattle.packet.specs.Blocks.{Block, cut, typedBlockRows, thenRows, blocksRows}
 use Rattle.packet.specs.Room.{askedBlock, headedRows, blocksFrom, Headed, BlocksAsked, Taken, BlocksRoom}
-use Rattle.packet.proofs.AnswerLaws.{then-none, thenAnswer, then-answer, then-same, then-taken, Few, then-few, answer-words, then-words}
+use Rattle.packet.proofs.AnswerLaws.{then-none, thenAnswer, then-answer, answer-same, further, then-further, none-further, Inside, then-inside, none-inside, inside-more, then-taken, Few, then-few, answer-words, then-words}
 
 -- a block of the bytes s
 abbrev pub block : ℕ → ℕ → ℕ → List ℕ → Block
 block type offset at s = record { type = type; offset = offset; at = at; bytes = s }
 
--- How many rows there are depends on no time and no place
+-- The answer depends on no time, and the place at fault moves with the payload
 
-placed-same : (format ch time time' at at' : ℕ) (p : Contents) → rowsAnswer (placedRows format ch time at p) ≡ rowsAnswer (placedRows format ch time' at' p)
+placed-same : (format ch time time' at : ℕ) (p : Contents) → rowsAnswer (placedRows format ch time at p) ≡ rowsAnswer (placedRows format ch time' at p)
 unfolding placedRows rowsAnswer
-placed-same format ch time time' at at' (unread r) = refl
-placed-same format ch time time' at at' (groups gs) =
-    ap PayloadRead.Rows (length-table (stepOf format) ch time (at + sizeIn format gs) gs ∙ sym (length-table (stepOf format) ch time' (at' + sizeIn format gs) gs))
+placed-same format ch time time' at (unread f) = refl
+placed-same format ch time time' at (groups gs) = ap PayloadRead.Rows (length-table (stepOf format) ch time _ gs ∙ sym (length-table (stepOf format) ch time' _ gs))
+
+placed-further : (format ch time time' n at m : ℕ) → m ≡ n + at → (p : Contents) → rowsAnswer (placedRows format ch time m p) ≡ further n (rowsAnswer (placedRows format ch time' at p))
+unfolding placedRows rowsAnswer
+placed-further format ch time time' n at m e (unread f) = ap (λ (k : ℕ). PayloadRead.Refused (faultAt k (f .refusal))) (omega arith)
+placed-further format ch time time' n at m e (groups gs) = ap PayloadRead.Rows (length-table (stepOf format) ch time _ gs ∙ sym (length-table (stepOf format) ch time' _ gs))
 
 module _ (st : Settings) where
-  block-same : (done time time' type offset offset' at at' : ℕ) (s : List ℕ)
-      → rowsAnswer (typedBlockRows st done time (block type offset at s)) ≡ rowsAnswer (typedBlockRows st done time' (block type offset' at' s))
+  block-same : (done time time' type offset offset' at : ℕ) (s : List ℕ)
+      → rowsAnswer (typedBlockRows st done time (block type offset at s)) ≡ rowsAnswer (typedBlockRows st done time' (block type offset' at s))
   unfolding typedBlockRows payloadRows
-  block-same done time time' type offset offset' at at' s =
+  block-same done time time' type offset offset' at s =
       by-test (eqb type (st .«payload_type»))
       (λ a. by-test (eqb (length s) 0)
       (λ b. rw (a, b))
-      (λ b. rw (a, b) (placed-same (st .format) (st .channels) (difference time offset) (difference time' offset') (at + formatOf (st .format) .header) (at' + formatOf (st .format) .header) (payload (st .format) (st .channels) done s))))
+      (λ b. rw (a, b) (placed-same (st .format) (st .channels) (difference time offset) (difference time' offset') at (payload (st .format) (st .channels) done s))))
       (λ a. rw a)
 
-  blocks-same : (bs : List Redundant) (done time time' type at at' : ℕ) (d : List ℕ)
-      → rowsAnswer (blocksRows st done time (cut bs type at d)) ≡ rowsAnswer (blocksRows st done time' (cut bs type at' d))
-  unfolding blocksRows cut
-  blocks-same [] done time time' type at at' d = then-same _ _ _ _ (block-same done time time' type 0 0 at at' d) (λ n. refl)
-  blocks-same (b ∷ bs) done time time' type at at' d =
-      then-same _ _ _ _ (block-same done time time' (b .«payload_type») (b .offset) (b .offset) at at' (take (b .length) d))
-      (λ n. blocks-same bs (done + n) time time' type (at + b .length) (at' + b .length) (drop (b .length) d))
+  block-further : (done time time' type offset n at m : ℕ) → m ≡ n + at → (s : List ℕ)
+      → rowsAnswer (typedBlockRows st done time (block type offset m s)) ≡ further n (rowsAnswer (typedBlockRows st done time' (block type offset at s)))
+  unfolding typedBlockRows payloadRows rowsAnswer
+  block-further done time time' type offset n at m e s =
+      by-test (eqb type (st .«payload_type»))
+      (λ a. by-test (eqb (length s) 0)
+      (λ b. rw (a, b))
+      (λ b. rw (a, b) (placed-further (st .format) (st .channels) (difference time offset) (difference time' offset) n at m e (payload (st .format) (st .channels) done s))))
+      (λ a. rw a)
 
-  pub from-same : (done time time' at at' : ℕ) (h d : List ℕ) → rowsAnswer (blocksFrom st done time at h d) ≡ rowsAnswer (blocksFrom st done time' at' h d)
-  unfolding blocksFrom
-  from-same done time time' at at' h d = headed-same (headers h)
+  blocks-further : (bs : List Redundant) (done time time' type n at m : ℕ) → m ≡ n + at → (d : List ℕ)
+      → rowsAnswer (blocksRows st done time (cut bs type m d)) ≡ further n (rowsAnswer (blocksRows st done time' (cut bs type at d)))
+  unfolding blocksRows cut
+  blocks-further [] done time time' type n at m e d = then-further n _ _ _ _ (block-further done time time' type 0 n at m e d) (λ i. none-further n)
+  blocks-further (b ∷ bs) done time time' type n at m e d =
+      then-further n _ _ _ _ (block-further done time time' (b .«payload_type») (b .offset) n at m e (take (b .length) d))
+      (λ i. blocks-further bs (done + i) time time' type n (at + b .length) (m + b .length) (omega arith) (drop (b .length) d))
+
+  pub from-further : (done time time' n at m : ℕ) → m ≡ n + at → (h d : List ℕ) → rowsAnswer (blocksFrom st done time m h d) ≡ further n (rowsAnswer (blocksFrom st done time' at h d))
+  unfolding blocksFrom rowsAnswer
+  from-further done time time' n at m e h d = headed-further (headers h)
     where
-      headed-same : (x : Headers) → rowsAnswer (headedRows st done time at d x) ≡ rowsAnswer (headedRows st done time' at' d x)
-      headed-same (refused r) = refl
-      headed-same (headersOf bs type) = blocks-same bs done time time' type at at' d
+      headed-further : (x : Headers) → rowsAnswer (headedRows st done time m d x) ≡ further n (rowsAnswer (headedRows st done time' at d x))
+      headed-further (refused f) = ap (λ (k : ℕ). PayloadRead.Refused (faultAt k (f .refusal))) (omega arith)
+      headed-further (headersOf bs type) = blocks-further bs done time time' type n at m e d
+
+  -- The place at fault lies inside the blocks
+
+  pub pay-inside : (done time at : ℕ) (s : List ℕ) → Inside (at + length s) (rowsAnswer (payloadRows (st .format) (st .channels) done time at s))
+  unfolding rowsAnswer
+  pay-inside done time at s = table-inside (sizesAnswer (st .format) (st .channels) (contents (st .format) (st .channels) done (body (st .format) s))) refl
+    where
+      table-inside : (r : ContentsRead) → sizesAnswer (st .format) (st .channels) (contents (st .format) (st .channels) done (body (st .format) s)) ≡ r
+          → Inside (at + length s) (rowsAnswer (payloadRows (st .format) (st .channels) done time at s))
+      table-inside (ContentsRead.Refused r) h =
+          rw (at-fault (st .format) (st .channels) done time at s r h)
+          (omega (arith, start-in (st .format) (st .channels) done time at s, pay-place (st .format) (st .channels) done time at s r h))
+      table-inside (ContentsRead.Contents t) h =
+          by-test (eqb (t .size + t .frames) (length (body (st .format) s)))
+          (λ a. rw (pay-rows (st .format) (st .channels) done time at s t h (eqb-true _ _ a)) tt)
+          (λ a. rw (part-fault (st .format) (st .channels) done time at s t h (eqb-false _ _ a))
+          (omega (arith, start-in (st .format) (st .channels) done time at s, pay-small (st .format) (st .channels) done time at s t h .within)))
+
+  block-inside : (done time : ℕ) (b : Block) → Inside (b .at + length (b .bytes)) (rowsAnswer (typedBlockRows st done time b))
+  unfolding typedBlockRows rowsAnswer
+  block-inside done time b =
+      by-test (eqb (b .type) (st .«payload_type»))
+      (λ x. by-test (eqb (length (b .bytes)) 0)
+      (λ y. rw (x, y) tt)
+      (λ y. rw (x, y) (pay-inside done (difference time (b .offset)) (b .at) (b .bytes))))
+      (λ x. rw x tt)
+
+  blocks-inside : (bs : List Redundant) (done time type at : ℕ) (d : List ℕ) → redundantSize bs ≤ length d → Inside (at + length d) (rowsAnswer (blocksRows st done time (cut bs type at d)))
+  unfolding blocksRows cut redundantSize
+  blocks-inside [] done time type at d l = rw then-answer (then-inside (at + length d) (rowsAnswer (typedBlockRows st done time (block type 0 at d))) (λ i. rowsAnswer (rowsOf [])) (block-inside done time (block type 0 at d)) (λ i. none-inside (at + length d)))
+  blocks-inside (b ∷ bs) done time type at d l =
+      let here : at + length (take (b .length) d) ≤ at + length d = simp length-take (omega arith) in
+      let there : at + b .length + length (drop (b .length) d) ≤ at + length d = simp length-drop (omega arith) in
+      let first = block (b .«payload_type») (b .offset) at (take (b .length) d) in
+      rw then-answer (then-inside (at + length d) (rowsAnswer (typedBlockRows st done time first)) (λ i. rowsAnswer (blocksRows st (done + i) time (cut bs type (at + b .length) (drop (b .length) d))))
+      (inside-more _ _ (rowsAnswer (typedBlockRows st done time first)) here (block-inside done time (block (b .«payload_type») (b .offset) at (take (b .length) d))))
+      (λ i. inside-more _ _ (rowsAnswer (blocksRows st (done + i) time (cut bs type (at + b .length) (drop (b .length) d)))) there (blocks-inside bs (done + i) time type (at + b .length) (drop (b .length) d) (simp length-drop (omega arith)))))
+
+  pub from-inside : (done time at : ℕ) (h d : List ℕ) → Headed (length d) (headersAnswer (headers h)) → Inside (at + length d) (rowsAnswer (blocksFrom st done time at h d))
+  unfolding blocksFrom headersAnswer
+  from-inside done time at h d k = headed-inside (headers h) k
+    where
+      headed-inside : (x : Headers) → Headed (length d) (headersAnswer x) → Inside (at + length d) (rowsAnswer (headedRows st done time at d x))
+      headed-inside (refused f) z = absurd z
+      headed-inside (headersOf bs type) z = blocks-inside bs done time type at d z
 
   -- No more rows than a packet has
 
@@ -79,11 +140,11 @@ module _ (st : Settings) where
     where
       table-few : (r : ContentsRead) → sizesAnswer (st .format) (st .channels) (contents (st .format) (st .channels) done (body (st .format) s)) ≡ r
           → Few done (rowsAnswer (payloadRows (st .format) (st .channels) done time at s))
-      table-few (ContentsRead.Refused r) h = rw (pay-refused (st .format) (st .channels) done time at s r h) tt
+      table-few (ContentsRead.Refused r) h = rw (at-fault (st .format) (st .channels) done time at s r h) tt
       table-few (ContentsRead.Contents t) h =
           by-test (eqb (t .size + t .frames) (length (body (st .format) s)))
           (λ a. rw (pay-rows (st .format) (st .channels) done time at s t h (eqb-true _ _ a)) (pay-small (st .format) (st .channels) done time at s t h .few))
-          (λ a. rw (pay-part (st .format) (st .channels) done time at s t h (eqb-false _ _ a)) tt)
+          (λ a. rw (part-fault (st .format) (st .channels) done time at s t h (eqb-false _ _ a)) tt)
 
   pub block-few : (done time : ℕ) (b : Block) → done ≤ maxRows → Few done (rowsAnswer (typedBlockRows st done time b))
   unfolding typedBlockRows rowsAnswer
@@ -119,7 +180,7 @@ headed-rest n h e q k = both (headersAnswer (headers (drop 4 h))) (rw (at-redund
     both (HeadersRead.Headers s) z = (omega arith, omega arith)
 
 module _ (st : Settings) (done time at : ℕ) (h d : List ℕ) where
-  pub from-refused : (r : Refusal) → blockHeader h ≡ BlockHeader.Refused r → blocksFrom st done time at h d ≡ noRows r
+  pub from-refused : (r : Refusal) → blockHeader h ≡ BlockHeader.Refused r → blocksFrom st done time at h d ≡ noRows (shifted at (fault r))
   unfolding blocksFrom
   from-refused r q = rw (headers-step, q)
 
@@ -186,17 +247,20 @@ module _ (st : Settings) (done area time at : ℕ) (h d : List ℕ) (a : BlocksA
         ≡ thenRows (askedBlock st done area time (e .«payload_type») (e .offset) at (take (e .length) d)) (λ n. blocksFrom st (done + n) time (at + e .length) (drop 4 h) (drop (e .length) d))
     first-then = rw (asked-first (e .offset)) (from-redundant st done time at h d (length d - e .length) e q (headed-rest (length d) h e q (a .headed) .1))
 
--- their answer, where each is taken as at time 0 and place 0
+-- their answer, where each is taken as at time 0 and place 0: what follows is counted from its own front
 pub checked : (st : Settings) (done : ℕ) (h d : List ℕ) → BlocksAsked st done 0 h (length d) → (e : Redundant) → blockHeader h ≡ BlockHeader.Redundant e
     → rowsAnswer (blocksFrom st done 0 0 h d)
-    ≡ thenAnswer (rowsAnswer (askedBlock st done rowArea 0 (e .«payload_type») 0 0 (take (e .length) d))) (λ n. rowsAnswer (blocksFrom st (done + n) 0 0 (drop 4 h) (drop (e .length) d)))
+    ≡ thenAnswer (rowsAnswer (askedBlock st done rowArea 0 (e .«payload_type») 0 0 (take (e .length) d))) (λ n. further (e .length) (rowsAnswer (blocksFrom st (done + n) 0 0 (drop 4 h) (drop (e .length) d))))
 checked st done h d a e q =
+    let first : rowsAnswer (askedBlock st done rowArea 0 (e .«payload_type») (e .offset) 0 (take (e .length) d)) ≡ rowsAnswer (askedBlock st done rowArea 0 (e .«payload_type») 0 0 (take (e .length) d)) =
+    ap rowsAnswer (asked-first st done rowArea 0 0 h d a (omega arith) e q (e .offset)) ∙ block-same st done 0 0 (e .«payload_type») (e .offset) 0 0 (take (e .length) d)
+    ∙ ap rowsAnswer (sym (asked-first st done rowArea 0 0 h d a (omega arith) e q 0)) in
     ap rowsAnswer (first-then st done rowArea 0 0 h d a (omega arith) e q)
-    ∙ then-same _ (askedBlock st done rowArea 0 (e .«payload_type») 0 0 (take (e .length) d)) _ (λ n. blocksFrom st (done + n) 0 0 (drop 4 h) (drop (e .length) d))
-    (ap rowsAnswer (asked-first st done rowArea 0 0 h d a (omega arith) e q (e .offset)) ∙ block-same st done 0 0 (e .«payload_type») (e .offset) 0 0 0 (take (e .length) d)
-    ∙ ap rowsAnswer (sym (asked-first st done rowArea 0 0 h d a (omega arith) e q 0)))
-    (λ n. from-same st (done + n) 0 0 (0 + e .length) 0 (drop 4 h) (drop (e .length) d))
     ∙ then-answer _ _
+    ∙ ap (λ (p : PayloadRead). thenAnswer p (λ n. rowsAnswer (blocksFrom st (done + n) 0 (0 + e .length) (drop 4 h) (drop (e .length) d)))) first
+    ∙ answer-same (rowsAnswer (askedBlock st done rowArea 0 (e .«payload_type») 0 0 (take (e .length) d)))
+    (λ n. rowsAnswer (blocksFrom st (done + n) 0 (0 + e .length) (drop 4 h) (drop (e .length) d)))
+    (λ n. further (e .length) (rowsAnswer (blocksFrom st (done + n) 0 0 (drop 4 h) (drop (e .length) d)))) (λ n. from-further st (done + n) 0 0 (e .length) 0 (0 + e .length) (omega arith) (drop 4 h) (drop (e .length) d))
 
 -- their words
 module _ (st : Settings) (done time at area : ℕ) (h d : List ℕ) (r : BlocksRoom st done time at h d area) (e : Redundant) (q : blockHeader h ≡ BlockHeader.Redundant e) where
@@ -209,7 +273,7 @@ module _ (st : Settings) (done time at area : ℕ) (h d : List ℕ) (r : BlocksR
   taken-whole : Taken (thenAnswer (rowsAnswer First) (λ n. rowsAnswer (blocksFrom st (done + n) time (at + e .length) (drop 4 h) (drop (e .length) d))))
   taken-whole = subst (λ (x : PayloadRead). Taken x) (ap rowsAnswer whole ∙ then-answer _ _) (r .taken)
 
-  pub first-taken : (f : Refusal) → rowsAnswer First ≡ PayloadRead.Refused f → ⊥
+  pub first-taken : (f : Fault) → rowsAnswer First ≡ PayloadRead.Refused f → ⊥
   first-taken f k = rw k at taken-whole
 
   module _ (n : ℕ) (k : rowsAnswer First ≡ PayloadRead.Rows n) where

@@ -10,6 +10,8 @@ use Rattle.rtp.specs.Areas.{over}
 use Rattle.rtp.specs.Sizes.{maxPacket, rowArea}
 use Rattle.rtp.specs.Ranges.{inRange}
 use Rattle.rtp.specs.Header.{header}
+use Rattle.rtp.specs.Faults.{fault}
+use Rattle.rtp.specs.declared.refusal.Fault.{Fault}
 use Rattle.rtp.specs.declared.settings.Settings.{Settings}
 use Rattle.rtp.specs.declared.header.Header.{Header}
 use Rattle.rtp.specs.declared.header.HeaderRead.{HeaderRead}
@@ -41,23 +43,23 @@ module _ (st : Settings) (h : Header) (s : List ℕ) where
     unfolding typedRows
     typed-redundant e = rw (ne-eqb _ _ n, eq-eqb _ _ e)
 
-    pub typed-other : (h .«payload_type» ≡ st .«redundancy_type» → ⊥) → typedRows st h (payloadIn s h) ≡ noRows UnknownPayloadType
+    pub typed-other : (h .«payload_type» ≡ st .«redundancy_type» → ⊥) → typedRows st h (payloadIn s h) ≡ noRows (fault UnknownPayloadType)
     unfolding typedRows
     typed-other e = rw (ne-eqb _ _ n, ne-eqb _ _ e)
 
 -- Reading a packet
 
-pub reading-out : (st : Settings) (area : ℕ) (s : List ℕ) → inRange st ≡ false → reading st area s ≡ refused SettingsOutOfRange
+pub reading-out : (st : Settings) (area : ℕ) (s : List ℕ) → inRange st ≡ false → reading st area s ≡ refused (fault SettingsOutOfRange)
 unfolding reading
 reading-out st area s i = rw i
 
 module _ (st : Settings) (area : ℕ) (s : List ℕ) (i : inRange st ≡ true) where
-  pub reading-short : area < rowArea → reading st area s ≡ refused AreaTooShort
+  pub reading-short : area < rowArea → reading st area s ≡ refused (fault AreaTooShort)
   unfolding reading
   reading-short f = rw (i, lt-ltb _ _ f)
 
   module _ (f : rowArea ≤ area) where
-    pub reading-refused : (r : Refusal) → header s ≡ HeaderRead.Refused r → reading st area s ≡ refused r
+    pub reading-refused : (r : Refusal) → header s ≡ HeaderRead.Refused r → reading st area s ≡ refused (fault r)
     unfolding reading
     reading-refused r q = rw (i, le-ltb area rowArea f, q)
 
@@ -70,7 +72,7 @@ module _ (st : Settings) (area : ℕ) (s : List ℕ) (i : inRange st ≡ true) w
 abbrev pub Comes : Reading → List ℕ → List ℕ → Outcome → Type 0
 Comes r l m x = (readingNumbers r ≡ outcomeNumbers x) × (m ≡ over (outcomeWords x) l)
 
-pub comes-refused : (r : Refusal) (l : List ℕ) (x : Outcome) → x ≡ refused r → Comes (Reading.Refused r) l l x
+pub comes-refused : (r : Fault) (l : List ℕ) (x : Outcome) → x ≡ refused r → Comes (Reading.Refused r) l l x
 unfolding outcomeNumbers outcomeWords
 comes-refused r l x h = (rw h, rw h (sym (over-none l)))
 

@@ -11,6 +11,7 @@ use Rattle.rtp.specs.Sizes.{maxPacket}
 use Rattle.rtp.specs.Redundancy.{blockHeader, Headers, refused, headersOf, prepend, headers, redundancyHeaders, headersSize, headersAnswer}
 use Rattle.rtp.specs.declared.settings.Settings.{Settings}
 use Rattle.rtp.specs.declared.refusal.Refusal.{Refusal}
+use Rattle.rtp.specs.declared.refusal.Fault.{Fault}
 use Rattle.rtp.specs.declared.redundancy.Redundant.{Redundant}
 use Rattle.rtp.specs.declared.redundancy.BlockHeader.{BlockHeader}
 use Rattle.rtp.specs.declared.redundancy.HeaderSizes.{HeaderSizes}
@@ -71,7 +72,7 @@ module _ (st : Settings) (found : ℕ) (h d : List ℕ) where
 same-sizes : (a b : HeaderSizes) → HeadersRead.Headers a ≡ HeadersRead.Headers b → a ≡ b
 same-sizes a b h = cc
 
-split-none : (st : Settings) (s : List ℕ) (r : Refusal) (x : Headers) → headersAnswer x ≡ HeadersRead.Refused r → splitRequest st s x ≡ noRequest
+split-none : (st : Settings) (s : List ℕ) (r : Fault) (x : Headers) → headersAnswer x ≡ HeadersRead.Refused r → splitRequest st s x ≡ noRequest
 unfolding headersAnswer
 split-none st s r (refused f) h = refl
 split-none st s r (headersOf bs type) h = let o : _≡_ {A = ℕ} 0 1 = cc in absurd (omega arith)
@@ -83,7 +84,7 @@ split-some st s z (headersOf bs type) h =
     ap (λ (y : HeaderSizes). blocksRequest st noRequest (cut bs type 0 (drop (y .size) s))) (same-sizes _ z h)
 
 module _ (st : Settings) (s : List ℕ) where
-  pub redundant-none : (r : Refusal) → headersAnswer (redundancyHeaders s) ≡ HeadersRead.Refused r → redundantRequest st s ≡ noRequest
+  pub redundant-none : (r : Fault) → headersAnswer (redundancyHeaders s) ≡ HeadersRead.Refused r → redundantRequest st s ≡ noRequest
   unfolding redundantRequest
   redundant-none r h = split-none st s r (redundancyHeaders s) h
 

@@ -5,6 +5,7 @@ use mathlib.Core.Bool.{cond}
 use lib.ListN.{length, take, drop}
 use lib.Dec.{ltb, eqb}
 use Rattle.rtp.specs.Time.{difference}
+use Rattle.rtp.specs.Faults.{faultAt, shifted}
 use Rattle.rtp.specs.Redundancy.{Headers, refused, headersOf, redundancyHeaders, headersSize, redundantSize}
 use Rattle.rtp.specs.declared.settings.Settings.{Settings}
 use Rattle.rtp.specs.declared.refusal.Refusal.the-variants.{LengthMismatch}
@@ -33,12 +34,12 @@ typedBlockRows st done time b =
     (rowsOf [])
 
 abbrev pub prependRows : List Row → Rows → Rows
-prependRows rs (noRows r) = noRows r
+prependRows rs (noRows f) = noRows f
 prependRows rs (rowsOf qs) = rowsOf (rs ++ qs)
 
 -- rows, and those that `next` gives after so many
 abbrev pub thenRows : Rows → (ℕ → Rows) → Rows
-thenRows (noRows r) next = noRows r
+thenRows (noRows f) next = noRows f
 thenRows (rowsOf rs) next = prependRows rs (next (length rs))
 
 -- the blocks' rows, one after another; the first refusal decides
@@ -46,11 +47,12 @@ unfoldable pub blocksRows : Settings → ℕ → ℕ → List Block → Rows
 blocksRows st done time [] = rowsOf []
 blocksRows st done time (b ∷ bs) = thenRows (typedBlockRows st done time b) (λ n. blocksRows st (done + n) time bs)
 
--- the payload s at `at`, whose block headers are these: their lengths are summed before any block is read
+-- the payload s at `at`, whose block headers are these: their lengths are summed before any block is read, and if they do not add up, the first byte after
+-- the block headers is at fault
 abbrev pub splitRows : Settings → ℕ → ℕ → List ℕ → Headers → Rows
-splitRows st time at s (refused r) = noRows r
+splitRows st time at s (refused f) = noRows (shifted at f)
 splitRows st time at s (headersOf bs type) =
-    cond (ltb (length s - headersSize bs) (redundantSize bs)) (noRows LengthMismatch)
+    cond (ltb (length s - headersSize bs) (redundantSize bs)) (noRows (faultAt (at + headersSize bs) LengthMismatch))
     (blocksRows st 0 time (cut bs type (at + headersSize bs) (drop (headersSize bs) s)))
 
 -- a redundancy payload: all block headers are walked first

@@ -8,6 +8,7 @@ use Rattle.rtp.specs.Ranges.{g719, g719Interleaved, gsmHr}
 use Rattle.rtp.specs.Time.{difference}
 use Rattle.rtp.specs.Redundancy.{blockHeader, headersOf, redundancyHeaders}
 use Rattle.rtp.specs.Refusals.{number}
+use Rattle.rtp.specs.Faults.{faultAt}
 use Rattle.rtp.specs.declared.settings.Settings.{Settings}
 use Rattle.rtp.specs.declared.refusal.Refusal.the-variants.{ReservedCode}
 use Rattle.rtp.specs.declared.redundancy.Redundant.{Redundant}
@@ -40,7 +41,7 @@ filler n = replicate n 0
 
 -- the rows that reading came to, or its refusal
 abbrev pub rowsRead : Outcome → Rows
-rowsRead (refused r) = noRows r
+rowsRead (refused f) = noRows f
 rowsRead (readAs h rs request) = rowsOf rs
 
 -- the rows of a packet with this type, time and payload
@@ -81,7 +82,7 @@ pub record CheckedTable : Type 0 where
   -- 1. L = 8, 22, 23, 27: 80, 220, 240, 320 bytes. L = 7, 28: refusal 7.
   pub frame-lengths : (g719Length 8 ≡ 80) × (g719Length 22 ≡ 220) × (g719Length 23 ≡ 240) × (g719Length 27 ≡ 320)
   pub reserved-entries : (entryOf g719 (0x1C ∷ 0x01 ∷ []) ≡ EntryRead.Refused ReservedCode) × (entryOf g719 (0x70 ∷ 0x01 ∷ []) ≡ EntryRead.Refused ReservedCode)
-  pub reserved-packets : (packetRows g719 1 plainType 0 (0x1C ∷ 0x01 ∷ []) ≡ noRows ReservedCode) × (packetRows g719 1 plainType 0 (0x70 ∷ 0x01 ∷ []) ≡ noRows ReservedCode)
+  pub reserved-packets : (packetRows g719 1 plainType 0 (0x1C ∷ 0x01 ∷ []) ≡ noRows (faultAt 12 ReservedCode)) × (packetRows g719 1 plainType 0 (0x70 ∷ 0x01 ∷ []) ≡ noRows (faultAt 12 ReservedCode))
   pub reserved-number : number ReservedCode ≡ 7
   -- 2. Kind 1, mono, A0 02 30 01 and 280 bytes (284 in all): lengths 80, 80, 120.
   pub mixed-size : length mixedLengths ≡ 284

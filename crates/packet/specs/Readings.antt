@@ -7,11 +7,12 @@ use lib.Dec.{ltb, eqb}
 use Rattle.rtp.specs.Sizes.{rowArea}
 use Rattle.rtp.specs.Ranges.{inRange}
 use Rattle.rtp.specs.Refusals.{number}
+use Rattle.rtp.specs.Faults.{fault}
 use Rattle.rtp.specs.Header.{header}
 use Rattle.rtp.specs.declared.settings.Settings.{Settings}
 use Rattle.rtp.specs.declared.header.Header.{Header}
 use Rattle.rtp.specs.declared.header.HeaderRead.{HeaderRead}
-use Rattle.rtp.specs.declared.refusal.Refusal.{Refusal}
+use Rattle.rtp.specs.declared.refusal.Fault.{Fault}
 use Rattle.rtp.specs.declared.refusal.Refusal.the-variants.{UnknownPayloadType, SettingsOutOfRange, AreaTooShort}
 use Rattle.payload.specs.Rows.{Row, words}
 use Rattle.payload.specs.Payloads.{Rows, noRows, rowsOf, payloadRows}
@@ -27,32 +28,33 @@ payloadIn s h = take (h .end - h .start) (drop (h .start) s)
 unfoldable pub typedRows : Settings → Header → List ℕ → Rows
 typedRows st h p =
     cond (eqb (h .«payload_type») (st .«payload_type»)) (payloadRows (st .format) (st .channels) 0 (h .timestamp) (h .start) p)
-    (cond (eqb (h .«payload_type») (st .«redundancy_type»)) (redundantRows st (h .timestamp) (h .start) p) (noRows UnknownPayloadType))
+    (cond (eqb (h .«payload_type») (st .«redundancy_type»)) (redundantRows st (h .timestamp) (h .start) p) (noRows (fault UnknownPayloadType)))
 
--- what reading a packet comes to: a refusal, or the header, the rows and the mode request
+-- what reading a packet comes to: a fault, its place in the whole packet, or the header, the rows and the mode request
 pub data Outcome : Type 0 where
-  refused : Refusal → Outcome
+  refused : Fault → Outcome
   readAs : Header → List Row → ℕ → Outcome
 
 abbrev pub outcomeOf : Header → ℕ → Rows → Outcome
-outcomeOf h request (noRows r) = refused r
+outcomeOf h request (noRows f) = refused f
 outcomeOf h request (rowsOf rs) = readAs h rs request
 
 -- reading a packet under settings in range
 abbrev pub headedBy : Settings → List ℕ → HeaderRead → Outcome
-headedBy st s (HeaderRead.Refused r) = refused r
+headedBy st s (HeaderRead.Refused r) = refused (fault r)
 headedBy st s (HeaderRead.Header h) = outcomeOf h (typedRequest st (h .«payload_type») (payloadIn s h)) (typedRows st h (payloadIn s h))
 
 -- reading the packet s into an area of so many words
 unfoldable pub reading : Settings → ℕ → List ℕ → Outcome
 reading st area s =
     cond (inRange st)
-    (cond (ltb area rowArea) (refused AreaTooShort) (headedBy st s (header s)))
-    (refused SettingsOutOfRange)
+    (cond (ltb area rowArea) (refused (fault AreaTooShort)) (headedBy st s (header s)))
+    (refused (fault SettingsOutOfRange))
 
--- The answer in numbers: the refusal number or 0, then row count, M, sequence, timestamp, source and mode request, all 0 on refusal
+-- The answer in numbers: the refusal number or 0 and the place of the fault, then row count, M, sequence, timestamp, source and mode request, all 0 on refusal
 pub record Numbers : Type 0 where
   pub refusal : ℕ
+  pub offset : ℕ
   pub rows : ℕ
   pub marker : ℕ
   pub sequence : ℕ
@@ -60,22 +62,22 @@ pub record Numbers : Type 0 where
   pub source : ℕ
   pub «mode_request» : ℕ
 
-abbrev pub refusedNumbers : Refusal → Numbers
-refusedNumbers r = record { refusal = number r; rows = 0; marker = 0; sequence = 0; timestamp = 0; source = 0; «mode_request» = 0 }
+abbrev pub refusedNumbers : Fault → Numbers
+refusedNumbers f = record { refusal = number (f .refusal); offset = f .offset; rows = 0; marker = 0; sequence = 0; timestamp = 0; source = 0; «mode_request» = 0 }
 
 -- of the code's answer, case by case
 abbrev pub readingNumbers : Reading → Numbers
-readingNumbers (Reading.Refused r) = refusedNumbers r
+readingNumbers (Reading.Refused f) = refusedNumbers f
 readingNumbers (Reading.Read p) =
-    record { refusal = 0; rows = p .rows; marker = p .marker; sequence = p .sequence; timestamp = p .timestamp; source = p .source; «mode_request» = p .«mode_request» }
+    record { refusal = 0; offset = 0; rows = p .rows; marker = p .marker; sequence = p .sequence; timestamp = p .timestamp; source = p .source; «mode_request» = p .«mode_request» }
 
 -- of what reading comes to
 unfoldable pub outcomeNumbers : Outcome → Numbers
-outcomeNumbers (refused r) = refusedNumbers r
+outcomeNumbers (refused f) = refusedNumbers f
 outcomeNumbers (readAs h rs request) =
-    record { refusal = 0; rows = length rs; marker = h .marker; sequence = h .sequence; timestamp = h .timestamp; source = h .source; «mode_request» = request }
+    record { refusal = 0; offset = 0; rows = length rs; marker = h .marker; sequence = h .sequence; timestamp = h .timestamp; source = h .source; «mode_request» = request }
 
 -- the words written over the front of the row area: none on refusal
 unfoldable pub outcomeWords : Outcome → List ℕ
-outcomeWords (refused r) = []
+outcomeWords (refused f) = []
 outcomeWords (readAs h rs request) = words rs

@@ -8,6 +8,7 @@ use lib.Dec.{eqb}
 use Rattle.rtp.specs.Sizes.{maxPacket, maxRows, rowWidth, rowArea}
 use Rattle.rtp.specs.Ranges.{inRange}
 use Rattle.rtp.specs.Time.{difference}
+use Rattle.rtp.specs.Faults.{shifted}
 use Rattle.rtp.specs.Redundancy.{Headers, refused, headersOf, headers, headersAnswer}
 use Rattle.rtp.specs.declared.settings.Settings.{Settings}
 use Rattle.rtp.specs.declared.redundancy.HeadersRead.{HeadersRead}
@@ -25,7 +26,7 @@ askedBlock st done area time type offset at s =
 
 -- the rows of the blocks whose headers are these, or stand at the front of h, and whose bytes are d, at `at`
 abbrev pub headedRows : Settings → ℕ → ℕ → ℕ → List ℕ → Headers → Rows
-headedRows st done time at d (refused r) = noRows r
+headedRows st done time at d (refused f) = noRows (shifted at f)
 headedRows st done time at d (headersOf bs type) = blocksRows st done time (cut bs type at d)
 
 unfoldable pub blocksFrom : Settings → ℕ → ℕ → ℕ → List ℕ → List ℕ → Rows

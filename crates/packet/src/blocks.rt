@@ -4,6 +4,7 @@ use payload::reading::PayloadRead;
 use rtp::redundancy;
 use rtp::redundancy::BlockHeader;
 use rtp::redundancy::HeadersRead;
+use rtp::refusal::Fault;
 use rtp::refusal::Refusal;
 use rtp::settings::Settings;
 use rtp::sizes::ROW_WIDTH;
@@ -64,15 +65,21 @@ fn check_blocks(settings: Settings, done: u32, headers: &[u8], s: &[u8]) -> Payl
     ensures { λ r. ⌜ r ≡ rowsAnswer (blocksFrom settings done 0 0 (now (headers .entry)) (now (s .entry))) ⌝ }
 {
     match redundancy::read_block_header(headers) {
-        BlockHeader::Refused(refusal) => PayloadRead::Refused(refusal),
+        BlockHeader::Refused(refusal) => PayloadRead::Refused(Fault { refusal, offset: 0 }),
         BlockHeader::Primary(block_type) => check_block(settings, done, block_type, s),
         BlockHeader::Redundant(block) => {
             let length = block.length;
             match check_block(settings, done, block.payload_type, &s[..length]) {
-                PayloadRead::Refused(refusal) => PayloadRead::Refused(refusal),
+                PayloadRead::Refused(fault) => PayloadRead::Refused(fault),
                 PayloadRead::Rows(here) => {
                     match check_blocks(settings, done + here, &headers[4..], &s[length..]) {
-                        PayloadRead::Refused(refusal) => PayloadRead::Refused(refusal),
+                        PayloadRead::Refused(fault) => {
+                            let refusal = fault.refusal;
+                            PayloadRead::Refused(Fault {
+                                refusal,
+                                offset: length + fault.offset,
+                            })
+                        }
                         PayloadRead::Rows(rest) => PayloadRead::Rows(here + rest),
                     }
                 }
@@ -142,14 +149,29 @@ pub(crate) fn read_redundant(
         × (now (rows .exit) ≡ over (rowsWords (redundantRows settings timestamp at (now (s .entry)))) (now (rows .entry))) ⌝ }
 {
     match redundancy::read_headers(s) {
-        HeadersRead::Refused(refusal) => PayloadRead::Refused(refusal),
+        HeadersRead::Refused(fault) => {
+            let refusal = fault.refusal;
+            PayloadRead::Refused(Fault {
+                refusal,
+                offset: (at as usize) + fault.offset,
+            })
+        }
         HeadersRead::Headers(sizes) => {
             let size = sizes.size;
             if s.len() - size < sizes.redundant {
-                return PayloadRead::Refused(Refusal::LengthMismatch);
+                return PayloadRead::Refused(Fault {
+                    refusal: Refusal::LengthMismatch,
+                    offset: (at as usize) + size,
+                });
             }
             match check_blocks(settings, 0, s, &s[size..]) {
-                PayloadRead::Refused(refusal) => PayloadRead::Refused(refusal),
+                PayloadRead::Refused(fault) => {
+                    let refusal = fault.refusal;
+                    PayloadRead::Refused(Fault {
+                        refusal,
+                        offset: (at as usize) + size + fault.offset,
+                    })
+                }
                 PayloadRead::Rows(count) => {
                     put_blocks(
                         settings,

@@ -6,6 +6,7 @@ use payload::reading::PayloadRead;
 use rtp::header;
 use rtp::header::Header;
 use rtp::header::HeaderRead;
+use rtp::refusal::Fault;
 use rtp::refusal::Refusal;
 use rtp::settings::Settings;
 use rtp::sizes::ROW_AREA;
@@ -33,7 +34,7 @@ pub struct Packet {
 
 pub enum Reading {
     Read(Packet),
-    Refused(Refusal),
+    Refused(Fault),
 }
 
 // The payload of a packet with this header, by the packet's type.
@@ -58,7 +59,10 @@ fn read_typed(settings: Settings, head: Header, packet: &[u8], rows: &mut [u32])
     if head.payload_type == settings.redundancy_type {
         return blocks::read_redundant(settings, head.timestamp, place, &packet[start..end], rows);
     }
-    PayloadRead::Refused(Refusal::UnknownPayloadType)
+    PayloadRead::Refused(Fault {
+        refusal: Refusal::UnknownPayloadType,
+        offset: 0,
+    })
 }
 
 // The packet's rows at the front of the area, with the row count, the header and the mode request; or a refusal, and the area unchanged.
@@ -68,12 +72,15 @@ pub fn read(settings: Settings, packet: &[u8], rows: &mut [u32]) -> Reading
 {
     if rtp::settings::in_range(settings) {
         if rows.len() < ROW_AREA {
-            return Reading::Refused(Refusal::AreaTooShort);
+            return Reading::Refused(Fault {
+                refusal: Refusal::AreaTooShort,
+                offset: 0,
+            });
         }
         match header::read_header(packet) {
-            HeaderRead::Refused(refusal) => Reading::Refused(refusal),
+            HeaderRead::Refused(refusal) => Reading::Refused(Fault { refusal, offset: 0 }),
             HeaderRead::Header(head) => match read_typed(settings, head, packet, rows) {
-                PayloadRead::Refused(refusal) => Reading::Refused(refusal),
+                PayloadRead::Refused(fault) => Reading::Refused(fault),
                 PayloadRead::Rows(count) => {
                     let start = head.start;
                     let end = head.end;
@@ -93,6 +100,9 @@ pub fn read(settings: Settings, packet: &[u8], rows: &mut [u32]) -> Reading
             },
         }
     } else {
-        Reading::Refused(Refusal::SettingsOutOfRange)
+        Reading::Refused(Fault {
+            refusal: Refusal::SettingsOutOfRange,
+            offset: 0,
+        })
     }
 }

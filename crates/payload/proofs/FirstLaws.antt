@@ -9,6 +9,7 @@ use lib.Dec.{ltb}
 use borrow.Author.Tests.{lt-ltb, ltb-true, ltb-false}
 use Rattle.rtp.specs.Sizes.{maxRows}
 use Rattle.rtp.specs.Time.{difference}
+use Rattle.rtp.specs.Faults.{fault}
 use Rattle.rtp.specs.declared.refusal.Refusal.the-variants.{TooManyRows}
 use Rattle.rtp.proofs.TestLaws.{by-test}
 use Rattle.formats.specs.Frames.{stepOf}
@@ -48,12 +49,12 @@ begins-group format s e h = go (e .blocks) h
     go zero l = absurd (omega arith)
     go (suc n) l = (gapsFrom format s 1 n, refl)
 
-begins-prepend : (d : ℕ) (g : Group) (p : Contents) → (rest : List ℕ) × (g .gaps ≡ d ∷ rest) → Begins d (prepend g p)
-begins-prepend d g (refused r) h = tt
-begins-prepend d g (groups gs) h = h
+begins-prepend : (d n : ℕ) (g : Group) (p : Contents) → (rest : List ℕ) × (g .gaps ≡ d ∷ rest) → Begins d (prepend n g p)
+begins-prepend d n g (refused r) h = tt
+begins-prepend d n g (groups gs) h = h
 
 module _ (format ch done : ℕ) (s : List ℕ) where
-  contents-many : (e : Entry) → entryOf format s ≡ EntryRead.Entry e → maxRows < done + e .blocks * ch → contents format ch done s ≡ refused TooManyRows
+  contents-many : (e : Entry) → entryOf format s ≡ EntryRead.Entry e → maxRows < done + e .blocks * ch → contents format ch done s ≡ refused (fault TooManyRows)
   contents-many e h l = rw (contents-step, h) (simp (lt-ltb _ _ l))
 
   pub begins : Begins (gapAt format s 0) (contents format ch done s)
@@ -66,7 +67,7 @@ module _ (format ch done : ℕ) (s : List ℕ) where
           by-test (ltb maxRows (done + e .blocks * ch))
           (λ a. rw (contents-many e q (ltb-true _ _ a)) tt)
           (λ a. by-test (e .more)
-          (λ m. rw (contents-more format ch done s e q (ltb-false _ _ a) m) (begins-prepend (gapAt format s 0) (meaning format s e) (contents format ch (done + e .blocks * ch) (drop (e .size) s)) b))
+          (λ m. rw (contents-more format ch done s e q (ltb-false _ _ a) m) (begins-prepend (gapAt format s 0) (e .size) (meaning format s e) (contents format ch (done + e .blocks * ch) (drop (e .size) s)) b))
           (λ m. rw (contents-last format ch done s e q (ltb-false _ _ a) m) b))
 
 -- Rows counted from a time before

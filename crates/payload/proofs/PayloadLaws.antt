@@ -5,13 +5,16 @@ use mathlib.Core.Bool.{true, false}
 use Prim.Native.Nat.{ℕ, _+_, _-_, _*_, _/_, _≤_, _<_}
 use native.Mathlib.Omega.{arith}
 use lib.ListN.{length, length-append, length-drop}
-use borrow.Author.Tests.{eq-eqb, ne-eqb, lt-ltb, le-ltb}
+use lib.Dec.{eqb}
+use borrow.Author.Tests.{eq-eqb, ne-eqb, eqb-true, eqb-false, lt-ltb, le-ltb}
+use Rattle.rtp.proofs.TestLaws.{by-test}
 use Rattle.rtp.specs.Sizes.{rowWidth, rowArea, maxPacket}
 use Rattle.rtp.specs.Numbers.{byteAt}
 use Rattle.rtp.specs.Areas.{over}
 use Rattle.rtp.specs.Ranges.{inRange}
 use Rattle.rtp.specs.declared.settings.Settings.{Settings}
-use Rattle.rtp.specs.declared.refusal.Refusal.{Refusal}
+use Rattle.rtp.specs.Faults.{faultAt, fault}
+use Rattle.rtp.specs.declared.refusal.Fault.{Fault}
 use Rattle.rtp.specs.declared.refusal.Refusal.the-variants.{PacketLength, ContentsTruncated, LengthMismatch, SettingsOutOfRange, AreaTooShort}
 use Rattle.rtp.proofs.AreaLaws.{over-none}
 use Rattle.contents.specs.declared.entries.Sizes.{Sizes}
@@ -21,7 +24,7 @@ use Rattle.formats.specs.Formats.{formatOf}
 use Rattle.formats.specs.Frames.{stepOf}
 use Rattle.contents.specs.Contents.{minEntry, entryOf, Group, Contents, refused, groups, contents, passFirst, rowCount, sizeIn, sizesAnswer}
 use Rattle.payload.specs.Rows.{tableRows, timeAfter}
-use Rattle.payload.specs.Payloads.{exact, body, payload, noRequest, requestOf, Rows, noRows, placedRows, payloadRows, rowsWords, rowsAnswer, askedRows}
+use Rattle.payload.specs.Payloads.{exact, body, tableStart, startingAt, payload, noRequest, requestOf, Rows, noRows, placedRows, payloadRows, rowsWords, rowsAnswer, askedRows}
 use Rattle.payload.specs.Room.{TableRoom, contentsWords}
 use Rattle.formats.proofs.FormatLaws.{header-small}
 use Rattle.contents.proofs.EntryLaws.{min-some}
@@ -40,7 +43,7 @@ length-table step ch time start (g ∷ gs) =
 same-sizes : (a b : Sizes) → ContentsRead.Contents a ≡ ContentsRead.Contents b → a ≡ b
 same-sizes a b h = cc
 
-exact-refused : (format ch n : ℕ) (r : Refusal) (p : Contents) → sizesAnswer format ch p ≡ ContentsRead.Refused r → exact format ch n p ≡ refused r
+exact-refused : (format ch n : ℕ) (r : Fault) (p : Contents) → sizesAnswer format ch p ≡ ContentsRead.Refused r → exact format ch n p ≡ refused r
 unfolding sizesAnswer
 exact-refused format ch n r (refused q) h = cc
 exact-refused format ch n r (groups gs) h = let z : _≡_ {A = ℕ} 0 1 = cc in absurd (omega arith)
@@ -48,9 +51,9 @@ exact-refused format ch n r (groups gs) h = let z : _≡_ {A = ℕ} 0 1 = cc in 
 -- what a table that was read is
 record Is (format ch n time at : ℕ) (p : Contents) (t : Sizes) : Type 0 where
   whole : t .size + t .frames ≡ n → exact format ch n p ≡ p
-  part : (t .size + t .frames ≡ n → ⊥) → exact format ch n p ≡ refused LengthMismatch
-  rows : rowsAnswer (placedRows format ch time at p) ≡ PayloadRead.Rows (t .rows)
-  words : rowsWords (placedRows format ch time at p) ≡ contentsWords format ch time (at + t .size) p
+  part : (t .size + t .frames ≡ n → ⊥) → exact format ch n p ≡ refused (faultAt (t .size) LengthMismatch)
+  rows : (k : ℕ) → rowsAnswer (placedRows format ch time at (startingAt k p)) ≡ PayloadRead.Rows (t .rows)
+  words : (k : ℕ) → rowsWords (placedRows format ch time at (startingAt k p)) ≡ contentsWords format ch time (at + formatOf format .header + t .size) p
 
 is : (format ch n time at : ℕ) (t : Sizes) (p : Contents) → sizesAnswer format ch p ≡ ContentsRead.Contents t → Is format ch n time at p t
 unfolding sizesAnswer placedRows rowsAnswer rowsWords contentsWords
@@ -58,8 +61,8 @@ is format ch n time at t (refused r) h = let z : _≡_ {A = ℕ} 0 1 = cc in abs
 is format ch n time at t (groups gs) h = subst (λ (x : Sizes). Is format ch n time at (groups gs) x) (same-sizes _ t h) (record {
   whole = λ e. simp (eq-eqb _ _ e);
   part = λ e. simp (ne-eqb _ _ e);
-  rows = ap PayloadRead.Rows (length-table (stepOf format) ch time (at + sizeIn format gs) gs);
-  words = refl;
+  rows = λ k. ap PayloadRead.Rows (length-table (stepOf format) ch time (at + formatOf format .header + sizeIn format gs) gs);
+  words = λ k. refl;
 })
 
 -- the rows of a payload, by what reading its table answered
@@ -67,39 +70,67 @@ module _ (format ch done time at : ℕ) (s : List ℕ) where
   abbrev Table : Contents
   Table = contents format ch done (body format s)
 
-  pub pay-refused : (r : Refusal) → sizesAnswer format ch (contents format ch done (body format s)) ≡ ContentsRead.Refused r → payloadRows format ch done time at s ≡ noRows r
+  -- where its table starts, if its header is there
+  starts : formatOf format .header ≤ length s → tableStart format s ≡ formatOf format .header
+  starts l = by-test (eqb (length s) 0) (λ z. rw z (omega (arith, eqb-true (length s) 0 z))) (λ z. rw z)
+
+  -- its table starts inside it
+  pub start-in : tableStart format s + length (body format s) ≤ length s
+  start-in =
+      by-test (eqb (length s) 0)
+      (λ z. rw (z, length-drop) (omega (arith, eqb-true (length s) 0 z)))
+      (λ z. rw (z, length-drop) (omega (arith, eqb-false (length s) 0 z, header-small format)))
+
+  pub at-fault : (r : Fault) → sizesAnswer format ch (contents format ch done (body format s)) ≡ ContentsRead.Refused r
+      → payloadRows format ch done time at s ≡ noRows (faultAt (at + (tableStart format s + r .offset)) (r .refusal))
   unfolding payloadRows payload placedRows
-  pay-refused r h = rw (exact-refused format ch (length (body format s)) r (passFirst Table) (sizes-passed format ch Table ∙ h))
+  at-fault r h = rw (exact-refused format ch (length (body format s)) r (passFirst Table) (sizes-passed format ch Table ∙ h))
+
+  pub pay-refused : (r : Fault) (n : ℕ) → formatOf format .header ≤ length s → n ≡ at + formatOf format .header + r .offset
+      → sizesAnswer format ch (contents format ch done (body format s)) ≡ ContentsRead.Refused r → payloadRows format ch done time at s ≡ noRows (faultAt n (r .refusal))
+  pay-refused r n l e h = at-fault r h ∙ ap (λ (k : ℕ). noRows (faultAt k (r .refusal))) (omega (arith, e, starts l))
+
+  -- the place at fault lies in the body
+  pub pay-place : (r : Fault) → sizesAnswer format ch (contents format ch done (body format s)) ≡ ContentsRead.Refused r → r .offset ≤ length (body format s)
+  pay-place r h = subst (λ (x : ContentsRead). Within done (length (body format s)) x) h (within format ch done (body format s))
 
   -- no table follows a header that is cut short
-  pub pay-headless : length s < formatOf format .header → payloadRows format ch done time at s ≡ noRows ContentsTruncated
+  pub pay-headless : length s < formatOf format .header → payloadRows format ch done time at s ≡ noRows (faultAt at ContentsTruncated)
   unfolding entryOf
   pay-headless l =
       let z : length (body format s) ≡ 0 = rw length-drop (omega arith) in
-      pay-refused ContentsTruncated (at-refused format ch done (body format s) ContentsTruncated (rw (lt-ltb (length (body format s)) (minEntry format) (omega (arith, min-some format)))))
+      let n : length s ≡ 0 = omega (arith, header-small format) in
+      let b : tableStart format s ≡ 0 = rw (eq-eqb (length s) 0 n) in
+      at-fault (fault ContentsTruncated) (at-refused format ch done (body format s) ContentsTruncated (rw (lt-ltb (length (body format s)) (minEntry format) (omega (arith, min-some format)))))
+      ∙ ap (λ (k : ℕ). noRows (faultAt k ContentsTruncated)) (omega (arith, b))
 
   module _ (t : Sizes) (h : sizesAnswer format ch (contents format ch done (body format s)) ≡ ContentsRead.Contents t) where
     passed : sizesAnswer format ch (passFirst Table) ≡ ContentsRead.Contents t
     passed = sizes-passed format ch Table ∙ h
 
     abbrev What : Type 0
-    What = Is format ch (length (body format s)) time (at + formatOf format .header) (passFirst Table) t
+    What = Is format ch (length (body format s)) time at (passFirst Table) t
 
     table-is : What
-    table-is = is format ch (length (body format s)) time (at + formatOf format .header) t (passFirst Table) passed
+    table-is = is format ch (length (body format s)) time at t (passFirst Table) passed
 
-    pub pay-part : (t .size + t .frames ≡ length (body format s) → ⊥) → payloadRows format ch done time at s ≡ noRows LengthMismatch
+    pub part-fault : (t .size + t .frames ≡ length (body format s) → ⊥)
+        → payloadRows format ch done time at s ≡ noRows (faultAt (at + (tableStart format s + t .size)) LengthMismatch)
     unfolding payloadRows payload placedRows
-    pay-part f = rw (table-is .part f)
+    part-fault f = rw (table-is .part f)
+
+    pub pay-part : (n : ℕ) → formatOf format .header ≤ length s → n ≡ at + formatOf format .header + t .size → (t .size + t .frames ≡ length (body format s) → ⊥)
+        → payloadRows format ch done time at s ≡ noRows (faultAt n LengthMismatch)
+    pay-part n l e f = part-fault f ∙ ap (λ (k : ℕ). noRows (faultAt k LengthMismatch)) (omega (arith, e, starts l))
 
     pub pay-rows : t .size + t .frames ≡ length (body format s) → rowsAnswer (payloadRows format ch done time at s) ≡ PayloadRead.Rows (t .rows)
     unfolding payloadRows payload
-    pay-rows f = rw (table-is .whole f) (table-is .rows)
+    pay-rows f = rw (table-is .whole f) (table-is .rows (tableStart format s))
 
     pub pay-words : t .size + t .frames ≡ length (body format s)
         → rowsWords (payloadRows format ch done time at s) ≡ contentsWords format ch time (at + formatOf format .header + t .size) (passFirst Table)
     unfolding payloadRows payload
-    pay-words f = rw (table-is .whole f) (table-is .words)
+    pay-words f = rw (table-is .whole f) (table-is .words (tableStart format s))
 
     pub pay-small : Small done (length (body format s)) t
     pay-small = subst (λ (r : ContentsRead). Within done (length (body format s)) r) h (within format ch done (body format s))
@@ -113,16 +144,16 @@ module _ (format ch done time at : ℕ) (s : List ℕ) where
 
 -- The payload of a call
 
-pub asked-out : (st : Settings) (done area time at : ℕ) (s : List ℕ) → inRange st ≡ false → askedRows st done area time at s ≡ noRows SettingsOutOfRange
+pub asked-out : (st : Settings) (done area time at : ℕ) (s : List ℕ) → inRange st ≡ false → askedRows st done area time at s ≡ noRows (fault SettingsOutOfRange)
 unfolding askedRows
 asked-out st done area time at s h = rw h
 
 module _ (st : Settings) (done area time at : ℕ) (s : List ℕ) (h : inRange st ≡ true) where
-  pub asked-short : rowWidth * done + area < rowArea → askedRows st done area time at s ≡ noRows AreaTooShort
+  pub asked-short : rowWidth * done + area < rowArea → askedRows st done area time at s ≡ noRows (fault AreaTooShort)
   unfolding askedRows
   asked-short a = rw (h, lt-ltb (rowWidth * done + area) rowArea a)
 
-  pub asked-long : rowArea ≤ rowWidth * done + area → maxPacket < at + length s → askedRows st done area time at s ≡ noRows PacketLength
+  pub asked-long : rowArea ≤ rowWidth * done + area → maxPacket < at + length s → askedRows st done area time at s ≡ noRows (fault PacketLength)
   unfolding askedRows
   asked-long a b = rw (h, le-ltb (rowWidth * done + area) rowArea a, lt-ltb maxPacket (at + length s) b)
 
@@ -131,11 +162,11 @@ module _ (st : Settings) (done area time at : ℕ) (s : List ℕ) (h : inRange s
   asked-in a b = rw (h, le-ltb (rowWidth * done + area) rowArea a, le-ltb maxPacket (at + length s) b)
 
 -- the answer and the words of a refusal
-pub answer-none : (x : Rows) (r : Refusal) → x ≡ noRows r → PayloadRead.Refused r ≡ rowsAnswer x
+pub answer-none : (x : Rows) (r : Fault) → x ≡ noRows r → PayloadRead.Refused r ≡ rowsAnswer x
 unfolding rowsAnswer
 answer-none x r h = rw h
 
-pub words-none : (x : Rows) (r : Refusal) (l : List ℕ) → x ≡ noRows r → l ≡ over (rowsWords x) l
+pub words-none : (x : Rows) (r : Fault) (l : List ℕ) → x ≡ noRows r → l ≡ over (rowsWords x) l
 unfolding rowsWords
 words-none x r l h = rw h (sym (over-none l))
 

@@ -20,7 +20,7 @@ use Rattle.formats.specs.Frames.{frameOf, stepOf}
 use Rattle.formats.specs.Codes.{noCode, codeFor}
 use Rattle.contents.specs.Contents.{minEntry, codeIn, blocksIn, entrySize, codedEntry, entryOf, Group, Contents, refused, groups, meaning, prepend, contentsStep, contents, passFirst, sizeIn, framesIn, sizesAnswer}
 use Rattle.payload.specs.Rows.{Row, placed, nextPlace, timeAfter, blockRows, groupRows, tableRows}
-use Rattle.payload.specs.Payloads.{exact, body, payload, Rows, noRows, rowsOf, placedRows, payloadRows}
+use Rattle.payload.specs.Payloads.{tableStart, startingAt, exact, body, payload, Rows, noRows, rowsOf, placedRows, payloadRows}
 use Rattle.formats.proofs.CodeLaws.{code-some}
 use Rattle.contents.proofs.EntryLaws.{code-in}
 use Rattle.contents.proofs.ContentsLaws.{contents-step, shorter, Within, within}
@@ -67,9 +67,9 @@ entry-coded format s =
     (λ a. by-test (ltb (length s) (entrySize format (blocksIn format s))) (λ b. rw (a, b) tt)
     (λ b. rw (a, b) (frame-coded format (codeIn format (byteAt s 0)) _ _ _ (frameOf format (codeIn format (byteAt s 0))) (code-in format (byteAt s 0)) refl)))
 
-coded-more : (format : ℕ) (g : Group) (p : Contents) → codeFor format (g .class) (g .length) < noCode → CodedIn format p → CodedIn format (prepend g p)
-coded-more format g (refused r) h k = tt
-coded-more format g (groups gs) h k = (h, k)
+coded-more : (format n : ℕ) (g : Group) (p : Contents) → codeFor format (g .class) (g .length) < noCode → CodedIn format p → CodedIn format (prepend n g p)
+coded-more format n g (refused r) h k = tt
+coded-more format n g (groups gs) h k = (h, k)
 
 -- the first entry's DIS1 has no part in it
 coded-passed : (format : ℕ) (p : Contents) → CodedIn format p → CodedIn format (passFirst p)
@@ -85,7 +85,7 @@ coded-step format ch rows s ih (EntryRead.Entry e) q =
     let c : codeFor format (e .class) (e .length) < noCode = subst (EntryCoded format) q (entry-coded format s) in
     by-test (ltb maxRows (rows + e .blocks * ch)) (λ a. rw a tt)
     (λ a. by-test (e .more)
-    (λ m. rw (a, m) (coded-more format (meaning format s e) (contents format ch (rows + e .blocks * ch) (drop (e .size) s)) c
+    (λ m. rw (a, m) (coded-more format (e .size) (meaning format s e) (contents format ch (rows + e .blocks * ch) (drop (e .size) s)) c
     (ih (rows + e .blocks * ch) (drop (e .size) s) (shorter format s e q))))
     (λ m. rw (a, m) (c, tt)))
 
@@ -130,15 +130,15 @@ abbrev pub FineRows : ℕ → ℕ → ℕ → ℕ → Rows → Type 0
 FineRows format ch n done (noRows r) = Unit {0}
 FineRows format ch n done (rowsOf rs) = AllRows (RowFine format ch n) rs × (done + length rs ≤ maxRows)
 
-placed-fine : (format ch n done time at size : ℕ) (p : Contents) → at + size ≤ n → CodedIn format p → Within done size (sizesAnswer format ch p)
-    → FineRows format ch n done (placedRows format ch time at (exact format ch size p))
+placed-fine : (format ch n done time at k size : ℕ) (p : Contents) → at + formatOf format .header + size ≤ n → CodedIn format p → Within done size (sizesAnswer format ch p)
+    → FineRows format ch n done (placedRows format ch time at (startingAt k (exact format ch size p)))
 unfolding placedRows sizesAnswer
-placed-fine format ch n done time at size (refused r) e h w = tt
-placed-fine format ch n done time at size (groups gs) e h w =
+placed-fine format ch n done time at k size (refused r) e h w = tt
+placed-fine format ch n done time at k size (groups gs) e h w =
     by-test (eqb (sizeIn format gs + framesIn ch gs) size)
     (λ a.
     let m = eqb-true (sizeIn format gs + framesIn ch gs) size a in
-    rw a (table-fine format n (stepOf format) ch time (at + sizeIn format gs) gs h (omega arith), rw length-table (w .few)))
+    rw a (table-fine format n (stepOf format) ch time (at + formatOf format .header + sizeIn format gs) gs h (omega arith), rw length-table (w .few)))
     (λ a. rw a tt)
 
 pub payload-fine : (format ch n done time at : ℕ) (s : List ℕ) → at + length s ≤ n → FineRows format ch n done (payloadRows format ch done time at s)
@@ -148,6 +148,6 @@ payload-fine format ch n done time at s e =
     let p = contents format ch done b in
     by-test (ltb (length s) (formatOf format .header))
     (λ a. rw (pay-headless format ch done time at s (ltb-true (length s) (formatOf format .header) a)) tt)
-    (λ a. placed-fine format ch n done time (at + formatOf format .header) (length b) (passFirst p) (rw length-drop (omega (arith, ltb-false (length s) (formatOf format .header) a)))
+    (λ a. placed-fine format ch n done time at (tableStart format s) (length b) (passFirst p) (rw length-drop (omega (arith, ltb-false (length s) (formatOf format .header) a)))
     (coded-passed format p (coded-by (suc (length b)) format ch done b (omega arith)))
     (subst (λ (x : ContentsRead). Within done (length b) x) (sym (sizes-passed format ch p)) (within format ch done b)))

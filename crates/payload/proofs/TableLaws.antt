@@ -89,7 +89,7 @@ unfolding contentsWords tableRows meaning
 words-single format ch time start s e = rw (append-nil (groupRows (stepOf format) ch time (e .class) start (e .length) (gapsFrom format s 0 (e .blocks))))
 
 pub words-ahead : (format ch time start area : ℕ) (s : List ℕ) (e : Entry) (p : Contents) → TableRoom ch (start + e .blocks * ch * e .length) area (sizesAnswer format ch p)
-    → contentsWords format ch time start (prepend (meaning format s e) p)
+    → contentsWords format ch time start (prepend (e .size) (meaning format s e) p)
     ≡ firstWords format ch time start s e ++ contentsWords format ch (timeAfter (stepOf format) time (gapsFrom format s 0 (e .blocks))) (start + e .blocks * ch * e .length) p
 unfolding contentsWords tableRows meaning sizesAnswer
 words-ahead format ch time start area s e (refused n) r = absurd r

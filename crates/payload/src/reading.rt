@@ -3,6 +3,7 @@ use crate::rows;
 use contents::entries;
 use contents::entries::ContentsRead;
 use formats::facts;
+use rtp::refusal::Fault;
 use rtp::refusal::Refusal;
 use rtp::settings;
 use rtp::settings::Settings;
@@ -21,7 +22,7 @@ pub const NO_REQUEST: u8 = 15;
 // The number of rows, or why there are none.
 pub enum PayloadRead {
     Rows(u32),
-    Refused(Refusal),
+    Refused(Fault),
 }
 
 // Whether a payload can be read after `done` rows of its packet, and how many rows it gives.
@@ -30,24 +31,42 @@ pub fn check_payload(asked: Settings, done: u32, s: &[u8]) -> PayloadRead
 {
     if settings::in_range(asked) {
         if MAX_PACKET < s.len() {
-            return PayloadRead::Refused(Refusal::PacketLength);
+            return PayloadRead::Refused(Fault {
+                refusal: Refusal::PacketLength,
+                offset: 0,
+            });
         }
         let header = facts::format_of(asked.format).header;
         if s.len() < header {
-            return PayloadRead::Refused(Refusal::ContentsTruncated);
+            return PayloadRead::Refused(Fault {
+                refusal: Refusal::ContentsTruncated,
+                offset: 0,
+            });
         }
         match entries::read_contents(asked.format, asked.channels, done, &s[header..]) {
-            ContentsRead::Refused(refusal) => PayloadRead::Refused(refusal),
+            ContentsRead::Refused(fault) => {
+                let refusal = fault.refusal;
+                PayloadRead::Refused(Fault {
+                    refusal,
+                    offset: header + fault.offset,
+                })
+            }
             ContentsRead::Contents(sizes) => {
                 if header + sizes.size + sizes.frames == s.len() {
                     PayloadRead::Rows(sizes.rows as u32)
                 } else {
-                    PayloadRead::Refused(Refusal::LengthMismatch)
+                    PayloadRead::Refused(Fault {
+                        refusal: Refusal::LengthMismatch,
+                        offset: header + sizes.size,
+                    })
                 }
             }
         }
     } else {
-        PayloadRead::Refused(Refusal::SettingsOutOfRange)
+        PayloadRead::Refused(Fault {
+            refusal: Refusal::SettingsOutOfRange,
+            offset: 0,
+        })
     }
 }
 
@@ -66,17 +85,32 @@ pub fn read_payload(
 {
     if settings::in_range(asked) {
         if ROW_WIDTH * (done as usize) + area.len() < ROW_AREA {
-            return PayloadRead::Refused(Refusal::AreaTooShort);
+            return PayloadRead::Refused(Fault {
+                refusal: Refusal::AreaTooShort,
+                offset: 0,
+            });
         }
         if MAX_PACKET < (at as usize) + s.len() {
-            return PayloadRead::Refused(Refusal::PacketLength);
+            return PayloadRead::Refused(Fault {
+                refusal: Refusal::PacketLength,
+                offset: 0,
+            });
         }
         let header = facts::format_of(asked.format).header;
         if s.len() < header {
-            return PayloadRead::Refused(Refusal::ContentsTruncated);
+            return PayloadRead::Refused(Fault {
+                refusal: Refusal::ContentsTruncated,
+                offset: at as usize,
+            });
         }
         match entries::read_contents(asked.format, asked.channels, done, &s[header..]) {
-            ContentsRead::Refused(refusal) => PayloadRead::Refused(refusal),
+            ContentsRead::Refused(fault) => {
+                let refusal = fault.refusal;
+                PayloadRead::Refused(Fault {
+                    refusal,
+                    offset: (at as usize) + header + fault.offset,
+                })
+            }
             ContentsRead::Contents(sizes) => {
                 if header + sizes.size + sizes.frames == s.len() {
                     rows::put_contents(
@@ -90,12 +124,18 @@ pub fn read_payload(
                     );
                     PayloadRead::Rows(sizes.rows as u32)
                 } else {
-                    PayloadRead::Refused(Refusal::LengthMismatch)
+                    PayloadRead::Refused(Fault {
+                        refusal: Refusal::LengthMismatch,
+                        offset: (at as usize) + header + sizes.size,
+                    })
                 }
             }
         }
     } else {
-        PayloadRead::Refused(Refusal::SettingsOutOfRange)
+        PayloadRead::Refused(Fault {
+            refusal: Refusal::SettingsOutOfRange,
+            offset: 0,
+        })
     }
 }
 

@@ -10,7 +10,7 @@ use lib.Seq.{drop-drop, drop-nil}
 use lib.Dec.{ltb, leb, eqb}
 use borrow.Author.Tests.{ltb-true, ltb-false, eqb-true, eqb-false, eq-eqb, ne-eqb}
 use Rattle.rtp.specs.Sizes.{rowWidth}
-use Rattle.rtp.specs.declared.refusal.Refusal.{Refusal}
+use Rattle.rtp.specs.declared.refusal.Fault.{Fault}
 use Rattle.rtp.proofs.TestLaws.{by-test, not-both}
 use Rattle.formats.specs.Formats.{stepOf, maxGap}
 use Rattle.contents.specs.Contents.{Group, Contents, refused, groups, framesIn}
@@ -23,7 +23,7 @@ use Rattle.plans.specs.Room.{rowAs, wordsAt, planAnswer, lengthsIn}
 use Rattle.plans.proofs.PlanLaws.{joins-true, frames-more, next-below}
 use Rattle.plans.proofs.ListLaws.{rows-none, rows-more, length-rows}
 
-pub no-plan : {q : Refusal} {gs : List Group} → refused q ≡ groups gs → ⊥
+pub no-plan : {q : Fault} {gs : List Group} → refused q ≡ groups gs → ⊥
 no-plan e = let z : _≡_ {A = ℕ} 0 1 = cc in absurd (omega arith)
 
 -- the rows from the k-th on

@@ -7,6 +7,8 @@ use lib.ListN.{length, getD}
 use lib.Dec.{ltb, leb, eqb}
 use Rattle.rtp.specs.Sizes.{maxRows, minPacket, maxPacket}
 use Rattle.rtp.specs.Time.{difference}
+use Rattle.rtp.specs.Faults.{fault}
+use Rattle.rtp.specs.declared.refusal.Fault.{Fault}
 use Rattle.rtp.specs.declared.refusal.Refusal.the-variants.{Unwritable}
 use Rattle.formats.specs.Formats.{formatOf, stepOf, maxGap}
 use Rattle.contents.specs.Contents.{Group, Contents, refused, groups, sizeIn, framesIn}
@@ -16,6 +18,10 @@ use Rattle.formats.specs.Codes.{noCode, codeFor}
 -- the longest payload that is written alone: what a packet has room for after its header
 abbrev pub maxPayload : ℕ
 maxPayload = maxPacket - minPacket
+
+-- no table: writing has no place at fault
+abbrev pub unwritable : Fault
+unwritable = fault Unwritable
 
 -- the ticks from the place after a frame-block's time to another time, modulo 2^32
 abbrev pub ticksAfter : ℕ → ℕ → ℕ → ℕ
@@ -65,15 +71,15 @@ attach format r gap (refused q) = refused q
 attach format r gap (groups []) = groups (single r gap ∷ [])
 attach format r gap (groups (g ∷ gs)) =
     cond (joins format r g) (groups (record { class = g .class; length = g .length; gaps = gap ∷ g .gaps } ∷ gs))
-    (cond (leb (headGap g) (maxGap format)) (groups (single r gap ∷ g ∷ gs)) (refused Unwritable))
+    (cond (leb (headGap g) (maxGap format)) (groups (single r gap ∷ g ∷ gs)) (refused unwritable))
 
 -- the plan of the rows from channel c on, after the row p
 unfoldable pub planFrom : ℕ → ℕ → ℕ → Row → List Row → Contents
-planFrom format ch c p [] = cond (eqb c 0) (groups []) (refused Unwritable)
+planFrom format ch c p [] = cond (eqb c 0) (groups []) (refused unwritable)
 planFrom format ch c p (r ∷ rs) =
     cond (follows format c p r)
     (cond (eqb c 0) (attach format r (gapBetween (stepOf format) (p .time) (r .time)) (planFrom format ch (nextChannel ch c) r rs)) (planFrom format ch (nextChannel ch c) r rs))
-    (refused Unwritable)
+    (refused unwritable)
 
 -- a row one step before the first of a list, which the list's first frame-block follows directly
 abbrev pub stepBefore : ℕ → Row → Row
@@ -86,11 +92,11 @@ payloadSize format ch gs = formatOf format .header + sizeIn format gs + framesIn
 -- a table whose payload is within the longest
 abbrev pub fitting : ℕ → ℕ → Contents → Contents
 fitting format ch (refused q) = refused q
-fitting format ch (groups gs) = cond (ltb maxPayload (payloadSize format ch gs)) (refused Unwritable) (groups gs)
+fitting format ch (groups gs) = cond (ltb maxPayload (payloadSize format ch gs)) (refused unwritable) (groups gs)
 
 -- the plan of a whole list: an empty one has none, nor has one of too many rows
 unfoldable pub plan : ℕ → ℕ → List Row → Contents
-plan format ch [] = refused Unwritable
+plan format ch [] = refused unwritable
 plan format ch (r ∷ rs) =
-    cond (ltb maxRows (length (r ∷ rs))) (refused Unwritable)
+    cond (ltb maxRows (length (r ∷ rs))) (refused unwritable)
     (fitting format ch (planFrom format ch 0 (stepBefore format r) (r ∷ rs)))

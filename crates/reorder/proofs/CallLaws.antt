@@ -1,16 +1,21 @@
 -- Laws of new and offer, one for each way that a call goes.
-use mathlib.Core.Path.{_≡_}
+use mathlib.Core.Path.{_≡_, refl}
 use mathlib.Core.List.{List}
 use mathlib.Core.Bool.{true, false}
 use Prim.Native.Nat.{ℕ, _≤_, _<_}
+use native.Mathlib.Omega.{arith}
 use lib.ListN.{length}
+use lib.Dec.{ltb}
 use borrow.Author.Tests.{lt-ltb, le-ltb}
-use Rattle.rtp.specs.Sizes.{rowArea}
+use Rattle.rtp.specs.Sizes.{rowArea, maxPacket}
 use Rattle.rtp.specs.Ranges.{inRange}
 use Rattle.rtp.specs.Refusals.{number}
+use Rattle.rtp.specs.Faults.{fault}
 use Rattle.rtp.specs.declared.settings.Settings.{Settings}
 use Rattle.rtp.specs.declared.refusal.Refusal.the-variants.{SettingsOutOfRange, MalformedBuffer, AreaTooShort}
-use Rattle.packet.specs.Readings.{Outcome, reading}
+use Rattle.rtp.proofs.TestLaws.{by-test}
+use Rattle.packet.specs.Readings.{Outcome, refused, readAs, reading}
+use Rattle.packet.proofs.PlaceLaws.{place-small}
 use Rattle.playout.specs.Sizes.{storeSize}
 use Rattle.layout.specs.declared.buffer.Buffer.{Buffer}
 use Rattle.layout.specs.Layout.{decode, fresh}
@@ -31,21 +36,21 @@ unfolding newCall
 new-out st h = rw h
 
 module _ (b : Buffer) (packet rows store : List ℕ) where
-  pub offer-out : inRange (b .settings) ≡ false → offerCall b packet rows store ≡ offerRefused SettingsOutOfRange b rows store
+  pub offer-out : inRange (b .settings) ≡ false → offerCall b packet rows store ≡ offerRefused (fault SettingsOutOfRange) b rows store
   unfolding offerCall
   offer-out h = rw h
 
   module _ (h : inRange (b .settings) ≡ true) where
-    pub offer-malformed : wellFormed b ≡ false → offerCall b packet rows store ≡ offerRefused MalformedBuffer b rows store
+    pub offer-malformed : wellFormed b ≡ false → offerCall b packet rows store ≡ offerRefused (fault MalformedBuffer) b rows store
     unfolding offerCall
     offer-malformed w = rw (h, w)
 
     module _ (w : wellFormed b ≡ true) where
-      pub offer-rows : length rows < rowArea → offerCall b packet rows store ≡ offerRefused AreaTooShort b rows store
+      pub offer-rows : length rows < rowArea → offerCall b packet rows store ≡ offerRefused (fault AreaTooShort) b rows store
       unfolding offerCall offerTo
       offer-rows a = rw (h, w, lt-ltb (length rows) rowArea a)
 
-      pub offer-store : rowArea ≤ length rows → length store < storeSize → offerCall b packet rows store ≡ offerRefused AreaTooShort b rows store
+      pub offer-store : rowArea ≤ length rows → length store < storeSize → offerCall b packet rows store ≡ offerRefused (fault AreaTooShort) b rows store
       unfolding offerCall offerTo
       offer-store a s = rw (h, w, le-ltb (length rows) rowArea a, lt-ltb (length store) storeSize s)
 
@@ -53,3 +58,19 @@ module _ (b : Buffer) (packet rows store : List ℕ) where
           → offerCall b packet rows store ≡ offerRead b packet rows store (reading (b .settings) (length rows) packet)
       unfolding offerCall offerTo
       offer-reads a s = rw (h, w, le-ltb (length rows) rowArea a, le-ltb (length store) storeSize s)
+
+  read-place : (o : Outcome) → reading (b .settings) (length rows) packet ≡ o → offerRead b packet rows store o .answer .offset ≤ maxPacket
+  read-place (refused f) e = place-small (b .settings) (length rows) packet f e
+  read-place (readAs h rs request) e = omega arith
+
+  -- the place in an offer's answer fits in any number that a packet's length fits in
+  pub offer-place : offerCall b packet rows store .answer .offset ≤ maxPacket
+  unfolding offerCall offerTo
+  offer-place =
+      by-test (inRange (b .settings))
+      (λ r. by-test (wellFormed b)
+      (λ w. by-test (ltb (length rows) rowArea)
+      (λ a. rw (r, w, a) (omega arith))
+      (λ a. by-test (ltb (length store) storeSize) (λ s. rw (r, w, a, s) (omega arith)) (λ s. rw (r, w, a, s) (read-place (reading (b .settings) (length rows) packet) refl))))
+      (λ w. rw (r, w) (omega arith)))
+      (λ r. rw r (omega arith))

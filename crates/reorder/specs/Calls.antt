@@ -5,9 +5,11 @@ use mathlib.Core.Bool.{cond}
 use lib.ListN.{length}
 use Rattle.rtp.specs.Ranges.{inRange}
 use Rattle.rtp.specs.Refusals.{number}
+use Rattle.rtp.specs.Faults.{fault}
 use Rattle.rtp.specs.Areas.{over}
 use Rattle.rtp.specs.declared.settings.Settings.{Settings}
 use Rattle.rtp.specs.declared.refusal.Refusal.{Refusal}
+use Rattle.rtp.specs.declared.refusal.Fault.{Fault}
 use Rattle.rtp.specs.declared.refusal.Refusal.the-variants.{SettingsOutOfRange, MalformedBuffer}
 use Rattle.payload.specs.Rows.{words}
 use Rattle.playout.specs.Verdicts.{Counts, noCounts, tally}
@@ -39,9 +41,10 @@ newCall st = cond (inRange st) (record { refusal = 0; buffer = fresh st }) (reco
 
 -- Offer
 
--- the answer in numbers: the refusal number or 0, and how often each verdict was given, zeros on refusal
+-- the answer in numbers: the refusal number or 0, the place of the fault in the packet, and how often each verdict was given, zeros on refusal
 pub record OfferNumbers : Type 0 where
   pub refusal : ℕ
+  pub offset : ℕ
   pub late : ℕ
   pub far : ℕ
   pub repeated : ℕ
@@ -49,14 +52,18 @@ pub record OfferNumbers : Type 0 where
   pub noRoom : ℕ
   pub inserted : ℕ
 
-abbrev pub countNumbers : ℕ → Counts → OfferNumbers
-countNumbers r n = record { refusal = r; late = n .late; far = n .far; repeated = n .repeated; better = n .better; noRoom = n .noRoom; inserted = n .inserted }
+abbrev pub faultNumbers : Fault → OfferNumbers
+faultNumbers f = record { refusal = number (f .refusal); offset = f .offset; late = 0; far = 0; repeated = 0; better = 0; noRoom = 0; inserted = 0 }
+
+abbrev pub countNumbers : Counts → OfferNumbers
+countNumbers n = record { refusal = 0; offset = 0; late = n .late; far = n .far; repeated = n .repeated; better = n .better; noRoom = n .noRoom; inserted = n .inserted }
 
 -- of the code's answer, case by case
 abbrev pub offerNumbers : OfferAnswer → OfferNumbers
-offerNumbers (OfferAnswer.Refused r) = countNumbers (number r) noCounts
+offerNumbers (OfferAnswer.Refused f) = faultNumbers f
 offerNumbers (OfferAnswer.Judged t) = record {
   refusal = 0;
+  offset = 0;
   late = t .late;
   far = t .far;
   repeated = t .repeated;
@@ -72,14 +79,14 @@ pub record OfferOutcome : Type 0 where
   pub rows : List ℕ
   pub store : List ℕ
 
-abbrev pub offerRefused : Refusal → Buffer → List ℕ → List ℕ → OfferOutcome
-offerRefused r b rows store = record { answer = countNumbers (number r) noCounts; buffer = b; rows = rows; store = store }
+abbrev pub offerRefused : Fault → Buffer → List ℕ → List ℕ → OfferOutcome
+offerRefused f b rows store = record { answer = faultNumbers f; buffer = b; rows = rows; store = store }
 
 -- what an offer does to the model, as buffer and areas
 abbrev pub offerDone : Buffer → List ℕ → List ℕ → Result Offered → OfferOutcome
-offerDone b rows store (refused r) = offerRefused r b rows store
+offerDone b rows store (refused f) = offerRefused f b rows store
 offerDone b rows store (done o) = record {
-  answer = countNumbers 0 (tally noCounts (o .gathered .judgements));
+  answer = countNumbers (tally noCounts (o .gathered .judgements));
   buffer = encode (b .settings) (o .gathered .held);
   rows = over (words (o .rows)) rows;
   store = o .gathered .store;
@@ -90,5 +97,5 @@ unfoldable pub offerCall : Buffer → List ℕ → List ℕ → List ℕ → Off
 offerCall b packet rows store =
     cond (inRange (b .settings))
     (cond (wellFormed b) (offerDone b rows store (offerTo (model b) packet (length rows) store))
-    (offerRefused MalformedBuffer b rows store))
-    (offerRefused SettingsOutOfRange b rows store)
+    (offerRefused (fault MalformedBuffer) b rows store))
+    (offerRefused (fault SettingsOutOfRange) b rows store)

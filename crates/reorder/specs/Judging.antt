@@ -84,6 +84,6 @@ pub record RowJudged (b b' : Buffer) (packet : List ℕ) (r : Row) (rs : List Ro
 
 -- and of an offer: its answer in numbers, and what is left
 pub record OfferJudged (b b' : Buffer) (packet : List ℕ) (rs : List Row) (a : OfferAnswer) (store store' : List ℕ) : Type 0 where
-  pub answer : offerNumbers a ≡ countNumbers 0 (tally noCounts (judgeAll (decode b) store (copiesOf packet rs) .judgements))
+  pub answer : offerNumbers a ≡ countNumbers (tally noCounts (judgeAll (decode b) store (copiesOf packet rs) .judgements))
   pub buffer : b' ≡ encode (b .settings) (judgeAll (decode b) store (copiesOf packet rs) .held)
   pub store-left : store' ≡ judgeAll (decode b) store (copiesOf packet rs) .store

@@ -5,7 +5,8 @@ use mathlib.Core.Bool.{cond}
 use lib.ListN.{length}
 use lib.Dec.{ltb}
 use Rattle.rtp.specs.Sizes.{rowArea}
-use Rattle.rtp.specs.declared.refusal.Refusal.{Refusal}
+use Rattle.rtp.specs.Faults.{fault}
+use Rattle.rtp.specs.declared.refusal.Fault.{Fault}
 use Rattle.rtp.specs.declared.refusal.Refusal.the-variants.{AreaTooShort}
 use Rattle.payload.specs.Rows.{Row}
 use Rattle.packet.specs.Readings.{Outcome, refused as unread, readAs, reading}
@@ -15,9 +16,9 @@ use Rattle.playout.specs.Verdicts.{Gathered, judgeAll}
 use Rattle.layout.specs.Model.{Model}
 use Rattle.reorder.specs.Rows.{copiesOf}
 
--- a call refused, or what it comes to
+-- a call refused, with the place of a packet's fault, or what it comes to
 pub data Result (A : Type 0) : Type 0 where
-  refused : Refusal → Result A
+  refused : Fault → Result A
   done : A → Result A
 
 -- Offer
@@ -29,12 +30,12 @@ pub record Offered : Type 0 where
 
 -- a packet that was read, or not
 abbrev pub judgeRead : Held → List ℕ → List ℕ → Outcome → Result Offered
-judgeRead h packet store (unread r) = refused r
+judgeRead h packet store (unread f) = refused f
 judgeRead h packet store (readAs x rs request) = done (record { rows = rs; gathered = judgeAll h store (copiesOf packet rs) })
 
 -- a packet offered with a row area of so many words: 12, then reading's own refusals
 unfoldable pub offerTo : Model → List ℕ → ℕ → List ℕ → Result Offered
 offerTo m packet area store =
-    cond (ltb area rowArea) (refused AreaTooShort)
-    (cond (ltb (length store) storeSize) (refused AreaTooShort)
+    cond (ltb area rowArea) (refused (fault AreaTooShort))
+    (cond (ltb (length store) storeSize) (refused (fault AreaTooShort))
     (judgeRead (m .held) packet store (reading (m .settings) area packet)))

@@ -28,5 +28,5 @@ copiesOf packet (r ∷ rs) = cond (eqb (r .class) noData) (copiesOf packet rs) (
 
 -- the copies of a packet that is read
 abbrev pub readCopies : List ℕ → Outcome → List Copy
-readCopies packet (refused r) = []
+readCopies packet (refused f) = []
 readCopies packet (readAs h rs request) = copiesOf packet rs

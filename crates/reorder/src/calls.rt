@@ -8,6 +8,7 @@ use layout::buffer::STORE_SIZE;
 use layout::well_formed;
 use packet::reading;
 use packet::reading::Reading;
+use rtp::refusal::Fault;
 use rtp::refusal::Refusal;
 use rtp::settings;
 use rtp::settings::Settings;
@@ -16,6 +17,7 @@ use rtp::sizes::ROW_WIDTH;
 ghost use mathlib.Core.Path.{_≡_};
 ghost use mathlib.Core.Bool.{true};
 ghost use Rattle.rtp.specs.Ranges.{inRange};
+ghost use Rattle.rtp.specs.Faults.{faultAt};
 ghost use Rattle.payload.specs.Rows.{rowsIn};
 ghost use Rattle.layout.specs.Layout.{assembled};
 ghost use Rattle.reorder.specs.Calls.{newNumber, newCall, offerNumbers, offerCall};
@@ -33,7 +35,7 @@ pub struct Fresh {
 
 pub enum OfferAnswer {
     Judged(Tally),
-    Refused(Refusal),
+    Refused(Fault),
 }
 
 pub struct Offered {
@@ -63,11 +65,11 @@ pub fn new(settings: Settings) -> Fresh
     }
 }
 
-fn refuse_offer(refusal: Refusal, buffer: Buffer) -> Offered
-    ensures { λ r. ⌜ r ≡ record { answer = OfferAnswer.Refused refusal; buffer = buffer } ⌝ }
+fn refuse_offer(refusal: Refusal, offset: usize, buffer: Buffer) -> Offered
+    ensures { λ r. ⌜ r ≡ record { answer = OfferAnswer.Refused (faultAt offset refusal); buffer = buffer } ⌝ }
 {
     Offered {
-        answer: OfferAnswer::Refused(refusal),
+        answer: OfferAnswer::Refused(Fault { refusal, offset }),
         buffer,
     }
 }
@@ -139,16 +141,19 @@ fn offer_checked(buffer: Buffer, packet: &[u8], rows: &mut [u32], store: &mut [u
         settings,
     };
     if !well_formed::well_formed(&times, &tags, &lengths, &slots, occupied, fixed) {
-        return refuse_offer(Refusal::MalformedBuffer, buffer);
+        return refuse_offer(Refusal::MalformedBuffer, 0, buffer);
     }
     if rows.len() < ROW_AREA {
-        return refuse_offer(Refusal::AreaTooShort, buffer);
+        return refuse_offer(Refusal::AreaTooShort, 0, buffer);
     }
     if store.len() < STORE_SIZE {
-        return refuse_offer(Refusal::AreaTooShort, buffer);
+        return refuse_offer(Refusal::AreaTooShort, 0, buffer);
     }
     match reading::read(settings, packet, rows) {
-        Reading::Refused(refusal) => refuse_offer(refusal, buffer),
+        Reading::Refused(fault) => {
+            let refusal = fault.refusal;
+            refuse_offer(refusal, fault.offset, buffer)
+        }
         Reading::Read(head) => {
             let words = ROW_WIDTH * (head.rows as usize);
             offer_rows(buffer, fixed, packet, &rows[..words], store)
@@ -165,5 +170,5 @@ pub fn offer(buffer: Buffer, packet: &[u8], rows: &mut [u32], store: &mut [u8]) 
     if settings::in_range(settings) {
         return offer_checked(buffer, packet, rows, store);
     }
-    refuse_offer(Refusal::SettingsOutOfRange, buffer)
+    refuse_offer(Refusal::SettingsOutOfRange, 0, buffer)
 }

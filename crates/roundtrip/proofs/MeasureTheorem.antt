@@ -11,6 +11,7 @@ use borrow.Author.Tests.{le-ltb, ltb-true, ltb-false}
 use Rattle.rtp.specs.Ranges.{inRange}
 use Rattle.rtp.specs.declared.settings.Settings.{Settings}
 use Rattle.rtp.specs.declared.refusal.Refusal.{Refusal}
+use Rattle.rtp.specs.declared.refusal.Fault.{Fault}
 use Rattle.rtp.specs.declared.refusal.Refusal.the-variants.{SettingsOutOfRange, Unwritable, AreaTooShort}
 use Rattle.rtp.proofs.TestLaws.{by-test}
 use Rattle.contents.specs.Contents.{Contents, refused, groups}
@@ -40,7 +41,7 @@ unfolding encoded
 not-short st request bytes rs = go (plan (st .format) (st .channels) rs) (only-plan (st .format) (st .channels) rs)
   where
     go : (x : Contents) → Only x → plannedBytes (st .format) request bytes rs x ≡ noBytes AreaTooShort → ⊥
-    go (refused q) o h = let y : noBytes Unwritable ≡ noBytes AreaTooShort = ap noBytes (sym o) ∙ h in let z : _≡_ {A = ℕ} 0 1 = cc in absurd (omega arith)
+    go (refused q) o h = let y : noBytes Unwritable ≡ noBytes AreaTooShort = ap (λ (f : Fault). noBytes (f .refusal)) (sym o) ∙ h in let z : _≡_ {A = ℕ} 0 1 = cc in absurd (omega arith)
     go (groups gs) o h = let z : _≡_ {A = ℕ} 0 1 = cc in absurd (omega arith)
 
 agree : (st : Settings) (request : ℕ) (ws bytes : List ℕ) (area : ℕ) → request ≤ maxRequest → outside (length bytes) (rowsIn ws) ≡ false → Agree area (writing st request ws bytes area) (measured st ws)

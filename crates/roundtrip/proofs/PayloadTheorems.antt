@@ -11,12 +11,13 @@ use Rattle.rtp.specs.Sizes.{maxRows}
 use Rattle.rtp.specs.Ranges.{inRange}
 use Rattle.rtp.proofs.RedundancyLaws.{bytes-drop}
 use Rattle.rtp.specs.declared.settings.Settings.{Settings}
+use Rattle.rtp.specs.declared.refusal.Fault.{Fault}
 use Rattle.rtp.specs.declared.refusal.Refusal.the-variants.{Unwritable, AreaTooShort}
 use Rattle.rtp.proofs.TestLaws.{by-test}
 use Rattle.formats.specs.Formats.{formatOf, stepOf}
 use Rattle.contents.specs.Contents.{Group, Contents, refused, groups, contents, passFirst, rowCount, sizeIn, framesIn, sizesAnswer}
 use Rattle.payload.specs.Rows.{Row, tableRows}
-use Rattle.payload.specs.Payloads.{exact, body, payload, requestOf, rowsOf, placedRows, payloadRows}
+use Rattle.payload.specs.Payloads.{exact, body, tableStart, startingAt, payload, requestOf, rowsOf, placedRows, payloadRows}
 use Rattle.contents.proofs.ContentsLaws.{Small, Within, within}
 use Rattle.payload.proofs.FirstLaws.{sizes-passed}
 use Rattle.payload.specs.Rows.{rowsIn}
@@ -128,7 +129,7 @@ parsed format ch time p rows h = go (passFirst (contents format ch 0 (body forma
     same-rows : (a b : List Row) → rowsOf a ≡ rowsOf b → a ≡ b
     same-rows a b e = cc
 
-    go : (x : Contents) → passFirst (contents format ch 0 (body format p)) ≡ x → placedRows format ch time (0 + formatOf format .header) (exact format ch (length (body format p)) x) ≡ rowsOf rows → Parsed format ch time p rows
+    go : (x : Contents) → passFirst (contents format ch 0 (body format p)) ≡ x → placedRows format ch time 0 (startingAt (tableStart format p) (exact format ch (length (body format p)) x)) ≡ rowsOf rows → Parsed format ch time p rows
     go (refused q) e k = let z : _≡_ {A = ℕ} 0 1 = cc in absurd (omega arith)
     go (groups gs) e k =
         by-test (eqb (sizeIn format gs + framesIn ch gs) (length (body format p)))
@@ -195,7 +196,7 @@ module _ (st : Settings) (request : ℕ) (ws bytes : List ℕ) (area : ℕ) (wor
   due = by-test (whole ws) (λ w. go w (plan (st .format) (st .channels) (rowsIn ws)) refl (only-plan (st .format) (st .channels) (rowsIn ws))) (λ w. none (writing-cut w))
     where
       go : whole ws ≡ true → (x : Contents) → plan (st .format) (st .channels) (rowsIn ws) ≡ x → Only (plan (st .format) (st .channels) (rowsIn ws)) → Due st request ws bytes area
-      go w (refused q) e o = none (writing-room w ∙ ap (roomFor area) (planned-encoded (refused q) e) ∙ ap noBytes (subst Only e o))
+      go w (refused q) e o = none (writing-room w ∙ ap (roomFor area) (planned-encoded (refused q) e) ∙ ap (λ (f : Fault). noBytes (f .refusal)) (subst Only e o))
       go w (groups gs) e o =
           some (requestBytes (st .format) request ++ (tableBytes (st .format) gs ++ frames bytes (rowsIn ws))) (record {
             canonical = planned-encoded (groups gs) e;

@@ -8,13 +8,12 @@ use native.Mathlib.Nat.{mod-lt}
 use lib.ListN.{length, getD}
 use lib.Dec.{eqb}
 use borrow.Author.Tests.{lt-ltb, eq-eqb, ne-eqb}
-use Rattle.rtp.specs.declared.refusal.Refusal.the-variants.{Unwritable}
 use Rattle.formats.specs.Formats.{stepOf}
 use Rattle.contents.specs.Contents.{Group, Contents, refused, groups}
 use Rattle.payload.specs.Rows.{Row, placed, blockRows}
 use Rattle.formats.specs.Codes.{noCode, codeFor}
 use Rattle.formats.proofs.FormatLaws.{gap-small}
-use Rattle.plans.specs.Plans.{gapBetween, nextChannel, starts, follows, attach, planFrom}
+use Rattle.plans.specs.Plans.{unwritable, gapBetween, nextChannel, starts, follows, attach, planFrom}
 use Rattle.roundtrip.proofs.TableBackLaws.{Runs}
 use Rattle.roundtrip.proofs.TableBlockLaws.{Block, blocksOf, blocksIn, blocksRows}
 use Rattle.roundtrip.proofs.FrameLaws.{plain, plains}
@@ -48,7 +47,7 @@ plan-plain format ch c p (r ∷ rs) =
     let e : planFrom format ch n r rs ≡ planFrom format ch n (plain r) (plains rs) =
     plan-plain format ch n r rs ∙ plan-like format ch n r (plains rs) ∙ sym (plan-like format ch n (plain r) (plains rs)) in
     let x = planFrom format ch n (plain r) (plains rs) in
-    rw e (ap (λ (y : Contents). cond (follows format c p r) (cond (eqb c 0) y x) (refused Unwritable)) (attach-like format gap r x ∙ sym (attach-like format gap (plain r) x)))
+    rw e (ap (λ (y : Contents). cond (follows format c p r) (cond (eqb c 0) y x) (refused unwritable)) (attach-like format gap r x ∙ sym (attach-like format gap (plain r) x)))
 
 -- Frame-blocks that entries can say
 

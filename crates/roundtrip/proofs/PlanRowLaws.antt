@@ -7,12 +7,11 @@ use native.Mathlib.Omega.{arith}
 use lib.Dec.{ltb, eqb}
 use borrow.Author.Tests.{eq-eqb, ne-eqb, ltb-true, eqb-true}
 use Rattle.rtp.proofs.TestLaws.{both}
-use Rattle.rtp.specs.declared.refusal.Refusal.the-variants.{Unwritable}
 use Rattle.formats.specs.Formats.{stepOf}
 use Rattle.contents.specs.Contents.{Group, Contents, refused, groups}
 use Rattle.payload.specs.Rows.{Row, placed, nextPlace, blockRows}
 use Rattle.formats.specs.Codes.{noCode, codeFor}
-use Rattle.plans.specs.Plans.{ticksAfter, gapBetween, continues, follows, attach, planFrom}
+use Rattle.plans.specs.Plans.{unwritable, ticksAfter, gapBetween, continues, follows, attach, planFrom}
 use Rattle.roundtrip.proofs.TableBlockLaws.{Block, blocksIn, blocksRows}
 use Rattle.roundtrip.proofs.FrameLaws.{plain, plains, plains-append, Alike}
 use Rattle.roundtrip.proofs.AttachLaws.{Later, same-groups, Attached, attached}
@@ -45,7 +44,7 @@ block-ahead ch time class len h = let n : ch ≡ suc (ch - 1) = omega arith in a
 
 -- What a plan that is no refusal went by
 
-passed : (t : Bool) (x : Contents) (gs : List Group) → cond t x (refused Unwritable) ≡ groups gs → (t ≡ true) × (x ≡ groups gs)
+passed : (t : Bool) (x : Contents) (gs : List Group) → cond t x (refused unwritable) ≡ groups gs → (t ≡ true) × (x ≡ groups gs)
 passed true x gs h = (refl, h)
 passed false x gs h = let z : _≡_ {A = ℕ} 0 1 = cc in absurd (omega arith)
 

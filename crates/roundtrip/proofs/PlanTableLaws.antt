@@ -9,12 +9,11 @@ use lib.ListN.{length}
 use lib.Dec.{ltb, leb, eqb}
 use borrow.Author.Tests.{le-ltb, ltb-false, eq-eqb}
 use Rattle.rtp.specs.Sizes.{maxRows}
-use Rattle.rtp.specs.declared.refusal.Refusal.the-variants.{Unwritable}
 use Rattle.formats.specs.Formats.{stepOf, maxGap}
 use Rattle.contents.specs.Contents.{Group, Contents, refused, groups, rowCount, framesIn}
 use Rattle.payload.specs.Rows.{Row, tableRows}
 use Rattle.payload.proofs.PayloadLaws.{length-table}
-use Rattle.plans.specs.Plans.{maxPayload, gapBetween, nextChannel, follows, joins, headGap, attach, planFrom, stepBefore, payloadSize, fitting, plan}
+use Rattle.plans.specs.Plans.{maxPayload, unwritable, gapBetween, nextChannel, follows, joins, headGap, attach, planFrom, stepBefore, payloadSize, fitting, plan}
 use Rattle.plans.specs.Lists.{firstTime}
 use Rattle.plans.specs.Room.{lengthsIn}
 use Rattle.encoder.proofs.PayloadLaws.{fitted}
@@ -30,7 +29,7 @@ use Rattle.roundtrip.proofs.PlanRowLaws.{blockPlains, plain-blocks, beg
 -- The only refusal
 
 abbrev pub Only : Contents → Type 0
-Only (refused q) = q ≡ Unwritable
+Only (refused q) = q ≡ unwritable
 Only (groups gs) = Unit {0}
 
 only-either : (t : Bool) (x y : Contents) → Only x → Only y → Only (cond t x y)
@@ -40,27 +39,27 @@ only-either false x y a b = b
 only-attach : (format : ℕ) (r : Row) (gap : ℕ) (x : Contents) → Only x → Only (attach format r gap x)
 only-attach format r gap (refused q) h = h
 only-attach format r gap (groups []) h = tt
-only-attach format r gap (groups (g ∷ gs)) h = only-either (joins format r g) (groups _) _ tt (only-either (leb (headGap g) (maxGap format)) (groups _) (refused Unwritable) tt refl)
+only-attach format r gap (groups (g ∷ gs)) h = only-either (joins format r g) (groups _) _ tt (only-either (leb (headGap g) (maxGap format)) (groups _) (refused unwritable) tt refl)
 
 only-from : (format ch c : ℕ) (p : Row) (rs : List Row) → Only (planFrom format ch c p rs)
 unfolding planFrom
-only-from format ch c p [] = only-either (eqb c 0) (groups []) (refused Unwritable) tt refl
+only-from format ch c p [] = only-either (eqb c 0) (groups []) (refused unwritable) tt refl
 only-from format ch c p (r ∷ rs) =
     let x = planFrom format ch (nextChannel ch c) r rs in
     let o = only-from format ch (nextChannel ch c) r rs in
     let gap = gapBetween (stepOf format) (p .time) (r .time) in
-    only-either (follows format c p r) (cond (eqb c 0) (attach format r gap x) x) (refused Unwritable) (only-either (eqb c 0) (attach format r gap x) x (only-attach format r gap x o) o) refl
+    only-either (follows format c p r) (cond (eqb c 0) (attach format r gap x) x) (refused unwritable) (only-either (eqb c 0) (attach format r gap x) x (only-attach format r gap x o) o) refl
 
 only-fitting : (format ch : ℕ) (x : Contents) → Only x → Only (fitting format ch x)
 only-fitting format ch (refused q) h = h
-only-fitting format ch (groups gs) h = only-either (ltb maxPayload (payloadSize format ch gs)) (refused Unwritable) (groups gs) refl tt
+only-fitting format ch (groups gs) h = only-either (ltb maxPayload (payloadSize format ch gs)) (refused unwritable) (groups gs) refl tt
 
 pub only-plan : (format ch : ℕ) (rs : List Row) → Only (plan format ch rs)
 unfolding plan
 only-plan format ch [] = refl
 only-plan format ch (r ∷ rs) =
     let x = planFrom format ch 0 (stepBefore format r) (r ∷ rs) in
-    only-either (ltb maxRows (length (r ∷ rs))) (refused Unwritable) (fitting format ch x) refl
+    only-either (ltb maxRows (length (r ∷ rs))) (refused unwritable) (fitting format ch x) refl
     (only-fitting format ch x (only-from format ch 0 (stepBefore format r) (r ∷ rs)))
 
 -- The rows of a plan
@@ -84,7 +83,7 @@ pub record Tabled (format ch : ℕ) (rs : List Row) (gs : List Group) : Type 0 w
   pub few : rowCount ch gs ≤ maxRows
   pub fits : payloadSize format ch gs ≤ maxPayload
 
-passed : (t : Bool) (x : Contents) (gs : List Group) → cond t (refused Unwritable) x ≡ groups gs → (t ≡ false) × (x ≡ groups gs)
+passed : (t : Bool) (x : Contents) (gs : List Group) → cond t (refused unwritable) x ≡ groups gs → (t ≡ false) × (x ≡ groups gs)
 passed true x gs h = let z : _≡_ {A = ℕ} 0 1 = cc in absurd (omega arith)
 passed false x gs h = (refl, h)
 

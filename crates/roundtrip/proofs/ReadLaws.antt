@@ -96,7 +96,7 @@ read-step format ch rows s hs bs ih (EntryRead.Entry e) h k =
     (λ b. more (contents format ch (rows + e .blocks * ch) (drop (e .size) s)) refl (rw (a, b) at k))
     (λ b. subst (Read format) (same-groups (meaning format s e ∷ []) hs (rw (a, b) at k)) ((read-run format s e h bs, read-first format s e bs, tt), omega arith)))
   where
-    more : (x : Contents) → contents format ch (rows + e .blocks * ch) (drop (e .size) s) ≡ x → prepend (meaning format s e) x ≡ groups hs → Read format hs
+    more : (x : Contents) → contents format ch (rows + e .blocks * ch) (drop (e .size) s) ≡ x → prepend (e .size) (meaning format s e) x ≡ groups hs → Read format hs
     more (refused q) i j = let z : _≡_ {A = ℕ} 0 1 = cc in absurd (omega arith)
     more (groups gs) i j = subst (Read format) (same-groups (meaning format s e ∷ gs) hs j) ((read-run format s e h bs, read-first format s e bs, ih (rows + e .blocks * ch) e h gs i .0), omega arith)
 

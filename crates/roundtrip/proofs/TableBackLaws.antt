@@ -34,6 +34,6 @@ table-back format ch rows g (f ∷ gs) rest v h =
     let ih = table-back format ch (rows + length (g .gaps) * ch) f gs rest (v .2) (omega arith) in
     rw append-assoc
     (contents-more format ch rows s e (entry-back format true g next (v .0)) (omega arith) refl
-    ∙ ap (λ (l : List ℕ). prepend (meaning format s e) (contents format ch (rows + length (g .gaps) * ch) l)) (drop-at (entryBytes format true g) next (e .size) (length-entry format true g))
-    ∙ ap (prepend (meaning format s e)) ih
+    ∙ ap (λ (l : List ℕ). prepend (e .size) (meaning format s e) (contents format ch (rows + length (g .gaps) * ch) l)) (drop-at (entryBytes format true g) next (e .size) (length-entry format true g))
+    ∙ ap (prepend (e .size) (meaning format s e)) ih
     ∙ ap (λ (x : Group). groups (x ∷ f ∷ gs)) (meaning-back format true g next (v .0) (v .1)))

@@ -7,7 +7,7 @@ use Rattle.rtp.specs.declared.redundancy.BlockHeader.{BlockHeader}
 use Rattle.rtp.specs.declared.redundancy.HeadersRead.{HeadersRead}
 use Rattle.rtp.specs.Header.{HeaderNumbers, headerNumbers}
 use Rattle.rtp.specs.Redundancy.{BlockNumbers, blockNumbers, Headers, refused, headersOf, HeadersNumbers, headersReadNumbers, headersNumbers, headersAnswer}
-use Rattle.rtp.proofs.RefusalLaws.{same-number, not-zero}
+use Rattle.rtp.proofs.RefusalLaws.{same-number, same-fault, not-zero}
 
 pub same-header : (a b : HeaderRead) → headerNumbers a ≡ headerNumbers b → a ≡ b
 same-header (HeaderRead.Refused p) (HeaderRead.Refused q) e = ap HeaderRead.Refused (same-number p q (ap (λ (n : HeaderNumbers). n .refusal) e))
@@ -28,9 +28,10 @@ same-block (BlockHeader.Redundant b) (BlockHeader.Redundant d) e =
     ap (λ (n : BlockNumbers). BlockHeader.Redundant (record { «payload_type» = n .«payload_type»; offset = n .offset; length = n .length })) e
 
 same-headers : (a b : HeadersRead) → headersReadNumbers a ≡ headersReadNumbers b → a ≡ b
-same-headers (HeadersRead.Refused p) (HeadersRead.Refused q) e = ap HeadersRead.Refused (same-number p q (ap (λ (n : HeadersNumbers). n .refusal) e))
-same-headers (HeadersRead.Refused p) (HeadersRead.Headers z) e = not-zero p (ap (λ (n : HeadersNumbers). n .refusal) e)
-same-headers (HeadersRead.Headers z) (HeadersRead.Refused q) e = not-zero q (sym (ap (λ (n : HeadersNumbers). n .refusal) e))
+same-headers (HeadersRead.Refused p) (HeadersRead.Refused q) e =
+    ap HeadersRead.Refused (same-fault p q (ap (λ (n : HeadersNumbers). n .refusal) e) (ap (λ (n : HeadersNumbers). n .offset) e))
+same-headers (HeadersRead.Refused p) (HeadersRead.Headers z) e = not-zero (p .refusal) (ap (λ (n : HeadersNumbers). n .refusal) e)
+same-headers (HeadersRead.Headers z) (HeadersRead.Refused q) e = not-zero (q .refusal) (sym (ap (λ (n : HeadersNumbers). n .refusal) e))
 same-headers (HeadersRead.Headers z) (HeadersRead.Headers w) e = ap (λ (n : HeadersNumbers). HeadersRead.Headers (record { size = n .size; redundant = n .redundant })) e
 
 pub answer-numbers : (h : Headers) → headersReadNumbers (headersAnswer h) ≡ headersNumbers h

@@ -14,6 +14,7 @@ use Rattle.rtp.specs.declared.redundancy.BlockHeader.{BlockHeader}
 use Rattle.rtp.specs.declared.redundancy.HeaderSizes.{HeaderSizes}
 use Rattle.rtp.specs.declared.redundancy.HeadersRead.{HeadersRead}
 use Rattle.rtp.specs.Numbers.{byteAt}
+use Rattle.rtp.specs.Faults.{fault, shifted}
 use Rattle.rtp.specs.Redundancy.{blockHeader, Headers, refused, headersOf, prepend, headersStep, headersBy, headers, headersSize, redundantSize, headersAnswer}
 use Rattle.rtp.proofs.TestLaws.{by-test}
 
@@ -79,7 +80,7 @@ headers-step s =
 -- The answer by the first header
 
 abbrev pub ahead : Redundant → HeadersRead → HeadersRead
-ahead e (HeadersRead.Refused r) = HeadersRead.Refused r
+ahead e (HeadersRead.Refused f) = HeadersRead.Refused (shifted 4 f)
 ahead e (HeadersRead.Headers z) = HeadersRead.Headers (record { size = 4 + z .size; redundant = e .length + z .redundant })
 
 prepend-answer : (e : Redundant) (h : Headers) → headersAnswer (prepend e h) ≡ ahead e (headersAnswer h)
@@ -88,7 +89,7 @@ prepend-answer e (refused r) = refl
 prepend-answer e (headersOf bs t) = refl
 
 module _ (s : List ℕ) where
-  pub at-refused : (r : Refusal) → blockHeader s ≡ BlockHeader.Refused r → headersAnswer (headers s) ≡ HeadersRead.Refused r
+  pub at-refused : (r : Refusal) → blockHeader s ≡ BlockHeader.Refused r → headersAnswer (headers s) ≡ HeadersRead.Refused (fault r)
   unfolding headersAnswer
   at-refused r h = rw (headers-step, h)
 
@@ -107,13 +108,13 @@ pub record Small (n : ℕ) (z : HeaderSizes) : Type 0 where
 
 abbrev pub Within : ℕ → HeadersRead → Type 0
 Within n (HeadersRead.Headers z) = Small n z
-Within n (HeadersRead.Refused r) = Unit {0}
+Within n (HeadersRead.Refused f) = Unit {0}
 
 pub bytes-drop : (n : ℕ) (s : List ℕ) → Bytes s → Bytes (drop n s)
 bytes-drop n s bs i = rw getD-drop (bs (n + i))
 
 within-more : (n : ℕ) (e : Redundant) (h : HeadersRead) → 4 ≤ n → e .length < 1024 → Within (n - 4) h → Within n (ahead e h)
-within-more n e (HeadersRead.Refused r) f l w = tt
+within-more n e (HeadersRead.Refused p) f l w = tt
 within-more n e (HeadersRead.Headers z) f l w = record { some = omega arith; within = omega arith; short = omega arith }
 
 within-step : (f : ℕ) (s : List ℕ) → length s < suc f → Bytes s
@@ -134,3 +135,27 @@ within-by (suc f) s l bs = within-step f s l bs (λ t m cs. within-by f t m cs) 
 
 pub within : (s : List ℕ) → Bytes s → Within (length s) (headersAnswer (headers s))
 within s bs = within-by (suc (length s)) s (omega arith) bs
+
+-- The headers, or the place at fault, lie inside n bytes
+abbrev pub InFront : ℕ → HeadersRead → Type 0
+InFront n (HeadersRead.Headers z) = z .size ≤ n
+InFront n (HeadersRead.Refused f) = f .offset ≤ n
+
+front-more : (n : ℕ) (e : Redundant) (h : HeadersRead) → 4 ≤ n → InFront (n - 4) h → InFront n (ahead e h)
+front-more n e (HeadersRead.Refused p) f w = omega arith
+front-more n e (HeadersRead.Headers z) f w = omega arith
+
+front-step : (f : ℕ) (s : List ℕ) → length s < suc f → ((t : List ℕ) → length t < f → InFront (length t) (headersAnswer (headers t)))
+    → (b : BlockHeader) → blockHeader s ≡ b → InFront (length s) (headersAnswer (headers s))
+front-step f s l ih (BlockHeader.Refused r) q = rw (at-refused s r q) (omega arith)
+front-step f s l ih (BlockHeader.Primary t) q = rw (at-primary s t q) (some-byte s t q)
+front-step f s l ih (BlockHeader.Redundant e) q =
+    rw (at-redundant s e q)
+    (front-more (length s) e (headersAnswer (headers (drop 4 s))) (fair s e q .within) (rw (length-drop 4 s) at (ih (drop 4 s) (omega (arith, shorter s e q)))))
+
+front-by : (f : ℕ) (s : List ℕ) → length s < f → InFront (length s) (headersAnswer (headers s))
+front-by zero s l = absurd (omega arith)
+front-by (suc f) s l = front-step f s l (λ t m. front-by f t m) (blockHeader s) refl
+
+pub front : (s : List ℕ) → InFront (length s) (headersAnswer (headers s))
+front s = front-by (suc (length s)) s (omega arith)

@@ -6,7 +6,9 @@ use native.Mathlib.Omega.{arith}
 use lib.ListN.{getD}
 use Rattle.rtp.specs.declared.refusal.Refusal.{Refusal}
 use Rattle.rtp.specs.declared.refusal.Refusal.the-variants.{PacketLength, Version, HeaderTruncated, PaddingCount, UnknownPayloadType, ContentsTruncated, ReservedCode, NoFrameBlocks, TooManyRows, LengthMismatch, SettingsOutOfRange, AreaTooShort, Unwritable, RowOutsideBytes, MalformedBuffer}
+use Rattle.rtp.specs.declared.refusal.Fault.{Fault}
 use Rattle.rtp.specs.Refusals.{number}
+use Rattle.rtp.specs.Faults.{faultAt}
 
 -- no refusal has the number 0
 pub number-positive : (r : Refusal) → 0 < number r
@@ -50,6 +52,10 @@ back MalformedBuffer = refl
 
 pub same-number : (a b : Refusal) → number a ≡ number b → a ≡ b
 same-number a b h = sym (back a) ∙ ap refusalOf h ∙ back b
+
+-- faults of the same reason and place are the same
+pub same-fault : (a b : Fault) → number (a .refusal) ≡ number (b .refusal) → a .offset ≡ b .offset → a ≡ b
+same-fault a b h k = ap (λ (r : Refusal). faultAt (a .offset) r) (same-number (a .refusal) (b .refusal) h) ∙ ap (λ (n : ℕ). faultAt n (b .refusal)) k
 
 pub not-zero {ℓ} : {P : Type ℓ} (r : Refusal) → number r ≡ 0 → P
 not-zero r h = absurd (omega (arith, number-positive r))

@@ -3,6 +3,7 @@ pub mod Time
 pub mod Numbers
 pub mod Areas
 pub mod Refusals
+pub mod Faults
 pub mod Ranges
 pub mod Header
 pub mod Redundancy

@@ -4,7 +4,7 @@ use mathlib.Core.List.{List, [], _∷_}
 use mathlib.Core.Bool.{cond}
 use lib.ListN.{length, drop}
 use lib.Dec.{ltb, eqb}
-use Rattle.rtp.specs.declared.refusal.Refusal.{Refusal}
+use Rattle.rtp.specs.declared.refusal.Fault.{Fault}
 use Rattle.rtp.specs.declared.refusal.Refusal.the-variants.{PacketLength, ContentsTruncated}
 use Rattle.rtp.specs.declared.redundancy.Redundant.{Redundant}
 use Rattle.rtp.specs.declared.redundancy.BlockHeader.{BlockHeader}
@@ -12,6 +12,7 @@ use Rattle.rtp.specs.declared.redundancy.HeadersRead.{HeadersRead}
 use Rattle.rtp.specs.Sizes.{maxPacket}
 use Rattle.rtp.specs.Numbers.{byteAt}
 use Rattle.rtp.specs.Refusals.{number}
+use Rattle.rtp.specs.Faults.{fault, shifted}
 
 -- the block header at the front of s: F, type 7 bits; with F set, offset 14 bits and length 10 bits
 unfoldable pub blockHeader : List ℕ → BlockHeader
@@ -41,22 +42,23 @@ blockNumbers (BlockHeader.Redundant b) = record { refusal = 0; follows = 1; «pa
 
 -- the block headers of a payload: the redundant blocks', then the primary block's type
 pub data Headers : Type 0 where
-  refused : Refusal → Headers
+  refused : Fault → Headers
   headersOf : List Redundant → ℕ → Headers
 
+-- a redundant block's header of four bytes, and those after it
 abbrev pub prepend : Redundant → Headers → Headers
-prepend b (refused r) = refused r
+prepend b (refused f) = refused (shifted 4 f)
 prepend b (headersOf bs t) = headersOf (b ∷ bs) t
 
 -- what the block header at the front makes of them, where `next` gives the headers that follow
 abbrev pub headersStep : List ℕ → (List ℕ → Headers) → BlockHeader → Headers
-headersStep s next (BlockHeader.Refused r) = refused r
+headersStep s next (BlockHeader.Refused r) = refused (fault r)
 headersStep s next (BlockHeader.Primary t) = headersOf [] t
 headersStep s next (BlockHeader.Redundant b) = prepend b (next (drop 4 s))
 
 -- by fuel
 unfoldable pub headersBy : ℕ → List ℕ → Headers
-headersBy zero s = refused ContentsTruncated
+headersBy zero s = refused (fault ContentsTruncated)
 headersBy (suc f) s = headersStep s (λ t. headersBy f t) (blockHeader s)
 
 -- the block headers at the front of s
@@ -65,7 +67,7 @@ headers s = headersBy (suc (length s)) s
 
 -- the same of a payload, which is no longer than a packet
 unfoldable pub redundancyHeaders : List ℕ → Headers
-redundancyHeaders s = cond (ltb maxPacket (length s)) (refused PacketLength) (headers s)
+redundancyHeaders s = cond (ltb maxPacket (length s)) (refused (fault PacketLength)) (headers s)
 
 -- the bytes of the headers, and of the redundant blocks
 unfoldable pub headersSize : List Redundant → ℕ
@@ -76,23 +78,24 @@ unfoldable pub redundantSize : List Redundant → ℕ
 redundantSize [] = 0
 redundantSize (b ∷ bs) = b .length + redundantSize bs
 
--- The answer in numbers: the refusal number or 0, and the two sizes, 0 on refusal
+-- The answer in numbers: the refusal number or 0, the place of the fault, and the two sizes, 0 on refusal
 pub record HeadersNumbers : Type 0 where
   pub refusal : ℕ
+  pub offset : ℕ
   pub size : ℕ
   pub redundant : ℕ
 
 -- of the code's answer, case by case
 abbrev pub headersReadNumbers : HeadersRead → HeadersNumbers
-headersReadNumbers (HeadersRead.Refused r) = record { refusal = number r; size = 0; redundant = 0 }
-headersReadNumbers (HeadersRead.Headers z) = record { refusal = 0; size = z .size; redundant = z .redundant }
+headersReadNumbers (HeadersRead.Refused f) = record { refusal = number (f .refusal); offset = f .offset; size = 0; redundant = 0 }
+headersReadNumbers (HeadersRead.Headers z) = record { refusal = 0; offset = 0; size = z .size; redundant = z .redundant }
 
 -- of the headers
 unfoldable pub headersNumbers : Headers → HeadersNumbers
-headersNumbers (refused r) = record { refusal = number r; size = 0; redundant = 0 }
-headersNumbers (headersOf bs t) = record { refusal = 0; size = headersSize bs; redundant = redundantSize bs }
+headersNumbers (refused f) = record { refusal = number (f .refusal); offset = f .offset; size = 0; redundant = 0 }
+headersNumbers (headersOf bs t) = record { refusal = 0; offset = 0; size = headersSize bs; redundant = redundantSize bs }
 
 -- the code's answer that has them
 unfoldable pub headersAnswer : Headers → HeadersRead
-headersAnswer (refused r) = HeadersRead.Refused r
+headersAnswer (refused f) = HeadersRead.Refused f
 headersAnswer (headersOf bs t) = HeadersRead.Headers (record { size = headersSize bs; redundant = redundantSize bs })

@@ -1,5 +1,6 @@
 // Redundancy block headers (RFC 2198).
 use crate::bytes;
+use crate::refusal::Fault;
 use crate::refusal::Refusal;
 use crate::sizes::MAX_PACKET;
 ghost use mathlib.Core.Path.{_≡_};
@@ -30,7 +31,7 @@ pub struct HeaderSizes {
 
 pub enum HeadersRead {
     Headers(HeaderSizes),
-    Refused(Refusal),
+    Refused(Fault),
 }
 
 // The block header at the front of s.
@@ -63,13 +64,19 @@ pub(crate) fn headers_from(s: &[u8]) -> HeadersRead
     ensures { λ r. ⌜ r ≡ headersAnswer (headers (now (s .entry))) ⌝ }
 {
     match read_block_header(s) {
-        BlockHeader::Refused(refusal) => HeadersRead::Refused(refusal),
+        BlockHeader::Refused(refusal) => HeadersRead::Refused(Fault { refusal, offset: 0 }),
         BlockHeader::Primary(_) => HeadersRead::Headers(HeaderSizes {
             size: 1,
             redundant: 0,
         }),
         BlockHeader::Redundant(block) => match headers_from(&s[4..]) {
-            HeadersRead::Refused(refusal) => HeadersRead::Refused(refusal),
+            HeadersRead::Refused(fault) => {
+                let refusal = fault.refusal;
+                HeadersRead::Refused(Fault {
+                    refusal,
+                    offset: 4 + fault.offset,
+                })
+            }
             HeadersRead::Headers(rest) => HeadersRead::Headers(HeaderSizes {
                 size: 4 + rest.size,
                 redundant: block.length + rest.redundant,
@@ -83,7 +90,10 @@ pub fn read_headers(s: &[u8]) -> HeadersRead
     ensures { λ r. ⌜ headersReadNumbers r ≡ headersNumbers (redundancyHeaders (now (s .entry))) ⌝ }
 {
     if MAX_PACKET < s.len() {
-        return HeadersRead::Refused(Refusal::PacketLength);
+        return HeadersRead::Refused(Fault {
+            refusal: Refusal::PacketLength,
+            offset: 0,
+        });
     }
     headers_from(s)
 }

@@ -20,6 +20,12 @@ pub enum Refusal {
     MalformedBuffer,
 }
 
+// Why bytes were refused, and where: the offset of the place at fault from the front of what was read, 0 where a refusal has none.
+pub struct Fault {
+    pub refusal: Refusal,
+    pub offset: usize,
+}
+
 // The paper's refusal number.
 pub fn refusal_number(refusal: Refusal) -> u32
     ensures { λ r. ⌜ r ≡ number refusal ⌝ }

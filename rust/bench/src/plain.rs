@@ -59,34 +59,40 @@ fn mode_of(s: Settings, p: &[u8]) -> u8 {
     }
 }
 
-fn walk(s: Settings, p: &[u8], before: usize) -> Result<Table, u32> {
+fn fault(refusal: u32, at: usize) -> Fault {
+    Fault { refusal, offset: at as u32 }
+}
+
+/// Walks the table of a payload that stands at `place` of the packet, after as many rows.
+fn walk(s: Settings, p: &[u8], place: usize, before: usize) -> Result<Table, Fault> {
     let channels = s.channels as usize;
     let (mut at, mut rows, mut bytes) = (mode_bytes(s), before, 0);
     loop {
         let (blocks, size, length);
         if s.format >= 3 {
             if at >= p.len() {
-                return Err(TABLE_PAST_END);
+                // an empty payload has no mode byte either
+                return Err(fault(TABLE_PAST_END, place + p.len()));
             }
-            length = frame(s.format, p[at]).ok_or(RESERVED_CODE)?.1 as usize;
+            length = frame(s.format, p[at]).ok_or(fault(RESERVED_CODE, place + at))?.1 as usize;
             (blocks, size) = (1, 1);
         } else {
             if at + 2 > p.len() {
-                return Err(TABLE_PAST_END);
+                return Err(fault(TABLE_PAST_END, place + at));
             }
             blocks = p[at + 1] as usize;
             size = if s.format == 2 { 2 + blocks.div_ceil(2) } else { 2 };
             if at + size > p.len() {
-                return Err(TABLE_PAST_END);
+                return Err(fault(TABLE_PAST_END, place + at));
             }
-            length = frame_length(p[at] >> 2 & 31).ok_or(RESERVED_CODE)?;
+            length = frame_length(p[at] >> 2 & 31).ok_or(fault(RESERVED_CODE, place + at))?;
             if blocks == 0 {
-                return Err(NO_FRAME_BLOCKS);
+                return Err(fault(NO_FRAME_BLOCKS, place + at));
             }
         }
         rows += blocks * channels;
         if rows > MAX_ROWS {
-            return Err(TOO_MANY_ROWS);
+            return Err(fault(TOO_MANY_ROWS, place + at));
         }
         bytes += blocks * channels * length;
         let more = p[at] & F_BIT != 0;
@@ -96,7 +102,7 @@ fn walk(s: Settings, p: &[u8], before: usize) -> Result<Table, u32> {
         }
     }
     if bytes != p.len() - at {
-        return Err(BAD_DATA_LENGTH);
+        return Err(fault(BAD_DATA_LENGTH, place + at));
     }
     Ok(Table { sound: at, rows: rows - before })
 }
@@ -142,37 +148,37 @@ fn word(b: &[u8]) -> u32 {
     u32::from_be_bytes([b[0], b[1], b[2], b[3]])
 }
 
-pub fn read(s: Settings, packet: &[u8], out: &mut [u32]) -> Result<Reading, u32> {
+pub fn read(s: Settings, packet: &[u8], out: &mut [u32]) -> Result<Reading, Fault> {
     if !s.in_range() {
-        return Err(BAD_SETTINGS);
+        return Err(BAD_SETTINGS.into());
     }
     if out.len() < ROW_AREA {
-        return Err(AREA_TOO_SHORT);
+        return Err(AREA_TOO_SHORT.into());
     }
     read_checked(s, packet, out)
 }
 
-fn read_checked(s: Settings, packet: &[u8], out: &mut [u32]) -> Result<Reading, u32> {
+fn read_checked(s: Settings, packet: &[u8], out: &mut [u32]) -> Result<Reading, Fault> {
     if packet.len() < MIN_PACKET || packet.len() > MAX_PACKET {
-        return Err(BAD_PACKET_LENGTH);
+        return Err(BAD_PACKET_LENGTH.into());
     }
     if packet[0] >> 6 != 2 {
-        return Err(BAD_VERSION);
+        return Err(BAD_VERSION.into());
     }
     let mut start = HEADER_BYTES + 4 * (packet[0] & 15) as usize;
     if packet[0] & 16 != 0 && start + 4 <= packet.len() {
         start += 4 + 4 * u16::from_be_bytes([packet[start + 2], packet[start + 3]]) as usize;
     } else if packet[0] & 16 != 0 {
-        return Err(HEADER_PAST_END);
+        return Err(HEADER_PAST_END.into());
     }
     if start > packet.len() {
-        return Err(HEADER_PAST_END);
+        return Err(HEADER_PAST_END.into());
     }
     let mut end = packet.len();
     if packet[0] & 32 != 0 {
         let padding = packet[end - 1] as usize;
         if padding == 0 || padding > end - start {
-            return Err(BAD_PADDING);
+            return Err(BAD_PADDING.into());
         }
         end -= padding;
     }
@@ -180,13 +186,13 @@ fn read_checked(s: Settings, packet: &[u8], out: &mut [u32]) -> Result<Reading, 
     let payload_type = packet[1] & 127;
     let (rows, mode_request) = if payload_type == s.payload_type {
         let payload = &packet[start..end];
-        let table = walk(s, payload, 0)?;
+        let table = walk(s, payload, start, 0)?;
         put_rows(s, payload, start, timestamp, &table, out);
         (table.rows, mode_of(s, payload))
     } else if payload_type == s.redundancy_type {
         read_redundancy(s, packet, start, end, timestamp, out)?
     } else {
-        return Err(OTHER_TYPE);
+        return Err(OTHER_TYPE.into());
     };
     Ok(Reading {
         rows: rows as u32,
@@ -198,25 +204,25 @@ fn read_checked(s: Settings, packet: &[u8], out: &mut [u32]) -> Result<Reading, 
     })
 }
 
-fn read_redundancy(s: Settings, packet: &[u8], start: usize, end: usize, timestamp: u32, out: &mut [u32]) -> Result<(usize, u8), u32> {
+fn read_redundancy(s: Settings, packet: &[u8], start: usize, end: usize, timestamp: u32, out: &mut [u32]) -> Result<(usize, u8), Fault> {
     let (mut at, mut summed) = (start, 0);
     loop {
         if at >= end {
-            return Err(TABLE_PAST_END);
+            return Err(fault(TABLE_PAST_END, at));
         }
         if packet[at] & F_BIT == 0 {
             at += 1;
             break;
         }
         if at + 4 > end {
-            return Err(TABLE_PAST_END);
+            return Err(fault(TABLE_PAST_END, at));
         }
         summed += (word(&packet[at..]) & 1023) as usize;
         at += 4;
     }
     let data = at;
     if summed > end - data {
-        return Err(BAD_DATA_LENGTH);
+        return Err(fault(BAD_DATA_LENGTH, data));
     }
     // Walk all blocks, then write them: a refusal in the last one leaves the area as it was.
     for write in [false, true] {
@@ -227,7 +233,7 @@ fn read_redundancy(s: Settings, packet: &[u8], start: usize, end: usize, timesta
             let block_end = if last { end } else { block + (head & 1023) as usize };
             if (head >> 24 & 127) as u8 == s.payload_type && block_end > block {
                 let payload = &packet[block..block_end];
-                let table = walk(s, payload, rows)?;
+                let table = walk(s, payload, block, rows)?;
                 if write {
                     put_rows(s, payload, block, timestamp.wrapping_sub(head >> 10 & 16383), &table, &mut out[ROW_WORDS * rows..]);
                 }
@@ -483,9 +489,9 @@ impl Take {
         Ok(Take { settings, held: VecDeque::with_capacity(SLOTS), occupied: [0; 3], last: None })
     }
 
-    pub fn offer(&mut self, packet: &[u8], rows: &mut [u32], store: &mut [u8]) -> Result<Verdicts, u32> {
+    pub fn offer(&mut self, packet: &[u8], rows: &mut [u32], store: &mut [u8]) -> Result<Verdicts, Fault> {
         if rows.len() < ROW_AREA || store.len() < STORE_BYTES {
-            return Err(AREA_TOO_SHORT);
+            return Err(AREA_TOO_SHORT.into());
         }
         let reading = read_checked(self.settings, packet, rows)?;
         let mut verdicts = Verdicts::default();

@@ -236,6 +236,16 @@ pub fn packet_at(r: &mut Random, s: Settings, shape: Shape, time: u32) -> Vec<u8
     packet
 }
 
+/// Where the payload of a packet starts that is not refused with 1 to 3.
+pub fn payload_start(packet: &[u8]) -> usize {
+    let start = 12 + 4 * (packet[0] & 15) as usize;
+    if packet[0] & 0x10 == 0 {
+        start
+    } else {
+        start + 4 + 4 * u16::from_be_bytes([packet[start + 2], packet[start + 3]]) as usize
+    }
+}
+
 fn redundancy(r: &mut Random, s: Settings, shape: Shape, packet: &mut Vec<u8>) {
     let blocks = match r.below(20) {
         0 => r.within(5, 60),

@@ -50,8 +50,8 @@ fn read(r: &mut Random, cases: usize) {
         let (mut one, mut two) = (exact(&vec![7; words]), exact(&vec![7; words]));
         let answer = raw::read(settings(s), &packet, &mut one);
         let expected = reference::read(s, &packet, &mut two);
-        let numbers = expected.map_or_else(|refusal| (refusal, 0, 0), |e| (0, e.rows, e.mode_request));
-        assert_eq!(((answer.refusal, answer.rows, answer.mode_request), one), (numbers, two));
+        let numbers = expected.map_or_else(|fault| (fault.refusal, fault.offset, 0, 0), |e| (0, 0, e.rows, e.mode_request));
+        assert_eq!(((answer.refusal, answer.offset, answer.rows, answer.mode_request), one), (numbers, two));
     }
     println!("exact lengths: {cases} calls of read");
 }
@@ -116,7 +116,8 @@ fn buffer(r: &mut Random, cases: usize) {
             let (mut one, mut two) = (exact(&vec![7; words]), exact(&vec![7; words]));
             let answer = raw::offer(state, &packet, &mut one, &mut one_store);
             let (after, expected) = reference::offer(&given, &packet, &mut two, &mut two_store);
-            assert!(answer.refusal == expected.err().unwrap_or(0) && answer.buffer == to_raw(&after));
+            let fault = expected.err().unwrap_or(reference::Fault::from(0));
+            assert!(answer.refusal == fault.refusal && answer.offset == fault.offset && answer.buffer == to_raw(&after));
             assert!(answer.inserted == expected.map_or(0, |v| v.inserted) && one == two && one_store == two_store);
             if given == buffer {
                 buffer = after;

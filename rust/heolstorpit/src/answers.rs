@@ -1,6 +1,6 @@
 //! The C functions' answers as results: all of them, whatever their numbers.
 
-use crate::{raw, Buffer, Class, Refusal};
+use crate::{raw, Buffer, Class, Fault, Refusal};
 
 /// What a packet that was read says of itself.
 #[derive(Clone, Copy, Debug, PartialEq, Eq, Hash)]
@@ -74,13 +74,14 @@ fn accepted<T>(number: u32, value: T) -> Result<T, Refusal> {
 }
 
 impl raw::Reading {
-    /// The packet's header and its number of rows, or the refusal.
+    /// The packet's header and its number of rows, or why it was refused and where.
     #[inline]
-    pub fn result(&self) -> Result<Reading, Refusal> {
-        let raw::Reading { refusal, rows, marker, sequence, timestamp, source, mode_request } = *self;
+    pub fn result(&self) -> Result<Reading, Fault> {
+        let raw::Reading { refusal, offset, rows, marker, sequence, timestamp, source, mode_request } = *self;
         // a sequence number has 16 bits, a mode request 4
         let (sequence, mode_request) = (sequence as u16, mode_request as u8);
         accepted(refusal, Reading { rows, marker: marker != 0, sequence, timestamp, source, mode_request })
+            .map_err(|refusal| Fault::new(refusal, offset))
     }
 }
 
@@ -101,11 +102,11 @@ impl raw::Fresh {
 }
 
 impl raw::Offered {
-    /// The counts of verdicts, or the refusal.
+    /// The counts of verdicts, or why the packet was refused and where.
     #[inline]
-    pub fn result(&self) -> Result<Verdicts, Refusal> {
-        let raw::Offered { refusal, late, far, repeated, better, no_room, inserted, .. } = *self;
-        accepted(refusal, Verdicts { late, far, repeated, better, no_room, inserted })
+    pub fn result(&self) -> Result<Verdicts, Fault> {
+        let raw::Offered { refusal, offset, late, far, repeated, better, no_room, inserted, .. } = *self;
+        accepted(refusal, Verdicts { late, far, repeated, better, no_room, inserted }).map_err(|refusal| Fault::new(refusal, offset))
     }
 }
 

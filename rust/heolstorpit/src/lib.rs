@@ -22,7 +22,7 @@ mod sizes;
 pub use answers::{Frame, Reading, Report, Verdicts};
 pub use numbered::{Class, Format};
 pub use reception::Reception;
-pub use refusal::Refusal;
+pub use refusal::{Fault, Refusal};
 pub use rows::Row;
 pub use sizes::*;
 
@@ -55,9 +55,10 @@ impl From<Settings> for raw::Settings {
     }
 }
 
-/// Reads a packet into the row area, which has at least [`ROW_AREA`] words. Words after the last row stay.
+/// Reads a packet into the row area, which has at least [`ROW_AREA`] words. Words after the last row stay. A refusal says where in the
+/// packet.
 #[cfg(feature = "read")]
-pub fn read(settings: Settings, packet: &[u8], rows: &mut [u32]) -> Result<Reading, Refusal> {
+pub fn read(settings: Settings, packet: &[u8], rows: &mut [u32]) -> Result<Reading, Fault> {
     raw::read(settings.into(), packet, rows).result()
 }
 
@@ -109,9 +110,9 @@ impl Buffer {
     }
 
     /// Reads the packet into the row area, which has at least [`ROW_AREA`] words, and keeps its frames in the store, which has
-    /// at least [`STORE_BYTES`] bytes.
+    /// at least [`STORE_BYTES`] bytes. A refusal says where in the packet.
     #[cfg(feature = "buffer")]
-    pub fn offer(&mut self, packet: &[u8], rows: &mut [u32], store: &mut [u8]) -> Result<Verdicts, Refusal> {
+    pub fn offer(&mut self, packet: &[u8], rows: &mut [u32], store: &mut [u8]) -> Result<Verdicts, Fault> {
         let answer = raw::offer(self.0, packet, rows, store);
         self.0 = answer.buffer;
         answer.result()

@@ -21,6 +21,7 @@ pub struct Settings {
 #[derive(Clone, Copy, Debug, Default, PartialEq, Eq)]
 pub struct Reading {
     pub refusal: u32,
+    pub offset: u32,
     pub rows: u32,
     pub marker: u32,
     pub sequence: u32,
@@ -67,6 +68,7 @@ pub struct Fresh {
 #[derive(Clone, Copy, Debug, PartialEq, Eq)]
 pub struct Offered {
     pub refusal: u32,
+    pub offset: u32,
     pub late: u32,
     pub far: u32,
     pub repeated: u32,

@@ -1,6 +1,7 @@
 use crate::numbered::numbered;
 use crate::{MAX_PACKET, MAX_ROWS, MIN_PACKET};
 use std::error::Error;
+use std::fmt::{Display, Formatter};
 use std::num::NonZeroU32;
 
 numbered! {
@@ -39,3 +40,40 @@ impl From<NonZeroU32> for Refusal {
 }
 
 impl Error for Refusal {}
+
+/// Why a packet was refused, and where.
+#[derive(Clone, Copy, Debug, PartialEq, Eq, Hash)]
+pub struct Fault {
+    /// why
+    pub refusal: Refusal,
+    /// where in the whole packet: the first byte of the table entry or block header at fault, or where a missing one would start; with
+    /// [`Refusal::LengthMismatch`] the first byte after the tables or block headers. It may be the packet's length. Nothing where the
+    /// refusal is of no such place
+    pub offset: Option<usize>,
+}
+
+impl Fault {
+    /// The fault that an answer's offset says, where 0 is none.
+    #[inline]
+    pub(crate) fn new(refusal: Refusal, offset: u32) -> Fault {
+        Fault { refusal, offset: (offset != 0).then_some(offset as usize) }
+    }
+}
+
+impl From<Fault> for Refusal {
+    #[inline]
+    fn from(fault: Fault) -> Refusal {
+        fault.refusal
+    }
+}
+
+impl Display for Fault {
+    fn fmt(&self, f: &mut Formatter<'_>) -> std::fmt::Result {
+        match self.offset {
+            None => write!(f, "{}", self.refusal),
+            Some(offset) => write!(f, "{} (at byte {offset} of the packet)", self.refusal),
+        }
+    }
+}
+
+impl Error for Fault {}

@@ -3,13 +3,18 @@
 
 mod common;
 
-use cases::{Random, Shape};
+use cases::{Judged, Random, Shape};
 use common::{around, settings, to_raw, Seen, Twice};
-use heolstorpit::{raw, Buffer, Class, Format};
-use reference::{step_ticks, Drawn, Settings, Verdicts, DRAW_AREA, MAX_PAYLOAD, MAX_ROWS, NO_REDUNDANCY, ROW_AREA, SLOTS, STORE_BYTES};
+use heolstorpit::{raw, Buffer, Class, Format, Refusal};
+use reference::{
+    step_ticks, Drawn, Fault, Settings, Verdicts, DRAW_AREA, MAX_PAYLOAD, MAX_ROWS, NO_REDUNDANCY, ROW_AREA, SLOTS, STORE_BYTES,
+};
 
 /// Counted: offers that leave as many frames held as there may be.
 const FULL: &str = "offers that leave all slots in use";
+
+/// Counted: offers refused with an offset.
+const OFFSET: &str = "offers refused with an offset";
 
 /// A buffer with its lent areas, held by the library and by the reference.
 struct Pair {
@@ -18,6 +23,8 @@ struct Pair {
     store: Twice<u8>,
     area: Twice<u8>,
     seen: Seen,
+    /// refusal and offset of the last offer
+    fault: (u32, u32),
 }
 
 impl Pair {
@@ -28,6 +35,7 @@ impl Pair {
             store: Twice::new(STORE_BYTES + 64, |bytes| r.fill(bytes)),
             area: Twice::new(DRAW_AREA + 64, |bytes| r.fill(bytes)),
             seen: Seen::default(),
+            fault: (0, 0),
         }
     }
 
@@ -45,12 +53,12 @@ impl Pair {
         let (my_store, their_store) = self.store.lend(store);
         let answer = raw::offer(to_raw(&buffer), packet, my_rows, my_store);
         let (after, expected) = reference::offer(&buffer, packet, their_rows, their_store);
-        let (refusal, v) = match expected {
-            Ok(v) => (0, v),
-            Err(refusal) => (refusal, Verdicts::default()),
+        let (Fault { refusal, offset }, v) = match expected {
+            Ok(v) => (Fault::from(0), v),
+            Err(fault) => (fault, Verdicts::default()),
         };
         let Verdicts { late, far, repeated, better, no_room, inserted } = v;
-        let numbers = raw::Offered { refusal, late, far, repeated, better, no_room, inserted, buffer: to_raw(&after) };
+        let numbers = raw::Offered { refusal, offset, late, far, repeated, better, no_room, inserted, buffer: to_raw(&after) };
         let areas = self.rows.same() && self.store.same();
         let kept = refusal == 0 || (self.rows.unchanged() && self.store.unchanged());
         assert!(
@@ -58,6 +66,10 @@ impl Pair {
             "offer differs; areas equal: {areas}\nlibrary {answer:?}\nreference {numbers:?}\nto {buffer:?}\nrow area {rows}, store {store}\npacket {packet:02x?}"
         );
         self.seen.refusal(refusal);
+        if offset != 0 {
+            self.seen.add(OFFSET, 1);
+        }
+        self.fault = (refusal, offset);
         for (name, n) in
             [("late", late), ("far", far), ("repeated", repeated), ("better", better), ("no room", no_room), ("inserted", inserted)]
         {
@@ -224,6 +236,7 @@ fn histories() {
             "drawn",
             "empty",
             FULL,
+            OFFSET,
         ],
     );
     p.seen.at_least(100, &["refusal  1", "refusal  2", "refusal  3", "refusal  4", "refusal  5", "refusal  6", "refusal  7", "refusal 11"]);
@@ -328,6 +341,44 @@ fn copies_of_amr() {
     }
     p.seen.report("buffer, copies of AMR");
     p.seen.at_least(500, &["late", "repeated", "better", "inserted", "drawn"]);
+}
+
+/// P2: an offer says where, as worked out by hand, to a buffer fresh or filled, through the friendly function too; 1 to 5, 11, 12 and 15
+/// have no offset, whatever the packet.
+#[test]
+fn faults() {
+    let mut r = Random::new(26);
+    let mut p = Pair::new(&mut r);
+    let (mut rows, mut store) = (vec![0; ROW_AREA], vec![0; STORE_BYTES]);
+    for judged in cases::faults() {
+        let Judged { settings: s, packet, refusal, offset } = &judged;
+        p.fresh(*s);
+        if r.percent(50) {
+            let shape = Shape { bytes: 400, rows: 8, alike: true };
+            p.offer(&cases::packet_at(&mut r, *s, shape, 960));
+            p.draw().unwrap();
+        }
+        let given = p.buffer;
+        let mut friendly = Buffer::from_raw(to_raw(&given));
+        let answer = friendly.offer(packet, &mut rows, &mut store).err();
+        let fault = Refusal::from_number(*refusal).map(|refusal| heolstorpit::Fault { refusal, offset: Some(*offset as usize) });
+        assert_eq!(answer, fault, "{judged:02x?}");
+        assert!(*refusal == 0 || *friendly.as_raw() == to_raw(&given));
+        let mut fault = |buffer, packet: &[u8], rows, store| {
+            p.offer_to(buffer, packet, rows, store);
+            p.fault
+        };
+        for spoiled in cases::header_faults(&judged) {
+            assert_eq!(fault(given, &spoiled.packet, ROW_AREA, STORE_BYTES), (spoiled.refusal, 0), "{spoiled:02x?}");
+        }
+        assert_eq!(fault(reference::Buffer::zero(), packet, ROW_AREA, STORE_BYTES), (11, 0));
+        assert_eq!(fault(reference::Buffer { drawn: 2, ..given }, packet, ROW_AREA, STORE_BYTES), (15, 0));
+        assert_eq!(fault(given, packet, ROW_AREA - 1, STORE_BYTES), (12, 0));
+        assert_eq!(fault(given, packet, ROW_AREA, STORE_BYTES - 1), (12, 0));
+        assert_eq!(fault(given, packet, ROW_AREA, STORE_BYTES), (*refusal, *offset), "{judged:02x?}");
+    }
+    p.seen.report("buffer, faults");
+    p.seen.at_least(100, &["accepted", "refusal  6", "refusal  7", "refusal  8", "refusal  9", "refusal 10", OFFSET]);
 }
 
 /// `new` for all settings with fields around their limits.

@@ -6,7 +6,7 @@ mod common;
 use cases::Random;
 use common::{raw_reception, to_raw};
 use heolstorpit::{
-    raw, Buffer, Class, Format, Frame, Reception, Refusal, Report, Row, Settings, MAX_PACKET, MAX_ROWS, MIN_PACKET, ROW_WORDS,
+    raw, Buffer, Class, Fault, Format, Frame, Reception, Refusal, Report, Row, Settings, MAX_PACKET, MAX_ROWS, MIN_PACKET, ROW_WORDS,
 };
 use std::collections::HashSet;
 use std::fmt::Display;
@@ -143,20 +143,22 @@ fn frames_drawn() {
 /// Every answer with a refusal is that refusal, whatever its number; with 0 it is what the library answered.
 #[test]
 fn answers() {
-    let reading = raw::Reading { refusal: 0, rows: 1, marker: 1, sequence: 65_535, timestamp: u32::MAX, source: 5, mode_request: 14 };
+    let reading =
+        raw::Reading { refusal: 0, offset: 0, rows: 1, marker: 1, sequence: 65_535, timestamp: u32::MAX, source: 5, mode_request: 14 };
     let written = raw::Written { refusal: 0, length: 7 };
     let fresh = raw::Fresh { refusal: 0, buffer: buffer() };
-    let offered = raw::Offered { refusal: 0, late: 1, far: 2, repeated: 3, better: 4, no_room: 5, inserted: 6, buffer: buffer() };
+    let offered =
+        raw::Offered { refusal: 0, offset: 0, late: 1, far: 2, repeated: 3, better: 4, no_room: 5, inserted: 6, buffer: buffer() };
     let drawn = raw::Drawn { refusal: 0, empty: 0, time: 0, channel: 0, frame_class: 0, length: 0, buffer: buffer() };
     let reception = raw_reception(&reference::Reception { jitter: 1, started: 1, ..Default::default() });
     let received = raw::Received { refusal: 0, valid: 1, reception };
     let reported = raw::Reported { refusal: 0, fraction_lost: 255, cumulative_lost: -1, highest_sequence: 2, jitter: 3, reception };
     for refusal in numbers().into_iter().filter(|number| *number != 0) {
         let found = [
-            raw::Reading { refusal, ..reading }.result().err(),
+            raw::Reading { refusal, ..reading }.result().err().map(Refusal::from),
             raw::Written { refusal, ..written }.result().err(),
             raw::Fresh { refusal, ..fresh }.result().err(),
-            raw::Offered { refusal, ..offered }.result().err(),
+            raw::Offered { refusal, ..offered }.result().err().map(Refusal::from),
             raw::Drawn { refusal, ..drawn }.result().err(),
             raw::Drawn { refusal, empty: 1, ..drawn }.result().err(),
             raw::Received { refusal, ..received }.result().err(),
@@ -172,6 +174,28 @@ fn answers() {
     assert_eq!([of.late, of.far, of.repeated, of.better, of.no_room, of.inserted], [1, 2, 3, 4, 5, 6]);
     assert_eq!([0, 1].map(|valid| raw::Received { valid, ..received }.result()), [Ok(false), Ok(true)]);
     assert_eq!(reported.result(), Ok(Report { fraction_lost: 255, cumulative_lost: -1, highest_sequence: 2, jitter: 3 }));
+}
+
+/// A fault has the offset that was answered, whatever the refusal; 0 is none.
+#[test]
+fn offsets() {
+    let offered =
+        raw::Offered { refusal: 7, offset: 0, late: 0, far: 0, repeated: 0, better: 0, no_room: 0, inserted: 0, buffer: buffer() };
+    for (number, refusal) in [(7, Refusal::ReservedCode), (3, Refusal::HeaderTruncated), (99, Refusal::from_number(99).unwrap())] {
+        for offset in numbers() {
+            let fault = Fault { refusal, offset: if offset == 0 { None } else { Some(offset as usize) } };
+            assert_eq!(raw::Reading { refusal: number, offset, ..raw::Reading::default() }.result(), Err(fault));
+            assert_eq!(raw::Offered { refusal: number, offset, ..offered }.result(), Err(fault));
+        }
+    }
+    // an answer that is accepted has none
+    assert!(raw::Reading { offset: 5, ..raw::Reading::default() }.result().is_ok());
+    let words = |offset| -> String {
+        let error: Box<dyn std::error::Error> = Fault { refusal: Refusal::ReservedCode, offset }.into();
+        error.to_string()
+    };
+    assert_eq!(words(None), Refusal::ReservedCode.to_string());
+    assert!(words(Some(40)).starts_with(&words(None)) && words(Some(40)).contains("byte 40"));
 }
 
 /// A reception keeps the numbers that it has, whatever they are.

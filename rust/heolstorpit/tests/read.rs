@@ -2,10 +2,10 @@
 
 mod common;
 
-use cases::{Random, Shape};
+use cases::{Judged, Random, Shape};
 use common::{around, settings, Seen, Twice};
-use heolstorpit::raw;
-use reference::{Settings, F_BIT, MAX_PACKET, MAX_PAYLOAD, MAX_ROWS, ROW_AREA, ROW_WORDS};
+use heolstorpit::{raw, Refusal};
+use reference::{Fault, Settings, F_BIT, MAX_PACKET, MAX_PAYLOAD, MAX_ROWS, ROW_AREA, ROW_WORDS};
 
 struct Comparer {
     area: Twice<u32>,
@@ -20,17 +20,17 @@ impl Comparer {
         Comparer { area: Twice::new(ROW_AREA + 64, |words| r.fill_words(words)), seen: Seen::default(), classes: [0; 7], requests: [0; 16] }
     }
 
-    /// Reads one packet with both.
-    fn compare(&mut self, s: Settings, packet: &[u8], area: usize) {
+    /// Reads one packet with both; answers the refusal and the offset.
+    fn compare(&mut self, s: Settings, packet: &[u8], area: usize) -> (u32, u32) {
         let (mine, theirs) = self.area.lend(area);
         let answer = raw::read(settings(s), packet, mine);
         let expected = reference::read(s, packet, theirs);
         let numbers = match expected {
             Ok(r) => {
                 let reference::Reading { rows, marker, sequence, timestamp, source, mode_request } = r;
-                raw::Reading { refusal: 0, rows, marker, sequence, timestamp, source, mode_request }
+                raw::Reading { refusal: 0, offset: 0, rows, marker, sequence, timestamp, source, mode_request }
             }
-            Err(refusal) => raw::Reading { refusal, ..raw::Reading::default() },
+            Err(Fault { refusal, offset }) => raw::Reading { refusal, offset, ..raw::Reading::default() },
         };
         let rows = &theirs[..ROW_WORDS * numbers.rows as usize];
         if expected.is_ok() && packet[1] & 127 == s.payload_type {
@@ -48,10 +48,16 @@ impl Comparer {
             self.area.same()
         );
         self.seen.refusal(answer.refusal);
+        if answer.offset != 0 {
+            let front = answer.offset as usize == cases::payload_start(packet) + (s.format >= 4 && answer.refusal != 10) as usize;
+            let kind = if packet[1] & 127 == s.payload_type { "plain" } else { "redundancy" };
+            self.seen.add(format!("{:2} in {kind}, {}", answer.refusal, if front { "at the front" } else { "later" }), 1);
+        }
         self.seen.add("rows", answer.rows as u64);
         if answer.rows as usize == MAX_ROWS {
             self.seen.add(FULL, 1);
         }
+        (answer.refusal, answer.offset)
     }
 }
 
@@ -81,6 +87,20 @@ const REFUSALS: [&str; 13] = [
     "refusal 10",
     "refusal 11",
     "refusal 12",
+];
+
+/// Counted: refusals of 6 to 10 by where they are.
+const LATER: [&str; 10] = [
+    " 6 in plain, later",
+    " 7 in plain, later",
+    " 8 in plain, later",
+    " 9 in plain, later",
+    "10 in plain, later",
+    " 6 in redundancy, later",
+    " 7 in redundancy, later",
+    " 8 in redundancy, later",
+    " 9 in redundancy, later",
+    "10 in redundancy, later",
 ];
 
 fn shape(r: &mut Random) -> Shape {
@@ -117,6 +137,7 @@ fn packets_valid_and_damaged() {
     c.seen.report("read, packets valid and damaged");
     c.seen.at_least(1000, &REFUSALS);
     c.seen.at_least(100, &[FULL]);
+    c.seen.at_least(100, &LATER);
     c.seen.at_least(10_000, &[APART]);
     amr_seen(&c, 10_000);
 }
@@ -351,6 +372,42 @@ fn entries_of_amr() {
     amr_seen(&c, 1000);
 }
 
+/// P2: each refusal of 6 to 10 has the offset worked out by hand, through the friendly function too; 1 to 5, 11 and 12 have none.
+#[test]
+fn faults() {
+    let mut r = Random::new(8);
+    let mut c = Comparer::new(&mut r);
+    for judged in cases::faults() {
+        let Judged { settings: s, packet, refusal, offset } = &judged;
+        assert_eq!(c.compare(*s, packet, ROW_AREA), (*refusal, *offset), "{judged:02x?}");
+        let friendly = heolstorpit::read(settings(*s).into(), packet, &mut [0; ROW_AREA]).err();
+        let fault = Refusal::from_number(*refusal).map(|refusal| heolstorpit::Fault { refusal, offset: Some(*offset as usize) });
+        assert_eq!(friendly, fault, "{judged:02x?}");
+        for spoiled in cases::header_faults(&judged) {
+            assert_eq!(c.compare(*s, &spoiled.packet, ROW_AREA), (spoiled.refusal, 0), "{spoiled:02x?}");
+            let friendly = heolstorpit::read(settings(*s).into(), &spoiled.packet, &mut [0; ROW_AREA]).unwrap_err();
+            assert_eq!((friendly.refusal.number(), friendly.offset), (spoiled.refusal, None));
+        }
+        for bad in [Settings { format: 0, ..*s }, Settings { channels: 3, ..*s }, Settings { redundancy_type: 97, ..*s }] {
+            assert_eq!(c.compare(bad, packet, ROW_AREA), (11, 0));
+        }
+        assert_eq!(c.compare(*s, packet, ROW_AREA - 1), (12, 0));
+        // cut anywhere in the payload, and every bit of the tables flipped
+        let start = cases::payload_start(packet);
+        for length in (start..packet.len()).filter(|_| packet[0] & 0x20 == 0) {
+            c.compare(*s, &packet[..length], ROW_AREA);
+        }
+        for bit in 8 * start..8 * packet.len().min(start + 24) {
+            let mut flipped = packet.clone();
+            flipped[bit / 8] ^= 1 << (bit % 8);
+            c.compare(*s, &flipped, ROW_AREA);
+        }
+    }
+    c.seen.report("read, faults");
+    c.seen.at_least(100, &REFUSALS);
+    c.seen.at_least(100, &LATER);
+}
+
 /// The friendly answers say the same as the raw ones.
 #[test]
 fn friendly_answers() {
@@ -369,11 +426,14 @@ fn friendly_answers() {
             Ok(reading) => {
                 let heolstorpit::Reading { rows, marker, sequence, timestamp, source, mode_request } = reading;
                 let (marker, sequence, mode_request) = (marker as u32, sequence as u32, mode_request as u32);
-                assert_eq!(raw::Reading { refusal: 0, rows, marker, sequence, timestamp, source, mode_request }, answer);
+                assert_eq!(raw::Reading { refusal: 0, offset: 0, rows, marker, sequence, timestamp, source, mode_request }, answer);
                 let rows: Vec<u32> = heolstorpit::Row::list(&one, reading.rows).flat_map(|row| row.words().unwrap()).collect();
                 assert_eq!(rows, one[..ROW_WORDS * reading.rows as usize]);
             }
-            Err(refusal) => assert_eq!(refusal.number(), answer.refusal),
+            Err(heolstorpit::Fault { refusal, offset }) => {
+                assert_eq!((refusal.number(), offset.unwrap_or(0)), (answer.refusal, answer.offset as usize));
+                assert_eq!(offset.is_some(), (6..=10).contains(&answer.refusal));
+            }
         }
     }
 }

@@ -176,20 +176,20 @@ pub fn fresh(settings: Settings) -> (Buffer, Result<(), u32>) {
 }
 
 /// Offers a packet: reads it into the row area, judges its rows, keeps frames in the store.
-pub fn offer(buffer: &Buffer, packet: &[u8], area: &mut [u32], store: &mut [u8]) -> (Buffer, Result<Verdicts, u32>) {
+pub fn offer(buffer: &Buffer, packet: &[u8], area: &mut [u32], store: &mut [u8]) -> (Buffer, Result<Verdicts, Fault>) {
     match offered(buffer, packet, area, store) {
         Ok((after, verdicts)) => (after, Ok(verdicts)),
-        Err(refusal) => (*buffer, Err(refusal)),
+        Err(fault) => (*buffer, Err(fault)),
     }
 }
 
-fn offered(buffer: &Buffer, packet: &[u8], area: &mut [u32], store: &mut [u8]) -> Result<(Buffer, Verdicts), u32> {
+fn offered(buffer: &Buffer, packet: &[u8], area: &mut [u32], store: &mut [u8]) -> Result<(Buffer, Verdicts), Fault> {
     if !buffer.settings.in_range() {
-        return Err(BAD_SETTINGS);
+        return Err(BAD_SETTINGS.into());
     }
     let mut model = unpack(buffer).ok_or(BAD_BUFFER)?;
     if area.len() < ROW_AREA || store.len() < STORE_BYTES {
-        return Err(AREA_TOO_SHORT);
+        return Err(AREA_TOO_SHORT.into());
     }
     let (_, rows) = packet_rows(model.settings, packet)?;
     for (i, row) in rows.iter().enumerate() {

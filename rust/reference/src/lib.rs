@@ -4,7 +4,7 @@
 //! It is written from those papers alone, sentence by sentence, to be read beside it: lists instead of areas, one
 //! pass for each rule, no care for speed. Nothing of the library is used here, and nothing here is used by the library.
 //!
-//! A refusal is its number in document 01's table, in `Err`.
+//! A refusal is its number in document 01's table, in `Err`; where a packet is read, with its offset: a `Fault`.
 #![forbid(unsafe_code)]
 
 mod buffer;
@@ -14,7 +14,7 @@ mod sizes;
 mod writing;
 
 pub use buffer::{draw, fresh, is_well_formed, offer, Buffer, Drawn, Verdicts};
-pub use reading::{read, step_ticks, Reading};
+pub use reading::{read, step_ticks, Fault, Reading};
 pub use reception::*;
 pub use sizes::*;
 pub use writing::{write_packet, write_payload};

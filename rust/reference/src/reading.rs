@@ -1,4 +1,5 @@
-//! Reading a packet: "The RTP header", "Redundancy", "G.719 tables of contents", "GSM-HR tables"; document 02, P1: AMR and AMR-WB.
+//! Reading a packet: "The RTP header", "Redundancy", "G.719 tables of contents", "GSM-HR tables"; document 02, P1: AMR and AMR-WB; P2: say
+//! where.
 
 use crate::*;
 
@@ -13,14 +14,34 @@ pub struct Reading {
     pub mode_request: u32,
 }
 
+/// Why reading refuses, and where. Document 02: "Refusals 6 to 10 shall also give an offset in the whole packet"; "Everything else gives
+/// 0."
+#[derive(Clone, Copy, Debug, PartialEq, Eq)]
+pub struct Fault {
+    pub refusal: u32,
+    pub offset: u32,
+}
+
+/// A refusal that gives no offset.
+impl From<u32> for Fault {
+    fn from(refusal: u32) -> Fault {
+        Fault { refusal, offset: 0 }
+    }
+}
+
+/// A refusal at this place of the packet.
+fn fault(refusal: u32, at: usize) -> Fault {
+    Fault { refusal, offset: at as u32 }
+}
+
 /// Reads a packet into the row area. The answer and the words after the last row stay as document 01 says; a refusal
 /// changes no word.
-pub fn read(settings: Settings, packet: &[u8], area: &mut [u32]) -> Result<Reading, u32> {
+pub fn read(settings: Settings, packet: &[u8], area: &mut [u32]) -> Result<Reading, Fault> {
     if !settings.in_range() {
-        return Err(BAD_SETTINGS);
+        return Err(BAD_SETTINGS.into());
     }
     if area.len() < ROW_AREA {
-        return Err(AREA_TOO_SHORT);
+        return Err(AREA_TOO_SHORT.into());
     }
     let (reading, rows) = packet_rows(settings, packet)?;
     for (i, row) in rows.iter().enumerate() {
@@ -30,9 +51,9 @@ pub fn read(settings: Settings, packet: &[u8], area: &mut [u32]) -> Result<Readi
 }
 
 /// The header's fields and the rows of a packet, or the first refusal of 1 to 10 that applies.
-pub(crate) fn packet_rows(settings: Settings, packet: &[u8]) -> Result<(Reading, Vec<Row>), u32> {
+pub(crate) fn packet_rows(settings: Settings, packet: &[u8]) -> Result<(Reading, Vec<Row>), Fault> {
     if packet.len() < MIN_PACKET || packet.len() > MAX_PACKET {
-        return Err(BAD_PACKET_LENGTH);
+        return Err(BAD_PACKET_LENGTH.into());
     }
     let version = packet[0] >> 6;
     let padded = packet[0] & 0b0010_0000 != 0;
@@ -44,22 +65,22 @@ pub(crate) fn packet_rows(settings: Settings, packet: &[u8]) -> Result<(Reading,
     let timestamp = big_endian(&packet[4..8]);
     let source = big_endian(&packet[8..12]);
     if version != 2 {
-        return Err(BAD_VERSION);
+        return Err(BAD_VERSION.into());
     }
 
     // "Then 4 × CC bytes. With X: two bytes passed over, a 16-bit count, and that many 32-bit words."
     let mut start = HEADER_BYTES + 4 * sources;
     if start > packet.len() {
-        return Err(HEADER_PAST_END);
+        return Err(HEADER_PAST_END.into());
     }
     if extended {
         if start + 4 > packet.len() {
-            return Err(HEADER_PAST_END);
+            return Err(HEADER_PAST_END.into());
         }
         let words = big_endian(&packet[start + 2..start + 4]) as usize;
         start += 4 + 4 * words;
         if start > packet.len() {
-            return Err(HEADER_PAST_END);
+            return Err(HEADER_PAST_END.into());
         }
     }
 
@@ -69,7 +90,7 @@ pub(crate) fn packet_rows(settings: Settings, packet: &[u8]) -> Result<(Reading,
     if padded {
         let padding = packet[packet.len() - 1] as usize;
         if padding < 1 || padding > packet.len() - start {
-            return Err(BAD_PADDING);
+            return Err(BAD_PADDING.into());
         }
         end -= padding;
     }
@@ -81,7 +102,7 @@ pub(crate) fn packet_rows(settings: Settings, packet: &[u8]) -> Result<(Reading,
     } else if payload_type == settings.redundancy_type {
         redundancy_rows(settings, packet, start, end, timestamp, &mut found)?;
     } else {
-        return Err(OTHER_TYPE);
+        return Err(OTHER_TYPE.into());
     }
     let Found { rows, mode_request } = found;
     let reading = Reading { rows: rows.len() as u32, marker, sequence, timestamp, source, mode_request: mode_request as u32 };
@@ -101,13 +122,14 @@ struct Block {
 }
 
 /// The redundancy payload that lies at `start..end` of the packet.
-fn redundancy_rows(settings: Settings, packet: &[u8], start: usize, end: usize, timestamp: u32, found: &mut Found) -> Result<(), u32> {
-    // "all block headers are walked first (6)"
+fn redundancy_rows(settings: Settings, packet: &[u8], start: usize, end: usize, timestamp: u32, found: &mut Found) -> Result<(), Fault> {
+    // "all block headers are walked first (6)"; document 02: "the first byte of the ... block header at fault", or where a missing one
+    // would start
     let mut blocks = Vec::new();
     let mut at = start;
     let last_type = loop {
         if at + 1 > end {
-            return Err(TABLE_PAST_END);
+            return Err(fault(TABLE_PAST_END, at));
         }
         let payload_type = packet[at] & 127;
         if packet[at] & F_BIT == 0 {
@@ -115,7 +137,7 @@ fn redundancy_rows(settings: Settings, packet: &[u8], start: usize, end: usize, 
             break payload_type;
         }
         if at + 4 > end {
-            return Err(TABLE_PAST_END);
+            return Err(fault(TABLE_PAST_END, at));
         }
         // "F = 1, type 7 bits, offset 14 bits, length 10 bits"
         let rest = big_endian(&packet[at + 1..at + 4]);
@@ -126,10 +148,10 @@ fn redundancy_rows(settings: Settings, packet: &[u8], start: usize, end: usize, 
         at += 4;
     };
 
-    // "then lengths summed (10)"; "the last takes all that remains"
+    // "then lengths summed (10)"; "the last takes all that remains"; document 02: "the first byte after the ... block headers"
     let summed: usize = blocks.iter().map(|b| b.length).sum();
     if summed > end - at {
-        return Err(BAD_DATA_LENGTH);
+        return Err(fault(BAD_DATA_LENGTH, at));
     }
     blocks.push(Block { payload_type: last_type, time: timestamp, length: end - at - summed });
 
@@ -152,21 +174,22 @@ struct Entry {
 }
 
 /// The payload that lies at `start..end` of the packet, its first frame-block at `time`; its rows are added to those found.
-fn payload_rows(settings: Settings, packet: &[u8], start: usize, end: usize, time: u32, found: &mut Found) -> Result<(), u32> {
+fn payload_rows(settings: Settings, packet: &[u8], start: usize, end: usize, time: u32, found: &mut Found) -> Result<(), Fault> {
     let channels = settings.channels as usize;
     let mut entries: Vec<Entry> = Vec::new();
     let mut so_far = found.rows.len();
     let mut at = start;
     let mut mode_request = NO_MODE_REQUEST;
     if is_amr(settings.format) {
-        // "Payload header: 4-bit mode request, 4 reserved bits." An empty payload is 6.
+        // "Payload header: 4-bit mode request, 4 reserved bits." An empty payload is 6, "where an empty payload ... would start"
         if at + 1 > end {
-            return Err(TABLE_PAST_END);
+            return Err(fault(TABLE_PAST_END, at));
         }
         mode_request = packet[at] >> 4;
         at += 1;
     }
     loop {
+        // 6 to 9 are "the first byte of the entry ... at fault", or where a missing one would start.
         // 6: a table entry runs past the end
         let size = match settings.format {
             1 => 2,
@@ -175,7 +198,7 @@ fn payload_rows(settings: Settings, packet: &[u8], start: usize, end: usize, tim
             _ => 1,
         };
         if at + size > end {
-            return Err(TABLE_PAST_END);
+            return Err(fault(TABLE_PAST_END, at));
         }
         // 7: reserved L or type
         let code = match settings.format {
@@ -186,7 +209,7 @@ fn payload_rows(settings: Settings, packet: &[u8], start: usize, end: usize, tim
         };
         let good = !is_amr(settings.format) || packet[at] & QUALITY_BIT != 0;
         let Some((class, length)) = frame_of(settings.format, code, good) else {
-            return Err(RESERVED_CODE);
+            return Err(fault(RESERVED_CODE, at));
         };
         // 8: frame-block count 0
         let blocks = match settings.format {
@@ -194,12 +217,12 @@ fn payload_rows(settings: Settings, packet: &[u8], start: usize, end: usize, tim
             _ => packet[at + 1] as usize,
         };
         if blocks == 0 {
-            return Err(NO_FRAME_BLOCKS);
+            return Err(fault(NO_FRAME_BLOCKS, at));
         }
         // 9: more rows so far than there may be
         so_far += blocks * channels;
         if so_far > MAX_ROWS {
-            return Err(TOO_MANY_ROWS);
+            return Err(fault(TOO_MANY_ROWS, at));
         }
         let steps = (0..blocks)
             .map(|i| {
@@ -227,10 +250,10 @@ fn payload_rows(settings: Settings, packet: &[u8], start: usize, end: usize, tim
         }
     }
 
-    // 10: bytes too few or left over after the tables
+    // 10: bytes too few or left over after the tables; document 02: "the first byte after the tables"
     let sound: usize = entries.iter().map(|e| e.steps.len() * channels * e.length as usize).sum();
     if sound != end - at {
-        return Err(BAD_DATA_LENGTH);
+        return Err(fault(BAD_DATA_LENGTH, at));
     }
 
     // "Sound follows the last entry: frame-block by frame-block, channels 0, 1 within each."

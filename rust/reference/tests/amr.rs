@@ -28,7 +28,7 @@ fn packet(payload_type: u8, time: u32, parts: &[&[u8]]) -> Vec<u8> {
 /// The rows and the mode request, or the refusal.
 fn rows(settings: Settings, packet: &[u8]) -> Result<(Vec<Row>, u32), u32> {
     let mut area = vec![0xdead_beef; ROW_AREA];
-    let reading = read(settings, packet, &mut area)?;
+    let reading = read(settings, packet, &mut area).map_err(|fault| fault.refusal)?;
     let used = reading.rows as usize * ROW_WORDS;
     assert!(area[used..].iter().all(|word| *word == 0xdead_beef));
     Ok((area[..used].chunks(ROW_WORDS).map(Row::from_words).collect(), reading.mode_request))

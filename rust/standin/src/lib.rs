@@ -1,7 +1,7 @@
 //! The C functions over the reference. mutants.sh builds it over a reference with a fault planted in it, links the tests to
 //! that, and sees them fail.
 
-use reference::{Buffer, Drawn, Reception, Report, Settings, Verdicts, SLOTS};
+use reference::{Buffer, Drawn, Fault, Reception, Report, Settings, Verdicts, SLOTS};
 use std::slice::{from_raw_parts, from_raw_parts_mut};
 
 #[repr(C)]
@@ -9,7 +9,7 @@ use std::slice::{from_raw_parts, from_raw_parts_mut};
 pub struct CSettings(u8, u8, u8, u8);
 
 #[repr(C)]
-pub struct CReading(u32, u32, u32, u32, u32, u32, u32);
+pub struct CReading([u32; 8]);
 
 #[repr(C)]
 pub struct CWritten(u32, u32);
@@ -27,7 +27,7 @@ pub struct CBuffer {
 pub struct CFresh(u32, CBuffer);
 
 #[repr(C)]
-pub struct COffered([u32; 7], CBuffer);
+pub struct COffered([u32; 8], CBuffer);
 
 #[repr(C)]
 pub struct CDrawn([u32; 6], CBuffer);
@@ -96,8 +96,8 @@ fn written(answer: Result<u32, u32>) -> CWritten {
 #[no_mangle]
 pub unsafe extern "C" fn hsp_read(s: CSettings, packet: *const u8, n: usize, rows: *mut u32, m: usize) -> CReading {
     match reference::read(settings(s), from_raw_parts(packet, n), from_raw_parts_mut(rows, m)) {
-        Ok(r) => CReading(0, r.rows, r.marker, r.sequence, r.timestamp, r.source, r.mode_request),
-        Err(refusal) => CReading(refusal, 0, 0, 0, 0, 0, 0),
+        Ok(r) => CReading([0, 0, r.rows, r.marker, r.sequence, r.timestamp, r.source, r.mode_request]),
+        Err(Fault { refusal, offset }) => CReading([refusal, offset, 0, 0, 0, 0, 0, 0]),
     }
 }
 
@@ -158,11 +158,11 @@ pub unsafe extern "C" fn hsp_offer(
 ) -> COffered {
     let (after, answer) =
         reference::offer(&buffer(b), from_raw_parts(packet, n), from_raw_parts_mut(rows, m), from_raw_parts_mut(store, k));
-    let (refusal, v) = match answer {
-        Ok(v) => (0, v),
-        Err(refusal) => (refusal, Verdicts::default()),
+    let (Fault { refusal, offset }, v) = match answer {
+        Ok(v) => (Fault::from(0), v),
+        Err(fault) => (fault, Verdicts::default()),
     };
-    COffered([refusal, v.late, v.far, v.repeated, v.better, v.no_room, v.inserted], c_buffer(after))
+    COffered([refusal, offset, v.late, v.far, v.repeated, v.better, v.no_room, v.inserted], c_buffer(after))
 }
 
 #[no_mangle]

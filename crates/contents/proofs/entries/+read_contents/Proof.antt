@@ -77,14 +77,29 @@ whole-at t c =
     at-more (a .format) (a .channels) (a .rows) (now (a .s)) e (read-at t (c .before .before .before .before .before .before .before)) (c .before .before .before .before .if1 .left) (c .before .before .if2 .taken)
     ∙ ap (ahead (a .channels) e) (sym (rest-at t c))
 
+within-at : (t : ℕ) (c : At read-contents-lts.After-read-contents t)
+    → let a = c .before .before .before .before .before .before .before .before .before .before .before .before .args in let e = c .before .before .before .before .before .before .before .entry .given .0 .0 in Within (a .rows + e .blocks * a .channels) (length (drop (e .size) (now (a .s)))) (c .read-contents .result)
+within-at t c =
+    let a = c .before .before .before .before .before .before .before .before .before .before .before .before .args in
+    let e = c .before .before .before .before .before .before .before .entry .given .0 .0 in
+    subst (λ (r : ContentsRead). Within (a .rows + e .blocks * a .channels) (length (drop (e .size) (now (a .s)))) r)
+    (sym (rest-at t c))
+    (within (a .format) (a .channels) (a .rows + e .blocks * a .channels) (drop (e .size) (now (a .s))))
+
 small-at : (t : ℕ) (c : At read-contents-lts.After-rest t)
     → let a = c .before .before .before .before .before .before .before .before .before .before .before .before .before .before .args in let e = c .before .before .before .before .before .before .before .before .before .entry .given .0 .0 in Small (a .rows + e .blocks * a .channels) (length (drop (e .size) (now (a .s)))) (c .rest .given .0 .0)
 small-at t c =
     let a = c .before .before .before .before .before .before .before .before .before .before .before .before .before .before .args in
     let e = c .before .before .before .before .before .before .before .before .before .entry .given .0 .0 in
-    subst (λ (r : ContentsRead). Within (a .rows + e .blocks * a .channels) (length (drop (e .size) (now (a .s)))) r)
-    (sym (rest-at t (c .before .before)) ∙ c .rest .given .1)
-    (within (a .format) (a .channels) (a .rows + e .blocks * a .channels) (drop (e .size) (now (a .s))))
+    subst (λ (r : ContentsRead). Within (a .rows + e .blocks * a .channels) (length (drop (e .size) (now (a .s)))) r) (c .rest .given .1) (within-at t (c .before .before))
+
+-- the place at fault
+place-at : (t : ℕ) (c : At read-contents-lts.After-fault t)
+    → let a = c .before .before .before .before .before .before .before .before .before .before .before .before .before .before .args in let e = c .before .before .before .before .before .before .before .before .before .entry .given .0 .0 in c .fault .given .0 .0 .offset ≤ length (drop (e .size) (now (a .s)))
+place-at t c =
+    let a = c .before .before .before .before .before .before .before .before .before .before .before .before .before .before .args in
+    let e = c .before .before .before .before .before .before .before .before .before .entry .given .0 .0 in
+    subst (λ (r : ContentsRead). Within (a .rows + e .blocks * a .channels) (length (drop (e .size) (now (a .s)))) r) (c .fault .given .1) (within-at t (c .before .before))
 
 read-contents-sub-read-entry : (t : ℕ) → At read-contents-lts.Need-sub-read-entry t
 read-contents-sub-read-entry t c = search needs
@@ -138,20 +153,26 @@ read-contents-read-contents-requires t c κs =
     rw part-to-end (shorter (a .format) (now (a .s)) e (read-at t (c .before .before .before .before .before .before))) in
     (omega (arith, q, c .before .before .before .before .before .before .before .before .before .before .before .pre .0), c .before .before .before .before .before .before .before .before .before .before .before .pre .1)
 
-read-contents-enum-known-refusal-2 : (t : ℕ) → At read-contents-lts.Need-enum-known-refusal-2 t
-read-contents-enum-known-refusal-2 t c = search needs
+read-contents-enum-known-fault : (t : ℕ) → At read-contents-lts.Need-enum-known-fault t
+read-contents-enum-known-fault t c = search needs
+
+read-contents-add-t33 : (t : ℕ) → At read-contents-lts.Need-add-t33 t
+read-contents-add-t33 t c =
+    let a = c .before .before .before .before .before .before .before .before .before .before .before .before .before .before .before .before .args in
+    let e = c .before .before .before .before .before .before .before .before .before .before .before .entry .given .0 .0 in
+    omega (arith, place-at t (c .before .before), length-drop (e .size) (now (a .s)), fair-at t (c .before .before .before .before .before .before .before .before .before .before .before) .within, c .before .before .before .before .before .before .before .before .before .before .before .before .before .before .before .before .good)
 
 read-contents-enum-known-rest : (t : ℕ) → At read-contents-lts.Need-enum-known-rest t
 read-contents-enum-known-rest t c = search needs
 
-read-contents-add-t30 : (t : ℕ) → At read-contents-lts.Need-add-t30 t
-read-contents-add-t30 t c = omega (arith, small-at t (c .before .before) .few)
+read-contents-add-t35 : (t : ℕ) → At read-contents-lts.Need-add-t35 t
+read-contents-add-t35 t c = omega (arith, small-at t (c .before .before) .few)
 
-read-contents-add-t31 : (t : ℕ) → At read-contents-lts.Need-add-t31 t
-read-contents-add-t31 t c = omega (arith, small-at t (c .before .before .before) .within, length-drop (c .before .before .before .before .before .before .before .before .before .before .before .before .entry .given .0 .0 .size) (now (c .before .before .before .before .before .before .before .before .before .before .before .before .before .before .before .before .before .args .s)), fair-at t (c .before .before .before .before .before .before .before .before .before .before .before .before) .within, c .before .before .before .before .before .before .before .before .before .before .before .before .before .before .before .before .before .good)
+read-contents-add-t36 : (t : ℕ) → At read-contents-lts.Need-add-t36 t
+read-contents-add-t36 t c = omega (arith, small-at t (c .before .before .before) .within, length-drop (c .before .before .before .before .before .before .before .before .before .before .before .before .entry .given .0 .0 .size) (now (c .before .before .before .before .before .before .before .before .before .before .before .before .before .before .before .before .before .args .s)), fair-at t (c .before .before .before .before .before .before .before .before .before .before .before .before) .within, c .before .before .before .before .before .before .before .before .before .before .before .before .before .before .before .before .before .good)
 
-read-contents-add-t32 : (t : ℕ) → At read-contents-lts.Need-add-t32 t
-read-contents-add-t32 t c =
+read-contents-add-t37 : (t : ℕ) → At read-contents-lts.Need-add-t37 t
+read-contents-add-t37 t c =
     let a = c .before .before .before .before .before .before .before .before .before .before .before .before .before .before .before .before .before .before .args in
     let e = c .before .before .before .before .before .before .before .before .before .before .before .before .before .entry .given .0 .0 in
     let w = small-at t (c .before .before .before .before) in
@@ -161,7 +182,7 @@ read-contents-returns-2 : (t : ℕ) → At read-contents-lts.Need-returns-2 t
 read-contents-returns-2 t c = let a = c .before .before .before .before .before .before .args in contents-has _ _ _ _ (sym (at-refused (a .format) (a .channels) (a .rows) (now (a .s)) _ (sym (same-entry _ _ (c .before .before .before .read-entry .ensures) ∙ ap (entryOf (c .before .before .before .before .before .before .args .format)) (part-to-end 0 (now (c .before .before .before .before .before .before .args .s)))) ∙ c .before .refusal .given .1)))
 
 read-contents-returns-3 : (t : ℕ) → At read-contents-lts.Need-returns-3 t
-read-contents-returns-3 t c = contents-has _ _ _ _ (sym (whole-at t (c .before .before .before) ∙ ap (ahead (c .before .before .before .before .before .before .before .before .before .before .before .before .before .before .before .args .channels) (c .before .before .before .before .before .before .before .before .before .before .entry .given .0 .0)) (c .before .refusal2 .given .1)))
+read-contents-returns-3 t c = contents-has _ _ _ _ (sym (whole-at t (c .before .before .before .before) ∙ ap (ahead (c .before .before .before .before .before .before .before .before .before .before .before .before .before .before .before .before .args .channels) (c .before .before .before .before .before .before .before .before .before .before .before .entry .given .0 .0)) (c .before .before .fault .given .1)))
 
 read-contents-returns-4 : (t : ℕ) → At read-contents-lts.Need-returns-4 t
 read-contents-returns-4 t c = contents-has _ _ _ _ (sym (whole-at t (c .before .before .before .before .before .before) ∙ ap (ahead (c .before .before .before .before .before .before .before .before .before .before .before .before .before .before .before .before .before .before .args .channels) (c .before .before .before .before .before .before .before .before .before .before .before .before .before .entry .given .0 .0)) (c .before .before .before .before .rest .given .1)))
@@ -188,11 +209,12 @@ pub +read-contents-spec : {M : Type 1} → statement M
     (read-contents-part-read-contents-start t)
     (read-contents-part-read-contents-end t)
     (read-contents-read-contents-requires t)
-    (read-contents-enum-known-refusal-2 t)
+    (read-contents-enum-known-fault t)
+    (read-contents-add-t33 t)
     (read-contents-enum-known-rest t)
-    (read-contents-add-t30 t)
-    (read-contents-add-t31 t)
-    (read-contents-add-t32 t)
+    (read-contents-add-t35 t)
+    (read-contents-add-t36 t)
+    (read-contents-add-t37 t)
     (read-contents-returns-2 t)
     (read-contents-returns-3 t)
     (read-contents-returns-4 t)

@@ -1,5 +1,5 @@
 use denote.Ref.{now}
-use lib.ListN.{length, take, drop, length-take}
+use lib.ListN.{length, take, drop, length-take, length-drop}
 use mathlib.Core.Path.{_≡_, ap, subst, sym, _∙_}
 use native.Mathlib.Omega.{arith}
 use Rattle.rtp.specs.Sizes.{rowArea, maxRows}
@@ -11,8 +11,8 @@ use Rattle.payload.specs.Payloads.{rowsAnswer}
 use Rattle.payload.specs.declared.reading.PayloadRead.{PayloadRead}
 use Rattle.payload.proofs.PayloadLaws.{answer-none}
 use Rattle.packet.specs.Room.{askedBlock, blocksFrom}
-use Rattle.packet.proofs.AnswerLaws.{addAnswer, thenAnswer, Few}
-use Rattle.packet.proofs.BlockLaws.{from-few, from-refused, block-in, first-few, asked-primary, asked-rest, checked}
+use Rattle.packet.proofs.AnswerLaws.{addAnswer, thenAnswer, Few, further, Inside}
+use Rattle.packet.proofs.BlockLaws.{from-few, from-refused, block-in, first-few, asked-primary, asked-rest, checked, from-inside}
 use Rattle.rtp.proofs.NumberLaws.{same-block}
 use borrow.Author.Needs.{needs}
 use Prim.Native.Nat.{ℕ, _+_, _-_, _<_, _≤_}
@@ -71,14 +71,27 @@ rest-at t c =
     let a = c .before .before .before .before .before .before .before .before .before .before .before .before .before .before .args in
     c .check-blocks .ensures ∙ rw (part-to-end 4 (now (a .headers)), part-to-end (c .before .before .before .before .before .before .before .before .before .block .given .0 .0 .length) (now (a .s)))
 
-whole-at : (t : ℕ) (c : At check-blocks-lts.After-check-blocks t) → let a = c .before .before .before .before .before .before .before .before .before .before .before .before .before .before .args in
-    rowsAnswer (blocksFrom (a .settings) (a .done) 0 0 (now (a .headers)) (now (a .s))) ≡ addAnswer (c .before .before .before .before .here .given .0 .0) (c .check-blocks .result)
+whole-at : (t : ℕ) (c : At check-blocks-lts.After-check-blocks t) → let a = c .before .before .before .before .before .before .before .before .before .before .before .before .before .before .args in let e = c .before .before .before .before .before .before .before .before .before .block .given .0 .0 in
+    rowsAnswer (blocksFrom (a .settings) (a .done) 0 0 (now (a .headers)) (now (a .s))) ≡ addAnswer (c .before .before .before .before .here .given .0 .0) (further (e .length) (c .check-blocks .result))
 whole-at t c =
     let a = c .before .before .before .before .before .before .before .before .before .before .before .before .before .before .args in
     let e = c .before .before .before .before .before .before .before .before .before .block .given .0 .0 in
     checked (a .settings) (a .done) (now (a .headers)) (now (a .s)) (c .before .before .before .before .before .before .before .before .before .before .before .before .before .before .pre .1) e (read-at t (c .before .before .before .before .before .before .before .before .before))
-    ∙ ap (λ (p : PayloadRead). thenAnswer p (λ n. rowsAnswer (blocksFrom (a .settings) (a .done + n) 0 0 (drop 4 (now (a .headers))) (drop (e .length) (now (a .s)))))) (here-at t (c .before .before .before .before))
-    ∙ ap (addAnswer (c .before .before .before .before .here .given .0 .0)) (sym (rest-at t c))
+    ∙ ap (λ (p : PayloadRead). thenAnswer p (λ n. further (e .length) (rowsAnswer (blocksFrom (a .settings) (a .done + n) 0 0 (drop 4 (now (a .headers))) (drop (e .length) (now (a .s))))))) (here-at t (c .before .before .before .before))
+    ∙ ap (λ (p : PayloadRead). addAnswer (c .before .before .before .before .here .given .0 .0) (further (e .length) p)) (sym (rest-at t c))
+
+-- a place at fault in it
+place-at : (t : ℕ) (c : At check-blocks-lts.After-fault2 t) → c .fault2 .given .0 .0 .offset ≤ length (drop (c .before .before .before .before .before .before .before .before .before .before .before .block .given .0 .0 .length) (now (c .before .before .before .before .before .before .before .before .before .before .before .before .before .before .before .before .args .s)))
+place-at t c =
+    let a = c .before .before .before .before .before .before .before .before .before .before .before .before .before .before .before .before .args in
+    let e = c .before .before .before .before .before .before .before .before .before .before .before .block .given .0 .0 in
+    let n = c .before .before .before .before .before .before .here .given .0 .0 in
+    let rest = asked-rest (a .settings) (a .done) rowArea 0 0 (now (a .headers)) (now (a .s)) (c .before .before .before .before .before .before .before .before .before .before .before .before .before .before .before .before .pre .1) (omega arith) e (read-at t (c .before .before .before .before .before .before .before .before .before .before .before)) n 0 (few-at t (c .before .before .before .before .before .before)) (omega arith) in
+    omega (
+      arith,
+      subst (λ (p : PayloadRead). Inside (0 + length (drop (e .length) (now (a .s)))) p) (sym (rest-at t (c .before .before)) ∙ c .fault2 .given .1)
+          (from-inside (a .settings) (a .done + n) 0 0 (drop 4 (now (a .headers))) (drop (e .length) (now (a .s))) (rest .headed)),
+    )
 
 check-blocks-read-block-header-requires : (t : ℕ) → At check-blocks-lts.Need-read-block-header-requires t
 check-blocks-read-block-header-requires t c κs = search needs
@@ -101,8 +114,8 @@ check-blocks-slice-aggregate-check-block t c = simp length-take (omega (arith, b
 check-blocks-check-block-requires-2 : (t : ℕ) → At check-blocks-lts.Need-check-block-requires-2 t
 check-blocks-check-block-requires-2 t c κs = search needs
 
-check-blocks-enum-known-refusal-2 : (t : ℕ) → At check-blocks-lts.Need-enum-known-refusal-2 t
-check-blocks-enum-known-refusal-2 t c = search needs
+check-blocks-enum-known-fault : (t : ℕ) → At check-blocks-lts.Need-enum-known-fault t
+check-blocks-enum-known-fault t c = search needs
 
 check-blocks-enum-known-here : (t : ℕ) → At check-blocks-lts.Need-enum-known-here t
 check-blocks-enum-known-here t c = search needs
@@ -138,14 +151,18 @@ check-blocks-check-blocks-requires t c κs =
           (asked-rest (a .settings) (a .done) rowArea 0 0 (now (a .headers)) (now (a .s)) (c .before .before .before .before .before .before .before .before .before .before .before .before .before .pre .1) (omega arith) e (read-at t (c .before .before .before .before .before .before .before .before)) _ 0 (few-at t (c .before .before .before)) (omega arith)),
     )
 
-check-blocks-enum-known-refusal-3 : (t : ℕ) → At check-blocks-lts.Need-enum-known-refusal-3 t
-check-blocks-enum-known-refusal-3 t c = search needs
+check-blocks-enum-known-fault-2 : (t : ℕ) → At check-blocks-lts.Need-enum-known-fault-2 t
+check-blocks-enum-known-fault-2 t c = search needs
+
+check-blocks-add-t32 : (t : ℕ) → At check-blocks-lts.Need-add-t32 t
+check-blocks-add-t32 t c =
+    omega (arith, place-at t (c .before .before), length-drop (c .before .before .before .before .before .before .before .before .before .before .before .before .before .block .given .0 .0 .length) (now (c .before .before .before .before .before .before .before .before .before .before .before .before .before .before .before .before .before .before .args .s)), block-at t (c .before .before .before .before .before .before .before .before .before .before .before .before .before), c .before .before .before .before .before .before .before .before .before .before .before .before .before .before .before .before .before .before .good)
 
 check-blocks-enum-known-rest : (t : ℕ) → At check-blocks-lts.Need-enum-known-rest t
 check-blocks-enum-known-rest t c = search needs
 
-check-blocks-add-t30 : (t : ℕ) → At check-blocks-lts.Need-add-t30 t
-check-blocks-add-t30 t c =
+check-blocks-add-t34 : (t : ℕ) → At check-blocks-lts.Need-add-t34 t
+check-blocks-add-t34 t c =
     let a = c .before .before .before .before .before .before .before .before .before .before .before .before .before .before .before .before .before .args in
     let e = c .before .before .before .before .before .before .before .before .before .before .before .before .block .given .0 .0 in
     let n = c .before .before .before .before .before .before .before .here .given .0 .0 in
@@ -163,13 +180,15 @@ check-blocks-returns-3 t c =
     let a = c .before .before .before .before .before .before .before .before .before .before .before .args in
     let e = c .before .before .before .before .before .before .block .given .0 .0 in
     sym (checked (a .settings) (a .done) (now (a .headers)) (now (a .s)) (c .before .before .before .before .before .before .before .before .before .before .before .pre .1) e (read-at t (c .before .before .before .before .before .before))
-    ∙ ap (λ (p : PayloadRead). thenAnswer p (λ n. rowsAnswer (blocksFrom (a .settings) (a .done + n) 0 0 (drop 4 (now (a .headers))) (drop (e .length) (now (a .s)))))) (sym (c .before .before .before .check-block2 .ensures) ∙ c .before .refusal2 .given .1))
+    ∙ ap (λ (p : PayloadRead). thenAnswer p (λ n. further (e .length) (rowsAnswer (blocksFrom (a .settings) (a .done + n) 0 0 (drop 4 (now (a .headers))) (drop (e .length) (now (a .s))))))) (sym (c .before .before .before .check-block2 .ensures) ∙ c .before .fault .given .1))
 
 check-blocks-returns-4 : (t : ℕ) → At check-blocks-lts.Need-returns-4 t
-check-blocks-returns-4 t c = sym (whole-at t (c .before .before .before) ∙ ap (addAnswer (c .before .before .before .before .before .before .before .here .given .0 .0)) (c .before .refusal3 .given .1))
+check-blocks-returns-4 t c =
+    sym (whole-at t (c .before .before .before .before) ∙ ap (λ (p : PayloadRead). addAnswer (c .before .before .before .before .before .before .before .before .here .given .0 .0) (further (c .before .before .before .before .before .before .before .before .before .before .before .before .before .block .given .0 .0 .length) p)) (c .before .before .fault2 .given .1))
 
 check-blocks-returns-5 : (t : ℕ) → At check-blocks-lts.Need-returns-5 t
-check-blocks-returns-5 t c = sym (whole-at t (c .before .before .before) ∙ ap (addAnswer (c .before .before .before .before .before .before .before .here .given .0 .0)) (c .before .rest .given .1))
+check-blocks-returns-5 t c =
+    sym (whole-at t (c .before .before .before) ∙ ap (λ (p : PayloadRead). addAnswer (c .before .before .before .before .before .before .before .here .given .0 .0) (further (c .before .before .before .before .before .before .before .before .before .before .before .before .block .given .0 .0 .length) p)) (c .before .rest .given .1))
 
 pub +check-blocks-spec : {M : Type 1} → statement M
 +check-blocks-spec = close μ-check-blocks λ t. check-blocks-lts.spec (callees t)
@@ -182,7 +201,7 @@ pub +check-blocks-spec : {M : Type 1} → statement M
     (check-blocks-enum-known-block t)
     (check-blocks-slice-aggregate-check-block t)
     (check-blocks-check-block-requires-2 t)
-    (check-blocks-enum-known-refusal-2 t)
+    (check-blocks-enum-known-fault t)
     (check-blocks-enum-known-here t)
     (check-blocks-add-check-blocks t)
     (check-blocks-sub-check-blocks t)
@@ -192,9 +211,10 @@ pub +check-blocks-spec : {M : Type 1} → statement M
     (check-blocks-part-check-blocks-start-2 t)
     (check-blocks-part-check-blocks-end-2 t)
     (check-blocks-check-blocks-requires t)
-    (check-blocks-enum-known-refusal-3 t)
+    (check-blocks-enum-known-fault-2 t)
+    (check-blocks-add-t32 t)
     (check-blocks-enum-known-rest t)
-    (check-blocks-add-t30 t)
+    (check-blocks-add-t34 t)
     (check-blocks-returns t)
     (check-blocks-returns-2 t)
     (check-blocks-returns-3 t)

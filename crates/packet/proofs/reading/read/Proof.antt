@@ -45,8 +45,8 @@ enum-known-head c = search needs
 read-typed-requires : tie.Need-read-typed-requires
 read-typed-requires c κs = (range-at (c .before .before .before .before .before .before), c .before .before .before .before .before .if2 .left, head-at (c .before .before))
 
-enum-known-refusal-2 : tie.Need-enum-known-refusal-2
-enum-known-refusal-2 c = search needs
+enum-known-fault : tie.Need-enum-known-fault
+enum-known-fault c = search needs
 
 enum-known-count : tie.Need-enum-known-count
 enum-known-count c = search needs
@@ -70,7 +70,7 @@ same-length : tie.Need-same-length
 same-length c = search needs
 
 returns-3 : tie.Need-returns-3
-returns-3 c = let a = c .before .before .before .before .before .before .before .before .before .before .before .before .before .before .before .before .args in comes-typed _ _ _ _ (now (a .rows)) _ _ _ (whole-at (c .before .before .before .before .before .before .before .before)) (c .before .before .before .before .before .read-typed .ensures) (c .before .refusal2 .given .1)
+returns-3 c = let a = c .before .before .before .before .before .before .before .before .before .before .before .before .before .before .before .before .args in comes-typed _ _ _ _ (now (a .rows)) _ _ _ (whole-at (c .before .before .before .before .before .before .before .before)) (c .before .before .before .before .before .read-typed .ensures) (c .before .fault .given .1)
 
 same-length-2 : tie.Need-same-length-2
 same-length-2 c = search needs
@@ -96,7 +96,7 @@ read-spec =
     enum-known-refusal
     enum-known-head
     read-typed-requires
-    enum-known-refusal-2
+    enum-known-fault
     enum-known-count
     sub-mode-request
     part-mode-request-start

@@ -2,15 +2,16 @@ use Rattle.rtp.proofs.AreaLaws.{part-to-end}
 use lib.ListN.{length, take, drop, length-drop}
 use denote.Ref.{now}
 use mathlib.Core.Path.{_≡_, sym, _∙_, ap}
-use Prim.Native.Nat.{_+_, _-_}
+use Prim.Native.Nat.{_+_, _-_, _≤_}
 use native.Mathlib.Omega.{arith}
 use Rattle.rtp.specs.Sizes.{rowArea}
+use Rattle.formats.specs.Formats.{formatOf}
 use Rattle.formats.specs.declared.facts.Format.{Format}
 use Rattle.payload.specs.Payloads.{body, payloadRows, rowsAnswer, askedRows}
 use Rattle.contents.specs.Contents.{contents, sizesAnswer}
 use Rattle.contents.specs.declared.entries.ContentsRead.{ContentsRead}
 use Rattle.contents.proofs.ContentsLaws.{Small}
-use Rattle.payload.proofs.PayloadLaws.{pay-refused, pay-headless, pay-part, pay-rows, pay-small, asked-out, asked-long, asked-in, answer-none}
+use Rattle.payload.proofs.PayloadLaws.{pay-refused, pay-headless, pay-part, pay-rows, pay-place, pay-small, asked-out, asked-long, asked-in, answer-none}
 use Rattle.contents.proofs.NumberLaws.{contents-is}
 use Rattle.payload.proofs.NumberLaws.{rows-has}
 use borrow.Author.Needs.{needs}
@@ -27,6 +28,15 @@ body-at c = let a = c .before .before .before .before .before .before .args in p
 
 length-at : (c : tie.Else3) → let a = c .before .before .before .before .before .before .args in c .before .format-of .result .header + length (body (a .asked .format) (now (a .s))) ≡ length (now (a .s))
 length-at c = let a = c .before .before .before .before .before .before .args in rw (length-drop, sym (c .before .format-of .ensures)) (omega (arith, c .if3 .left))
+
+header-at : (c : tie.Else3) → c .before .format-of .result .header ≡ formatOf (c .before .before .before .before .before .before .args .asked .format) .header
+header-at c = ap (λ (f : Format). f .header) (c .before .format-of .ensures)
+
+there-at : (c : tie.Else3) → let a = c .before .before .before .before .before .before .args in formatOf (a .asked .format) .header ≤ length (now (a .s))
+there-at c = omega (arith, header-at c, c .if3 .left)
+
+fault-at : (c : tie.After-fault) → let a = c .before .before .before .before .before .before .before .before .before .before .args in sizesAnswer (a .asked .format) (a .asked .channels) (contents (a .asked .format) (a .asked .channels) (a .done) (body (a .asked .format) (now (a .s)))) ≡ ContentsRead.Refused (c .fault .given .0 .0)
+fault-at c = sym (contents-is _ _ _ _ (rw (body-at (c .before .before .before .before)) at (c .before .before .read-contents .ensures))) ∙ c .fault .given .1
 
 table-at : (c : tie.After-sizes) → let a = c .before .before .before .before .before .before .before .before .before .before .args in sizesAnswer (a .asked .format) (a .asked .channels) (contents (a .asked .format) (a .asked .channels) (a .done) (body (a .asked .format) (now (a .s)))) ≡ ContentsRead.Contents (c .sizes .given .0 .0)
 table-at c = sym (contents-is _ _ _ _ (rw (body-at (c .before .before .before .before)) at (c .before .before .read-contents .ensures))) ∙ c .sizes .given .1
@@ -58,8 +68,8 @@ part-read-contents-end c = search needs
 read-contents-requires : tie.Need-read-contents-requires
 read-contents-requires c κs = search needs
 
-enum-known-refusal : tie.Need-enum-known-refusal
-enum-known-refusal c = search needs
+enum-known-fault : tie.Need-enum-known-fault
+enum-known-fault c = search needs
 
 enum-known-sizes : tie.Need-enum-known-sizes
 enum-known-sizes c = search needs
@@ -70,17 +80,29 @@ add-if4 c = omega (arith, small-at (c .before .before), length-at (c .before .be
 add-if4-2 : tie.Need-add-if4-2
 add-if4-2 c = omega (arith, small-at (c .before .before .before), length-at (c .before .before .before .before .before .before .before), c .before .before .before .before .before .before .before .before .before .before .before .before .before .good)
 
-cast-t24 : tie.Need-cast-t24
-cast-t24 c = omega (arith, small-at (c .before .before .before .before .before) .few)
+cast-t29 : tie.Need-cast-t29
+cast-t29 c = omega (arith, small-at (c .before .before .before .before .before) .few)
+
+add-t22 : tie.Need-add-t22
+add-t22 c =
+    let a = c .before .before .before .before .before .before .before .before .before .before .before .before .args in
+    omega (arith, pay-place (a .asked .format) (a .asked .channels) (a .done) 0 0 (now (a .s)) _ (fault-at (c .before .before)), length-at (c .before .before .before .before .before .before), c .before .before .before .before .before .before .before .before .before .before .before .before .good)
+
+add-t31 : tie.Need-add-t31
+add-t31 c = omega (arith, small-at (c .before .before .before .before .before), length-at (c .before .before .before .before .before .before .before .before .before), c .before .before .before .before .before .before .before .before .before .before .before .before .before .before .before .good)
 
 returns-3 : tie.Need-returns-3
-returns-3 c = let a = c .before .before .before .before .before .before .before .before .before .before .before .args in rows-has _ _ (answer-none _ _ (asked-at (c .before .before .before .before .before .before .before) ∙ pay-refused (a .asked .format) (a .asked .channels) (a .done) 0 0 (now (a .s)) _ (sym (contents-is _ _ _ _ (rw (body-at (c .before .before .before .before .before)) at (c .before .before .before .read-contents .ensures))) ∙ c .before .refusal .given .1)))
+returns-3 c =
+    let a = c .before .before .before .before .before .before .before .before .before .before .before .before .args in
+    rows-has _ _ (answer-none _ _ (asked-at (c .before .before .before .before .before .before .before .before) ∙ pay-refused (a .asked .format) (a .asked .channels) (a .done) 0 0 (now (a .s)) _ _ (there-at (c .before .before .before .before .before .before)) (omega (arith, header-at (c .before .before .before .before .before .before))) (fault-at (c .before .before))))
 
 returns-4 : tie.Need-returns-4
 returns-4 c = let a = c .before .before .before .before .before .before .before .before .before .before .before .before .before .before .before .args in rows-has _ _ (sym (ap rowsAnswer (asked-at (c .before .before .before .before .before .before .before .before .before .before .before)) ∙ pay-rows (a .asked .format) (a .asked .channels) (a .done) 0 0 (now (a .s)) _ (table-at (c .before .before .before .before .before)) (omega (arith, length-at (c .before .before .before .before .before .before .before .before .before), c .before .if4 .taken))))
 
 returns-5 : tie.Need-returns-5
-returns-5 c = let a = c .before .before .before .before .before .before .before .before .before .before .before .before .before .before .args in rows-has _ _ (answer-none _ _ (asked-at (c .before .before .before .before .before .before .before .before .before .before) ∙ pay-part (a .asked .format) (a .asked .channels) (a .done) 0 0 (now (a .s)) _ (table-at (c .before .before .before .before)) (λ e. c .if4 .left (omega (arith, length-at (c .before .before .before .before .before .before .before .before), e)))))
+returns-5 c =
+    let a = c .before .before .before .before .before .before .before .before .before .before .before .before .before .before .before .args in
+    rows-has _ _ (answer-none _ _ (asked-at (c .before .before .before .before .before .before .before .before .before .before .before) ∙ pay-part (a .asked .format) (a .asked .channels) (a .done) 0 0 (now (a .s)) _ (table-at (c .before .before .before .before .before)) _ (there-at (c .before .before .before .before .before .before .before .before .before)) (omega (arith, header-at (c .before .before .before .before .before .before .before .before .before))) (λ e. c .before .if4 .left (omega (arith, length-at (c .before .before .before .before .before .before .before .before .before), e)))))
 
 returns-6 : tie.Need-returns-6
 returns-6 c = let a = c .before .before .before .args in rows-has _ _ (answer-none _ _ (asked-out (a .asked) (a .done) rowArea 0 0 (now (a .s)) (sym (c .before .in-range .ensures) ∙ c .if1 .left)))
@@ -97,11 +119,13 @@ check-payload-spec =
     part-read-contents-start
     part-read-contents-end
     read-contents-requires
-    enum-known-refusal
+    enum-known-fault
+    add-t22
     enum-known-sizes
     add-if4
     add-if4-2
-    cast-t24
+    cast-t29
+    add-t31
     returns-3
     returns-4
     returns-5

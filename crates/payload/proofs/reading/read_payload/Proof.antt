@@ -15,10 +15,10 @@ use Rattle.payload.specs.Room.{contentsWords, originOf}
 use Rattle.payload.proofs.FirstLaws.{begins, words-from}
 use Rattle.contents.specs.declared.entries.ContentsRead.{ContentsRead}
 use Rattle.contents.proofs.ContentsLaws.{Small}
-use Rattle.payload.proofs.PayloadLaws.{pay-refused, pay-headless, pay-part, pay-rows, pay-small, pay-words, pay-room, asked-out, asked-short, asked-long, asked-in, answer-none, words-none}
+use Rattle.payload.proofs.PayloadLaws.{pay-refused, pay-headless, pay-part, pay-rows, pay-place, pay-small, pay-words, pay-room, asked-out, asked-short, asked-long, asked-in, answer-none, words-none}
 use mathlib.Core.List.{List}
 use Rattle.rtp.specs.Areas.{over}
-use Rattle.rtp.specs.declared.refusal.Refusal.{Refusal}
+use Rattle.rtp.specs.declared.refusal.Fault.{Fault}
 use Rattle.payload.specs.declared.reading.PayloadRead.{PayloadRead}
 use Rattle.contents.proofs.NumberLaws.{contents-is}
 use Rattle.payload.proofs.NumberLaws.{rows-has}
@@ -26,7 +26,7 @@ use borrow.Author.Needs.{needs}
 use Rattle.payload.proofs.reading.read_payload.Statement.{statement}
 use Rattle.payload.proofs.reading.read_payload.Tie as tie
 
-both-none : (x : Rows) (r : Refusal) (l : List ℕ) → x ≡ noRows r → (payloadNumbers (PayloadRead.Refused r) ≡ rowsNumbers x) × (l ≡ over (rowsWords x) l)
+both-none : (x : Rows) (r : Fault) (l : List ℕ) → x ≡ noRows r → (payloadNumbers (PayloadRead.Refused r) ≡ rowsNumbers x) × (l ≡ over (rowsWords x) l)
 both-none x r l h = (rows-has _ x (answer-none x r h), words-none x r l h)
 
 -- the settings are in range, there is room, and the payload lies in a packet
@@ -43,6 +43,15 @@ length-at c = let a = c .before .before .before .before .before .before .before 
 -- where the frames start after a table of n bytes
 start-at : (c : tie.Else4) (n : ℕ) → let a = c .before .before .before .before .before .before .before .before .args in a .at + c .before .format-of .result .header + n ≡ a .at + formatOf (a .asked .format) .header + n
 start-at c n = ap (λ (f : Format). c .before .before .before .before .before .before .before .before .args .at + f .header + n) (c .before .format-of .ensures)
+
+header-at : (c : tie.Else4) → c .before .format-of .result .header ≡ formatOf (c .before .before .before .before .before .before .before .before .args .asked .format) .header
+header-at c = ap (λ (f : Format). f .header) (c .before .format-of .ensures)
+
+there-at : (c : tie.Else4) → let a = c .before .before .before .before .before .before .before .before .args in formatOf (a .asked .format) .header ≤ length (now (a .s))
+there-at c = omega (arith, header-at c, c .if4 .left)
+
+fault-at : (c : tie.After-fault) → let a = c .before .before .before .before .before .before .before .before .before .before .before .before .args in sizesAnswer (a .asked .format) (a .asked .channels) (contents (a .asked .format) (a .asked .channels) (a .done) (body (a .asked .format) (now (a .s)))) ≡ ContentsRead.Refused (c .fault .given .0 .0)
+fault-at c = sym (contents-is _ _ _ _ (rw (body-at (c .before .before .before .before)) at (c .before .before .read-contents .ensures))) ∙ c .fault .given .1
 
 table-at : (c : tie.After-sizes) → let a = c .before .before .before .before .before .before .before .before .before .before .before .before .args in sizesAnswer (a .asked .format) (a .asked .channels) (contents (a .asked .format) (a .asked .channels) (a .done) (body (a .asked .format) (now (a .s)))) ≡ ContentsRead.Contents (c .sizes .given .0 .0)
 table-at c = sym (contents-is _ _ _ _ (rw (body-at (c .before .before .before .before)) at (c .before .before .read-contents .ensures))) ∙ c .sizes .given .1
@@ -98,8 +107,8 @@ part-read-contents-end c = search needs
 read-contents-requires : tie.Need-read-contents-requires
 read-contents-requires c κs = search needs
 
-enum-known-refusal : tie.Need-enum-known-refusal
-enum-known-refusal c = search needs
+enum-known-fault : tie.Need-enum-known-fault
+enum-known-fault c = search needs
 
 enum-known-sizes : tie.Need-enum-known-sizes
 enum-known-sizes c = search needs
@@ -145,11 +154,27 @@ put-contents-requires c κs =
     let a = c .before .before .before .before .before .before .before .before .before .before .before .before .before .before .before .before .before .before .before .before .before .before .args in
     rw (body-at (c .before .before .before .before .before .before .before .before .before .before .before .before .before .before)) (pay-room (a .asked .format) (a .asked .channels) (a .done) (a .time) (a .at) (now (a .s)) _ (table-at (c .before .before .before .before .before .before .before .before .before .before)) (length (now (a .area))) _ (omega arith) (omega (arith, c .before .before .before .before .before .before .before .before .before .before .before .before .before .before .before .before .before .if2 .left)) (omega (arith, c .before .before .before .before .before .before .before .before .before .before .before .before .before .before .before .before .if3 .left)) (whole-at (c .before .before .before .before .before .before)) (start-at (c .before .before .before .before .before .before .before .before .before .before .before .before .before .before) (c .before .before .before .before .before .before .before .before .before .before .sizes .given .0 .0 .size)))
 
-cast-t40 : tie.Need-cast-t40
-cast-t40 c = omega (arith, small-at (c .before .before .before .before .before .before .before .before .before .before .before .before .before .before) .few)
+cast-t49 : tie.Need-cast-t49
+cast-t49 c = omega (arith, small-at (c .before .before .before .before .before .before .before .before .before .before .before .before .before .before) .few)
+
+add-t32 : tie.Need-add-t32
+add-t32 c = omega (arith, there-at (c .before .before .before .before .before), header-at (c .before .before .before .before .before), c .before .before .before .before .before .before .before .if3 .left)
+
+add-t33 : tie.Need-add-t33
+add-t33 c =
+    let a = c .before .before .before .before .before .before .before .before .before .before .before .before .before .before .args in
+    omega (arith, pay-place (a .asked .format) (a .asked .channels) (a .done) (a .time) (a .at) (now (a .s)) _ (fault-at (c .before .before)), length-at (c .before .before .before .before .before .before), c .before .before .before .before .before .before .before .before .if3 .left)
+
+add-t59 : tie.Need-add-t59
+add-t59 c = omega (arith, there-at (c .before .before .before .before .before .before .before .before), header-at (c .before .before .before .before .before .before .before .before), c .before .before .before .before .before .before .before .before .before .before .if3 .left)
+
+add-t60 : tie.Need-add-t60
+add-t60 c = omega (arith, small-at (c .before .before .before .before .before), length-at (c .before .before .before .before .before .before .before .before .before), c .before .before .before .before .before .before .before .before .before .before .before .if3 .left)
 
 returns-4 : tie.Need-returns-4
-returns-4 c = let a = c .before .before .before .before .before .before .before .before .before .before .before .before .before .args in both-none _ _ (now (a .area)) (asked-at (c .before .before .before .before .before .before .before) ∙ pay-refused (a .asked .format) (a .asked .channels) (a .done) (a .time) (a .at) (now (a .s)) _ (sym (contents-is _ _ _ _ (rw (body-at (c .before .before .before .before .before)) at (c .before .before .before .read-contents .ensures))) ∙ c .before .refusal .given .1))
+returns-4 c =
+    let a = c .before .before .before .before .before .before .before .before .before .before .before .before .before .before .args in
+    both-none _ _ (now (a .area)) (asked-at (c .before .before .before .before .before .before .before .before) ∙ pay-refused (a .asked .format) (a .asked .channels) (a .done) (a .time) (a .at) (now (a .s)) _ _ (there-at (c .before .before .before .before .before .before)) (start-at (c .before .before .before .before .before .before) _) (fault-at (c .before .before)))
 
 same-length : tie.Need-same-length
 same-length c = search needs
@@ -166,7 +191,9 @@ returns-5 c =
     )
 
 returns-6 : tie.Need-returns-6
-returns-6 c = let a = c .before .before .before .before .before .before .before .before .before .before .before .before .before .before .before .before .args in both-none _ _ (now (a .area)) (asked-at (c .before .before .before .before .before .before .before .before .before .before) ∙ pay-part (a .asked .format) (a .asked .channels) (a .done) (a .time) (a .at) (now (a .s)) _ (table-at (c .before .before .before .before)) (λ e. c .if5 .left (omega (arith, length-at (c .before .before .before .before .before .before .before .before), e))))
+returns-6 c =
+    let a = c .before .before .before .before .before .before .before .before .before .before .before .before .before .before .before .before .before .args in
+    both-none _ _ (now (a .area)) (asked-at (c .before .before .before .before .before .before .before .before .before .before .before) ∙ pay-part (a .asked .format) (a .asked .channels) (a .done) (a .time) (a .at) (now (a .s)) _ (table-at (c .before .before .before .before .before)) _ (there-at (c .before .before .before .before .before .before .before .before .before)) (start-at (c .before .before .before .before .before .before .before .before .before) _) (λ e. c .before .if5 .left (omega (arith, length-at (c .before .before .before .before .before .before .before .before .before), e))))
 
 returns-7 : tie.Need-returns-7
 returns-7 c = let a = c .before .before .before .before .args in both-none _ _ (now (a .area)) (asked-out (a .asked) (a .done) (length (now (a .area))) (a .time) (a .at) (now (a .s)) (sym (c .before .in-range .ensures) ∙ c .if1 .left))
@@ -187,7 +214,9 @@ read-payload-spec =
     part-read-contents-start
     part-read-contents-end
     read-contents-requires
-    enum-known-refusal
+    enum-known-fault
+    add-t32
+    add-t33
     enum-known-sizes
     add-if5
     add-if5-2
@@ -202,7 +231,9 @@ read-payload-spec =
     add-put-contents
     add-put-contents-2
     put-contents-requires
-    cast-t40
+    cast-t49
+    add-t59
+    add-t60
     returns-4
     same-length
     returns-5

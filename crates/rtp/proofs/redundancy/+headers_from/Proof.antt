@@ -7,10 +7,10 @@ use Rattle.rtp.specs.declared.redundancy.BlockHeader.{BlockHeader}
 use Rattle.rtp.specs.declared.redundancy.HeadersRead.{HeadersRead}
 use Rattle.rtp.specs.Redundancy.{blockHeader, headers, headersAnswer}
 use Rattle.rtp.proofs.AreaLaws.{part-to-end}
-use Rattle.rtp.proofs.RedundancyLaws.{fair, shorter, at-refused, at-primary, at-redundant, ahead, within, Within, Small, bytes-drop}
+use Rattle.rtp.proofs.RedundancyLaws.{fair, shorter, at-refused, at-primary, at-redundant, ahead, within, Within, Small, bytes-drop, InFront, front}
 use Rattle.rtp.proofs.NumberLaws.{same-block}
 use borrow.Author.Needs.{needs}
-use Prim.Native.Nat.{ℕ, _-_, _<_}
+use Prim.Native.Nat.{ℕ, _-_, _<_, _≤_}
 use borrow.Fn.Kinds.{In, Out}
 use borrow.Fn.PlainCycle.{Measures, is, falls, and}
 use Rattle.rtp.proofs.redundancy.headers_from.Reads as headers-from
@@ -61,12 +61,17 @@ whole-at t c =
     at-redundant (now (c .before .before .before .before .before .before .before .args .s)) (c .before .before .before .block .given .0 .0) (read-at t (c .before .before .before))
     ∙ ap (ahead (c .before .before .before .block .given .0 .0)) (sym (rest-at t c))
 
-small-at : (t : ℕ) (c : At headers-from-lts.After-rest t)
-    → Small (length (drop 4 (now (c .before .before .before .before .before .before .before .before .before .args .s)))) (c .rest .given .0 .0)
+small-at : (t : ℕ) (c : At headers-from-lts.After-rest t) → Small (length (drop 4 (now (c .before .before .before .before .before .before .before .before .before .args .s)))) (c .rest .given .0 .0)
 small-at t c =
     let s = now (c .before .before .before .before .before .before .before .before .before .args .s) in
     subst (λ (r : HeadersRead). Within (length (drop 4 s)) r) (sym (rest-at t (c .before .before)) ∙ c .rest .given .1)
     (within (drop 4 s) (bytes-drop 4 s (λ i. c .before .before .before .before .before .before .before .before .shared-slice-known .given i .fits)))
+
+-- the place at fault
+place-at : (t : ℕ) (c : At headers-from-lts.After-fault t) → c .fault .given .0 .0 .offset ≤ length (drop 4 (now (c .before .before .before .before .before .before .before .before .before .args .s)))
+place-at t c =
+    let s = drop 4 (now (c .before .before .before .before .before .before .before .before .before .args .s)) in
+    subst (λ (r : HeadersRead). InFront (length s) r) (sym (rest-at t (c .before .before)) ∙ c .fault .given .1) (front s)
 
 headers-from-read-block-header-requires : (t : ℕ) → At headers-from-lts.Need-read-block-header-requires t
 headers-from-read-block-header-requires t c κs = search needs
@@ -95,17 +100,20 @@ headers-from-headers-from-requires t c κs =
     let q : length (take (length s - 4) (drop 4 s)) < length s = rw part-to-end (shorter s _ (read-at t (c .before .before))) in
     (omega (arith, q, c .before .before .before .before .before .before .pre .0), omega (arith, q, c .before .before .before .before .before .before .pre .1))
 
-headers-from-enum-known-refusal-2 : (t : ℕ) → At headers-from-lts.Need-enum-known-refusal-2 t
-headers-from-enum-known-refusal-2 t c = search needs
+headers-from-enum-known-fault : (t : ℕ) → At headers-from-lts.Need-enum-known-fault t
+headers-from-enum-known-fault t c = search needs
+
+headers-from-add-t17 : (t : ℕ) → At headers-from-lts.Need-add-t17 t
+headers-from-add-t17 t c = omega (arith, place-at t (c .before .before), length-drop 4 (now (c .before .before .before .before .before .before .before .before .before .before .before .args .s)), c .before .before .before .before .before .before .before .before .before .before .before .pre .1)
 
 headers-from-enum-known-rest : (t : ℕ) → At headers-from-lts.Need-enum-known-rest t
 headers-from-enum-known-rest t c = search needs
 
-headers-from-add-t15 : (t : ℕ) → At headers-from-lts.Need-add-t15 t
-headers-from-add-t15 t c = omega (arith, small-at t (c .before .before) .within, length-drop 4 (now (c .before .before .before .before .before .before .before .before .before .before .before .args .s)), c .before .before .before .before .before .before .before .before .before .before .before .pre .1)
+headers-from-add-t19 : (t : ℕ) → At headers-from-lts.Need-add-t19 t
+headers-from-add-t19 t c = omega (arith, small-at t (c .before .before) .within, length-drop 4 (now (c .before .before .before .before .before .before .before .before .before .before .before .args .s)), c .before .before .before .before .before .before .before .before .before .before .before .pre .1)
 
-headers-from-add-t16 : (t : ℕ) → At headers-from-lts.Need-add-t16 t
-headers-from-add-t16 t c =
+headers-from-add-t20 : (t : ℕ) → At headers-from-lts.Need-add-t20 t
+headers-from-add-t20 t c =
     let s = now (c .before .before .before .before .before .before .before .before .before .before .before .before .before .args .s) in
     let k = fair s _ (read-at t (c .before .before .before .before .before .before .before .before .before)) .short (λ i. c .before .before .before .before .before .before .before .before .before .before .before .before .shared-slice-known .given i .fits) in
     omega (arith, k, small-at t (c .before .before .before .before), length-drop 4 s, c .before .before .before .before .before .before .before .before .before .before .before .before .before .pre .1)
@@ -117,7 +125,7 @@ headers-from-returns-2 : (t : ℕ) → At headers-from-lts.Need-returns-2 t
 headers-from-returns-2 t c = sym (at-primary (now (c .before .before .before .before .args .s)) _ (sym (same-block _ _ (c .before .before .read-block-header .ensures)) ∙ c .enum-told .given .1))
 
 headers-from-returns-3 : (t : ℕ) → At headers-from-lts.Need-returns-3 t
-headers-from-returns-3 t c = sym (whole-at t (c .before .before .before) ∙ ap (ahead (c .before .before .before .before .before .before .block .given .0 .0)) (c .before .refusal2 .given .1))
+headers-from-returns-3 t c = sym (whole-at t (c .before .before .before .before) ∙ ap (ahead (c .before .before .before .before .before .before .before .block .given .0 .0)) (c .before .before .fault .given .1))
 
 headers-from-returns-4 : (t : ℕ) → At headers-from-lts.Need-returns-4 t
 headers-from-returns-4 t c = sym (whole-at t (c .before .before .before .before .before .before) ∙ ap (ahead (c .before .before .before .before .before .before .before .before .before .block .given .0 .0)) (c .before .before .before .before .rest .given .1))
@@ -134,10 +142,11 @@ pub +headers-from-spec : {M : Type 1} → statement M
     (headers-from-part-headers-from-start t)
     (headers-from-part-headers-from-end t)
     (headers-from-headers-from-requires t)
-    (headers-from-enum-known-refusal-2 t)
+    (headers-from-enum-known-fault t)
+    (headers-from-add-t17 t)
     (headers-from-enum-known-rest t)
-    (headers-from-add-t15 t)
-    (headers-from-add-t16 t)
+    (headers-from-add-t19 t)
+    (headers-from-add-t20 t)
     (headers-from-returns t)
     (headers-from-returns-2 t)
     (headers-from-returns-3 t)
