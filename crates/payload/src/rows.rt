@@ -11,17 +11,25 @@ ghost use lib.ListN.{length};
 ghost use Rattle.rtp.specs.Areas.{over};
 ghost use Rattle.formats.specs.Frames.{stepOf};
 ghost use Rattle.contents.specs.Contents.{entrySize, gapAt, gapsFrom, contents, sizesAnswer};
-ghost use Rattle.payload.specs.Rows.{rowWords, words, blockRows, groupRows, timeAfter};
+ghost use Rattle.payload.specs.Rows.{rowWords, words, blockRows, groupRows, timeAfter, marked};
 ghost use Rattle.payload.specs.Room.{RowRoom, BlockRoom, GroupRoom, TableRoom, contentsWords, originOf};
 
-// A row at the front of the area.
-fn put_row(rows: &mut [u32], time: u32, class: usize, channel: usize, start: usize, size: usize)
+// A row at the front of the area, heard with this mark.
+fn put_row(
+    rows: &mut [u32],
+    mark: u8,
+    time: u32,
+    class: usize,
+    channel: usize,
+    start: usize,
+    size: usize,
+)
     requires { ⌜ RowRoom channel class start size (length (now rows)) ⌝ }
     ensures { λ _. ⌜ now (rows .exit) ≡
-        over (rowWords (record { time = time; class = class; channel = channel; start = start; length = size })) (now (rows .entry)) ⌝ }
+        over (rowWords (record { time = time; class = class; channel = channel; start = start; length = size; primary = mark })) (now (rows .entry)) ⌝ }
 {
     rows[0] = time;
-    rows[1] = tagging::pack_tag(class as u8, channel as u8);
+    rows[1] = tagging::pack_tag(mark, class as u8, channel as u8);
     rows[2] = start as u32;
     rows[3] = size as u32;
 }
@@ -29,6 +37,7 @@ fn put_row(rows: &mut [u32], time: u32, class: usize, channel: usize, start: usi
 // The rows of `count` channels of a frame-block, from `channel` on.
 fn put_block(
     rows: &mut [u32],
+    mark: u8,
     count: usize,
     channel: usize,
     time: u32,
@@ -37,14 +46,15 @@ fn put_block(
     size: usize,
 )
     requires { ⌜ BlockRoom count channel class start size (length (now rows)) ⌝ }
-    ensures { λ _. ⌜ now (rows .exit) ≡ over (words (blockRows count channel time class start size)) (now (rows .entry)) ⌝ }
+    ensures { λ _. ⌜ now (rows .exit) ≡ over (words (marked mark (blockRows count channel time class start size))) (now (rows .entry)) ⌝ }
 {
     if count == 0 {
         return;
     }
-    put_row(rows, time, class, channel, start, size);
+    put_row(rows, mark, time, class, channel, start, size);
     put_block(
         &mut rows[ROW_WIDTH..],
+        mark,
         count - 1,
         channel + 1,
         time,
@@ -57,6 +67,7 @@ fn put_block(
 // The rows of `count` frame-blocks from the k-th on of the entry at the front of s; answers the time of the place after them.
 fn put_group(
     rows: &mut [u32],
+    mark: u8,
     s: &[u8],
     format: u8,
     channels: usize,
@@ -67,10 +78,10 @@ fn put_group(
     start: usize,
     size: usize,
 ) -> u32
-    requires { ⌜ GroupRoom format (now s) k count channels class start size (length (now rows)) ⌝ }
+    requires { ⌜ GroupRoom k count channels class start size (length (now rows)) ⌝ }
     ensures { λ r. ⌜ (r ≡ timeAfter (stepOf format) time (gapsFrom format (now (s .entry)) k count))
         × (now (rows .exit) ≡
-        over (words (groupRows (stepOf format) channels time class start size (gapsFrom format (now (s .entry)) k count))) (now (rows .entry))) ⌝ }
+        over (words (marked mark (groupRows (stepOf format) channels time class start size (gapsFrom format (now (s .entry)) k count)))) (now (rows .entry))) ⌝ }
 {
     if count == 0 {
         return time;
@@ -78,11 +89,12 @@ fn put_group(
     let step = frames::step_of(format);
     let skipped = entries::gap(format, s, k) * step;
     let here = std::num::wrapping_add_u32(time, skipped);
-    put_block(rows, channels, 0, here, class, start, size);
+    put_block(rows, mark, channels, 0, here, class, start, size);
     let next = std::num::wrapping_add_u32(here, step);
     let width = ROW_WIDTH * channels;
     put_group(
         &mut rows[width..],
+        mark,
         s,
         format,
         channels,
@@ -107,6 +119,7 @@ pub(crate) fn origin(format: u8, time: u32, s: &[u8]) -> u32
 // frames start at `start`.
 pub(crate) fn put_contents(
     rows: &mut [u32],
+    mark: u8,
     s: &[u8],
     format: u8,
     channels: usize,
@@ -115,13 +128,14 @@ pub(crate) fn put_contents(
     start: usize,
 )
     requires { ⌜ TableRoom channels start (length (now rows)) (sizesAnswer format channels (contents format channels done (now s))) ⌝ }
-    ensures { λ _. ⌜ now (rows .exit) ≡ over (contentsWords format channels time start (contents format channels done (now (s .entry)))) (now (rows .entry)) ⌝ }
+    ensures { λ _. ⌜ now (rows .exit) ≡ over (contentsWords format channels time start mark (contents format channels done (now (s .entry)))) (now (rows .entry)) ⌝ }
 {
     match entries::read_entry(format, &s[0..]) {
         EntryRead::Refused(_) => {}
         EntryRead::Entry(entry) => {
             let next = put_group(
                 rows,
+                mark,
                 &s[0..],
                 format,
                 channels,
@@ -138,6 +152,7 @@ pub(crate) fn put_contents(
                 let size = entry.size;
                 put_contents(
                     &mut rows[width..],
+                    mark,
                     &s[size..],
                     format,
                     channels,
