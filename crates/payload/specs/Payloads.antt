@@ -55,12 +55,12 @@ pub data Rows : Type 0 where
 
 -- the rows of a payload with this table that stands at `at` in its packet and is heard with this mark: its frames start after its header and its table
 unfoldable pub placedRows : ℕ → ℕ → ℕ → ℕ → ℕ → Contents → Rows
-placedRows format ch time at mark (refused f) = noRows (shifted at f)
-placedRows format ch time at mark (groups gs) = rowsOf (marked mark (tableRows (stepOf format) ch time (at + formatOf format .header + sizeIn format gs) gs))
+placedRows mark format ch time at (refused f) = noRows (shifted at f)
+placedRows mark format ch time at (groups gs) = rowsOf (marked mark (tableRows (stepOf format) ch time (at + formatOf format .header + sizeIn format gs) gs))
 
 -- the rows of the payload s that stands at `at` and is heard with this mark
 unfoldable pub payloadRows : ℕ → ℕ → ℕ → ℕ → ℕ → ℕ → List ℕ → Rows
-payloadRows format ch rows time at mark s = placedRows format ch time at mark (payload format ch rows s)
+payloadRows mark format ch rows time at s = placedRows mark format ch time at (payload format ch rows s)
 
 -- the words of rows that were read: none of a refusal
 unfoldable pub rowsWords : Rows → List ℕ
@@ -89,10 +89,10 @@ rowsAnswer (noRows f) = PayloadRead.Refused f
 rowsAnswer (rowsOf rs) = PayloadRead.Rows (length rs)
 
 -- the payload of a call: the settings are asked first, then the area of so many words for all the rows that a packet may have, then the payload's length
-unfoldable pub askedRows : Settings → ℕ → ℕ → ℕ → ℕ → ℕ → List ℕ → Rows
-askedRows st rows area time at mark s =
+unfoldable pub askedRows : ℕ → Settings → ℕ → ℕ → ℕ → ℕ → List ℕ → Rows
+askedRows mark st rows area time at s =
     cond (inRange st)
     (cond (ltb (rowWidth * rows + area) rowArea) (noRows (fault AreaTooShort))
     (cond (ltb maxPacket (at + length s)) (noRows (fault PacketLength))
-    (payloadRows (st .format) (st .channels) rows time at mark s)))
+    (payloadRows mark (st .format) (st .channels) rows time at s)))
     (noRows (fault SettingsOutOfRange))

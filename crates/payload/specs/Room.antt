@@ -34,8 +34,8 @@ TableRoom ch start area (ContentsRead.Contents t) = (rowWidth * t .rows ≤ area
 
 -- the words of a table whose frames start at `start`, heard with this mark: none of a refusal
 unfoldable pub contentsWords : ℕ → ℕ → ℕ → ℕ → ℕ → Contents → List ℕ
-contentsWords format ch time start mark (refused r) = []
-contentsWords format ch time start mark (groups gs) = words (marked mark (tableRows (stepOf format) ch time start gs))
+contentsWords mark format ch time start (refused r) = []
+contentsWords mark format ch time start (groups gs) = words (marked mark (tableRows (stepOf format) ch time start gs))
 
 -- the time from which the rows of a payload at `time` are counted with every displacement, its first entry's DIS1 included: that one is passed over
 abbrev pub originOf : ℕ → ℕ → List ℕ → ℕ

@@ -128,7 +128,7 @@ pub(crate) fn put_contents(
     start: usize,
 )
     requires { ⌜ TableRoom channels start (length (now rows)) (sizesAnswer format channels (contents format channels done (now s))) ⌝ }
-    ensures { λ _. ⌜ now (rows .exit) ≡ over (contentsWords format channels time start mark (contents format channels done (now (s .entry)))) (now (rows .entry)) ⌝ }
+    ensures { λ _. ⌜ now (rows .exit) ≡ over (contentsWords mark format channels time start (contents format channels done (now (s .entry)))) (now (rows .entry)) ⌝ }
 {
     match entries::read_entry(format, &s[0..]) {
         EntryRead::Refused(_) => {}

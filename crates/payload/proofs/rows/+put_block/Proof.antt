@@ -16,7 +16,7 @@ use Rattle.payload.proofs.rows.+put_block.{statement}
 use Rattle.payload.proofs.rows.+put_block.Tie.{close}
 
 abbrev μ-put-block : Measures 1 put-block-kinds.ps ℕ
-μ-put-block κs a = a .1 .0
+μ-put-block κs a = a .1 .1 .0
 
 abbrev put-block-at : ℕ → In 1 put-block-kinds.ps
 put-block-at t = and 1 put-block-kinds.ps (is 1 put-block-kinds.ps μ-put-block t) put-block.Pre
@@ -34,7 +34,7 @@ abbrev At : (put-block-lts.Claims → In 1 put-block-kinds.ps → Out 1 put-bloc
 At P t = P (callees t) (put-block-at t) put-block.Post
 
 put-block-returns : (t : ℕ) → At put-block-lts.Need-returns t
-put-block-returns t c = let a = c .before .before .args in block-none (a .count) (a .channel) (a .time) (a .class) (a .start) (a .size) (now (a .rows)) (c .if1 .taken)
+put-block-returns t c = let a = c .before .before .args in block-none (a .mark) (a .count) (a .channel) (a .time) (a .class) (a .start) (a .size) (now (a .rows)) (c .if1 .taken)
 
 put-block-put-row-requires : (t : ℕ) → At put-block-lts.Need-put-row-requires t
 put-block-put-row-requires t c κs = let a = c .before .before .before .args in block-row (a .count) (a .channel) (a .class) (a .start) (a .size) (length (now (a .rows))) (c .before .before .before .pre .1) (c .before .if1 .left)
@@ -69,7 +69,7 @@ put-block-same-length t c = search needs
 put-block-returns-2 : (t : ℕ) → At put-block-lts.Need-returns-2 t
 put-block-returns-2 t c =
     let a = c .before .before .before .before .before .before .before .before .before .before .args in
-    block-put (a .count) (a .channel) (a .time) (a .class) (a .start) (a .size) (now (a .rows)) (c .before .before .before .before .before .before .before .before .if1 .left) _ _ (c .before .before .before .before .before .before .put-row .ensures) (c .before .before .put-block .ensures)
+    block-put (a .mark) (a .count) (a .channel) (a .time) (a .class) (a .start) (a .size) (now (a .rows)) (c .before .before .before .before .before .before .before .before .if1 .left) _ _ (c .before .before .before .before .before .before .put-row .ensures) (c .before .before .put-block .ensures)
 
 pub +put-block-spec : {M : Type 1} → statement M
 +put-block-spec = close μ-put-block λ t. put-block-lts.spec (callees t)

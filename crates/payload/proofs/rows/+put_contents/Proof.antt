@@ -25,7 +25,7 @@ use Rattle.payload.proofs.rows.+put_contents.{statement}
 use Rattle.payload.proofs.rows.+put_contents.Tie.{close}
 
 abbrev μ-put-contents : Measures 2 put-contents-kinds.ps ℕ
-μ-put-contents κs a = length (a .1 .0 .now)
+μ-put-contents κs a = length (a .1 .1 .0 .now)
 
 abbrev put-contents-at : ℕ → In 2 put-contents-kinds.ps
 put-contents-at t =
@@ -55,7 +55,7 @@ few-at : (t : ℕ) (c : At put-contents-lts.After-entry t) → let a = c .before
 few-at t c = let a = c .before .before .before .before .before .before .args in room-few (a .format) (a .channels) (a .done) (a .start) (length (now (a .rows))) (now (a .s)) _ (read-at t c) (c .before .before .before .before .before .before .pre .1)
 
 room-at : (t : ℕ) (c : At put-contents-lts.After-entry t) → let a = c .before .before .before .before .before .before .args in let e = c .entry .given .0 .0 in
-    GroupRoom (a .format) (now (a .s)) 0 (e .blocks) (a .channels) (e .class) (a .start) (e .length) (length (now (a .rows)))
+    GroupRoom 0 (e .blocks) (a .channels) (e .class) (a .start) (e .length) (length (now (a .rows)))
 room-at t c = let a = c .before .before .before .before .before .before .args in room-group (a .format) (a .channels) (a .done) (a .start) (length (now (a .rows))) (now (a .s)) _ (read-at t c) (c .before .before .before .before .before .before .pre .1) (λ i. c .before .before .before .before .shared-slice-known .given i .fits)
 
 rest-at : (t : ℕ) (c : At put-contents-lts.After-entry t) → c .entry .given .0 .0 .more ≡ true → let a = c .before .before .before .before .before .before .args in let e = c .entry .given .0 .0 in
@@ -91,7 +91,7 @@ put-contents-part-put-group-end : (t : ℕ) → At put-contents-lts.Need-part-pu
 put-contents-part-put-group-end t c = search needs
 
 put-contents-put-group-requires : (t : ℕ) → At put-contents-lts.Need-put-group-requires t
-put-contents-put-group-requires t c κs = rw (part-to-end 0 (now (c .before .before .before .before .before .before .before .before .before .args .s))) (room-at t (c .before .before .before))
+put-contents-put-group-requires t c κs = room-at t (c .before .before .before)
 
 put-contents-mul-here : (t : ℕ) → At put-contents-lts.Need-mul-here t
 put-contents-mul-here t c = omega (arith, few-at t (c .before .before .before .before .before .before .before .before))
@@ -140,7 +140,7 @@ put-contents-put-contents-requires t c κs =
     )
 
 put-contents-returns : (t : ℕ) → At put-contents-lts.Need-returns t
-put-contents-returns t c = let a = c .before .before .before .before .before .before .args in put-refused (a .format) (a .channels) (a .time) (a .start) (a .done) (now (a .s)) (now (a .rows)) _ (sym (same-entry _ _ (c .before .before .read-entry .ensures) ∙ ap (entryOf (c .before .before .before .before .before .before .args .format)) (part-to-end 0 (now (c .before .before .before .before .before .before .args .s)))) ∙ c .enum-told .given .1)
+put-contents-returns t c = let a = c .before .before .before .before .before .before .args in put-refused (a .mark) (a .format) (a .channels) (a .time) (a .start) (a .done) (now (a .s)) (now (a .rows)) _ (sym (same-entry _ _ (c .before .before .read-entry .ensures) ∙ ap (entryOf (c .before .before .before .before .before .before .args .format)) (part-to-end 0 (now (c .before .before .before .before .before .before .args .s)))) ∙ c .enum-told .given .1)
 
 put-contents-same-length : (t : ℕ) → At put-contents-lts.Need-same-length t
 put-contents-same-length t c = search needs
@@ -149,7 +149,7 @@ put-contents-returns-2 : (t : ℕ) → At put-contents-lts.Need-returns-2 t
 put-contents-returns-2 t c =
     let a = c .before .before .before .before .before .before .before .before .before .before .before .before .before .before .before .before .before .before .before .before .args in
     let e = c .before .before .before .before .before .before .before .before .before .before .before .before .before .before .entry .given .0 .0 in
-    put-more (a .format) (a .channels) (a .time) (a .start) (a .done) (now (a .s)) (now (a .rows)) e (read-at t (c .before .before .before .before .before .before .before .before .before .before .before .before .before .before)) (few-at t (c .before .before .before .before .before .before .before .before .before .before .before .before .before .before)) _ (rw (part-to-end 0 (now (a .s))) at (c .before .before .before .before .before .before .before .before .before .before .put-group .ensures .1))
+    put-more (a .mark) (a .format) (a .channels) (a .time) (a .start) (a .done) (now (a .s)) (now (a .rows)) e (read-at t (c .before .before .before .before .before .before .before .before .before .before .before .before .before .before)) (few-at t (c .before .before .before .before .before .before .before .before .before .before .before .before .before .before)) _ (rw (part-to-end 0 (now (a .s))) at (c .before .before .before .before .before .before .before .before .before .before .put-group .ensures .1))
     (c .before .before .before .before .before .before .before .if1 .taken) _ (c .before .before .before .before .before .before .before .before .before .before .put-group .result) _ (rest-at t (c .before .before .before .before .before .before .before .before .before .before .before .before .before .before) (c .before .before .before .before .before .before .before .if1 .taken)) (rw (part-to-end 0 (now (a .s))) at (c .before .before .before .before .before .before .before .before .before .before .put-group .ensures .0)) (c .before .before .put-contents .ensures)
 
 put-contents-same-length-2 : (t : ℕ) → At put-contents-lts.Need-same-length-2 t
@@ -159,7 +159,7 @@ put-contents-returns-3 : (t : ℕ) → At put-contents-lts.Need-returns-3 t
 put-contents-returns-3 t c =
     let a = c .before .before .before .before .before .before .before .before .before .before .before .before .before .args in
     let e = c .before .before .before .before .before .before .before .entry .given .0 .0 in
-    put-last (a .format) (a .channels) (a .time) (a .start) (a .done) (now (a .s)) (now (a .rows)) e (read-at t (c .before .before .before .before .before .before .before)) (few-at t (c .before .before .before .before .before .before .before)) _ (rw (part-to-end 0 (now (a .s))) at (c .before .before .before .put-group .ensures .1)) (c .if1 .left)
+    put-last (a .mark) (a .format) (a .channels) (a .time) (a .start) (a .done) (now (a .s)) (now (a .rows)) e (read-at t (c .before .before .before .before .before .before .before)) (few-at t (c .before .before .before .before .before .before .before)) _ (rw (part-to-end 0 (now (a .s))) at (c .before .before .before .put-group .ensures .1)) (c .if1 .left)
 
 pub +put-contents-spec : {M : Type 1} → statement M
 +put-contents-spec = close μ-put-contents λ t. put-contents-lts.spec (callees t)
