@@ -10,7 +10,8 @@ use borrow.Author.Tests.{ne-eqb}
 use Rattle.rtp.specs.Ranges.{inRange}
 use Rattle.rtp.specs.Refusals.{number}
 use Rattle.rtp.specs.declared.settings.Settings.{Settings}
-use Rattle.rtp.specs.declared.refusal.Refusal.{Refusal}
+use Rattle.rtp.specs.Faults.{fault}
+use Rattle.rtp.specs.declared.refusal.Fault.{Fault}
 use Rattle.rtp.specs.declared.refusal.Refusal.the-variants.{SettingsOutOfRange, MalformedBuffer}
 use Rattle.rtp.proofs.TestLaws.{by-test}
 use Rattle.rtp.proofs.RefusalLaws.{number-positive}
@@ -25,10 +26,10 @@ use Rattle.layout.specs.Layout.{encode, model}
 use Rattle.layout.specs.WellFormed.{wellFormed}
 use Rattle.reorder.specs.Rows.{copiesOf}
 use Rattle.reorder.specs.ModelCalls.{Result, refused, done, Offered, offerTo}
-use Rattle.reorder.specs.Calls.{countNumbers, OfferOutcome, offerRefused, offerDone, offerCall}
+use Rattle.reorder.specs.Calls.{OfferOutcome, offerRefused, offerDone, offerCall}
 use Rattle.reorder.proofs.BufferLaws.{good-back}
 use Rattle.delivery.specs.Runs.{State, lent, Call, offer, draw, Yield, offered, Step, judgementsOf, judgedBy, step, run, judged, served, frames}
-use Rattle.delivery.specs.Claims.{Counted, CountsVerdicts, framesHeld, Count}
+use Rattle.delivery.specs.Claims.{countsOf, Counted, CountsVerdicts, framesHeld, Count}
 use Rattle.delivery.proofs.StepLaws.{spare, Fine, at, fresh-fine, begun-at, offer-cases, judged-fine, draw-cases, drawn-fine}
 
 -- from n counted and k held: what is inserted comes to what is drawn and held after
@@ -68,11 +69,11 @@ count st store rows cs range = rw (begun-at st range store rows) (omega (arith, 
 module _ (b : Buffer) (packet l store : List ℕ) where
   -- of an outcome, with what the offer does to the model
   abbrev Tallies : Result Offered → OfferOutcome → Type 0
-  Tallies x r = r .answer ≡ countNumbers (r .answer .refusal) (tally noCounts (cond (eqb (r .answer .refusal) 0) (judgementsOf x) []))
+  Tallies x r = countsOf (r .answer) ≡ tally noCounts (cond (eqb (r .answer .refusal) 0) (judgementsOf x) [])
 
-  refused-tallies : (x : Result Offered) (q : Refusal) → Tallies x (offerRefused q b l store)
+  refused-tallies : (x : Result Offered) (q : Fault) → Tallies x (offerRefused q b l store)
   unfolding tally
-  refused-tallies x q = rw (ne-eqb (number q) 0 (omega (arith, number-positive q)))
+  refused-tallies x q = rw (ne-eqb (number (q .refusal)) 0 (omega (arith, number-positive (q .refusal))))
 
   done-tallies : (x : Result Offered) → Tallies x (offerDone b l store x)
   done-tallies (refused q) = refused-tallies (refused q) q
@@ -83,8 +84,8 @@ module _ (b : Buffer) (packet l store : List ℕ) where
   answer-tallies =
       let x = offerTo (model b) packet (length l) store in
       by-test (inRange (b .settings))
-      (λ r. by-test (wellFormed b) (λ w. rw (r, w) (done-tallies x)) (λ w. rw (r, w) (refused-tallies x MalformedBuffer)))
-      (λ r. rw r (refused-tallies x SettingsOutOfRange))
+      (λ r. by-test (wellFormed b) (λ w. rw (r, w) (done-tallies x)) (λ w. rw (r, w) (refused-tallies x (fault MalformedBuffer))))
+      (λ r. rw r (refused-tallies x (fault SettingsOutOfRange)))
 
 pub counts-verdicts : CountsVerdicts
 unfolding step

@@ -76,7 +76,7 @@ module _ (st : Settings) (range : inRange st ≡ true) where
       let l = lent rows (o .area) in
       offer-cases st range h g s rows o
       (λ (d : Step). InTurn (served (d .yield ∷ run (d .state) (map offer os ++ map draw areas) .yields)) (after h s (accepted st s rows (o ∷ os))))
-      (λ q e. rw (e, ne-eqb (number q) 0 (omega (arith, number-positive q))) (offers-turn areas os h g s l))
+      (λ q e. rw (e, ne-eqb (number (q .refusal)) 0 (omega (arith, number-positive (q .refusal)))) (offers-turn areas os h g s l))
       (λ rs r e.
       let j = judgeAll h s (copiesOf (o .packet) rs) in
       let k = offers-turn areas os (j .held) (judged-fine st h s l range g (o .packet) rs r) (j .store) (over (words rs) l) in

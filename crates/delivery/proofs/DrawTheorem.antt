@@ -17,9 +17,9 @@ use Rattle.layout.specs.Bits.{markOf, wordsOf, lowestFrom}
 use Rattle.layout.specs.Arrays.{Machine}
 use Rattle.layout.specs.Layout.{decode}
 use Rattle.layout.specs.WellFormed.{wellFormed}
-use Rattle.reorder.specs.Calls.{drawCall}
+use Rattle.drawing.specs.Calls.{drawCall}
 use Rattle.layout.proofs.WordLaws.{slotsOf, Distinct, count-here, count-else, distinct-tail, mark-count, own-distinct}
-use Rattle.reorder.proofs.CallLaws.{drawFirst, draw-goes}
+use Rattle.drawing.proofs.CallLaws.{drawFirst, draw-goes}
 use Rattle.reorder.proofs.StateLaws.{Good, draw-good}
 use Rattle.layout.proofs.WellFormedLaws.{words-held}
 use Rattle.reorder.proofs.BufferLaws.{buffer-good, good-back}

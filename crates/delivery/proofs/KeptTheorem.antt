@@ -9,7 +9,9 @@ use lib.ListN.{length}
 use lib.Dec.{ltb}
 use Rattle.rtp.specs.Sizes.{rowArea}
 use Rattle.rtp.specs.Ranges.{inRange}
+use Rattle.rtp.specs.Faults.{fault}
 use Rattle.rtp.specs.declared.refusal.Refusal.{Refusal}
+use Rattle.rtp.specs.declared.refusal.Fault.{Fault}
 use Rattle.rtp.specs.declared.refusal.Refusal.the-variants.{SettingsOutOfRange, MalformedBuffer, AreaTooShort}
 use Rattle.rtp.proofs.TestLaws.{by-test}
 use Rattle.rtp.proofs.RefusalLaws.{number-positive}
@@ -26,8 +28,10 @@ use Rattle.layout.specs.Arrays.{Machine}
 use Rattle.layout.specs.Layout.{encode, entriesFrom, decode}
 use Rattle.layout.specs.WellFormed.{wellFormed}
 use Rattle.reorder.specs.Rows.{copiesOf}
-use Rattle.reorder.specs.Calls.{OfferOutcome, offerRefused, offerCall, DrawOutcome, drawRefused, drawCall}
-use Rattle.reorder.proofs.CallLaws.{offerRead, offer-out, offer-malformed, offer-rows, offer-store, offer-reads, drawFirst, draw-out, draw-malformed, draw-store, draw-area, draw-goes}
+use Rattle.reorder.specs.Calls.{OfferOutcome, offerRefused, offerCall}
+use Rattle.drawing.specs.Calls.{DrawOutcome, drawRefused, drawCall}
+use Rattle.reorder.proofs.CallLaws.{offerRead, offer-out, offer-malformed, offer-rows, offer-store, offer-reads}
+use Rattle.drawing.proofs.CallLaws.{drawFirst, draw-out, draw-malformed, draw-store, draw-area, draw-goes}
 use Rattle.layout.proofs.WellFormedLaws.{encode-decode}
 use Rattle.delivery.specs.WellFormedClaims.{LeftByOffer, Empty, LeftByDraw, ChangesNothing}
 
@@ -79,7 +83,7 @@ module _ (b : Buffer) (m : Machine b) (packet rows store : List ℕ) where
   went : (r : OfferOutcome) → offerCall b packet rows store ≡ r → LeftByOffer b store r → LeftByOffer b store (offerCall b packet rows store)
   went r e p = subst (LeftByOffer b store) (sym e) p
 
-  refusing : (q : Refusal) → LeftByOffer b store (offerRefused q b rows store)
+  refusing : (q : Fault) → LeftByOffer b store (offerRefused q b rows store)
   refusing q x y = (refl, refl)
 
   read-leaves : wellFormed b ≡ true → (o : Outcome) → LeftByOffer b store (offerRead b packet rows store o)
@@ -93,14 +97,14 @@ module _ (b : Buffer) (m : Machine b) (packet rows store : List ℕ) where
       by-test (inRange (b .settings))
       (λ r. by-test (wellFormed b)
       (λ w. by-test (ltb (length rows) rowArea)
-      (λ a. went (offerRefused AreaTooShort b rows store) (offer-rows b packet rows store r w (ltb-true _ _ a)) (refusing AreaTooShort))
+      (λ a. went (offerRefused (fault AreaTooShort) b rows store) (offer-rows b packet rows store r w (ltb-true _ _ a)) (refusing (fault AreaTooShort)))
       (λ a. by-test (ltb (length store) storeSize)
-      (λ s. went (offerRefused AreaTooShort b rows store) (offer-store b packet rows store r w (ltb-false _ _ a) (ltb-true _ _ s)) (refusing AreaTooShort))
+      (λ s. went (offerRefused (fault AreaTooShort) b rows store) (offer-store b packet rows store r w (ltb-false _ _ a) (ltb-true _ _ s)) (refusing (fault AreaTooShort)))
       (λ s.
       went (offerRead b packet rows store (reading (b .settings) (length rows) packet)) (offer-reads b packet rows store r w (ltb-false _ _ a) (ltb-false _ _ s))
       (read-leaves w (reading (b .settings) (length rows) packet)))))
-      (λ w. went (offerRefused MalformedBuffer b rows store) (offer-malformed b packet rows store r w) (refusing MalformedBuffer)))
-      (λ r. went (offerRefused SettingsOutOfRange b rows store) (offer-out b packet rows store r) (refusing SettingsOutOfRange))
+      (λ w. went (offerRefused (fault MalformedBuffer) b rows store) (offer-malformed b packet rows store r w) (refusing (fault MalformedBuffer))))
+      (λ r. went (offerRefused (fault SettingsOutOfRange) b rows store) (offer-out b packet rows store r) (refusing (fault SettingsOutOfRange)))
 
 -- Draws
 

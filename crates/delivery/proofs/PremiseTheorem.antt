@@ -36,7 +36,7 @@ module _ (st : Settings) (range : inRange st ≡ true) where
       let l = lent rows (o .area) in
       offer-cases st range h g s rows o
       (λ (d : Step). judged (d .yield ∷ run (d .state) (map offer os) .yields) ≡ judgeAll h s (copiesIn st (accepted st s rows (o ∷ os))) .judgements)
-      (λ q e. rw (e, ne-eqb (number q) 0 (omega (arith, number-positive q))) (offers-judge os h g s l))
+      (λ q e. rw (e, ne-eqb (number (q .refusal)) 0 (omega (arith, number-positive (q .refusal)))) (offers-judge os h g s l))
       (λ rs r e.
       let j = judgeAll h s (copiesOf (o .packet) rs) in
       let k = offers-judge os (j .held) (judged-fine st h s l range g (o .packet) rs r) (j .store) (over (words rs) l) in

@@ -13,7 +13,8 @@ use Rattle.rtp.specs.Refusals.{number}
 use Rattle.rtp.specs.Areas.{over}
 use Rattle.rtp.specs.declared.settings.Settings.{Settings}
 use Rattle.rtp.specs.declared.header.Header.{Header}
-use Rattle.rtp.specs.declared.refusal.Refusal.{Refusal}
+use Rattle.rtp.specs.Faults.{fault}
+use Rattle.rtp.specs.declared.refusal.Fault.{Fault}
 use Rattle.rtp.specs.declared.refusal.Refusal.the-variants.{AreaTooShort}
 use Rattle.rtp.proofs.TestLaws.{by-test}
 use Rattle.rtp.proofs.RefusalLaws.{number-positive}
@@ -29,9 +30,11 @@ use Rattle.layout.specs.declared.buffer.Buffer.{Buffer}
 use Rattle.layout.specs.Layout.{encode, model}
 use Rattle.reorder.specs.Rows.{copiesOf}
 use Rattle.reorder.specs.ModelCalls.{Result, refused, Offered, judgeRead, offerTo}
-use Rattle.reorder.specs.Calls.{NewOutcome, countNumbers, OfferOutcome, offerDone, offerCall, DrawNumbers, noFrame, DrawOutcome, drawRefused, drawCall}
+use Rattle.reorder.specs.Calls.{NewOutcome, faultNumbers, countNumbers, OfferOutcome, offerDone, offerCall}
+use Rattle.drawing.specs.Calls.{DrawNumbers, noFrame, DrawOutcome, drawRefused, drawCall}
 use Rattle.layout.proofs.LayoutLaws.{fresh-encode}
-use Rattle.reorder.proofs.CallLaws.{new-in, drawFirst, draw-store, draw-area, draw-goes}
+use Rattle.reorder.proofs.CallLaws.{new-in}
+use Rattle.drawing.proofs.CallLaws.{drawFirst, draw-store, draw-area, draw-goes}
 use Rattle.reorder.proofs.StateLaws.{Good, good-facts, judgeAll-good, draw-good}
 use Rattle.reorder.proofs.BufferLaws.{good-fine, good-back}
 use Rattle.reorder.proofs.CopyLaws.{read-fit, fits-frames}
@@ -80,13 +83,13 @@ begun-at st range s rows =
 
 module _ (st : Settings) (h : Held) (s l : List ℕ) where
   -- refused, and judged
-  abbrev pub refusedOffer : Refusal → Step
-  refusedOffer q = record { yield = offered (countNumbers (number q) noCounts) []; state = at st h s l }
+  abbrev pub refusedOffer : Fault → Step
+  refusedOffer q = record { yield = offered (faultNumbers q) []; state = at st h s l }
 
   abbrev pub judgedOffer : List ℕ → List Row → Step
   judgedOffer packet rs =
       let g = judgeAll h s (copiesOf packet rs) in
-      record { yield = offered (countNumbers 0 (tally noCounts (g .judgements))) (g .judgements); state = at st (g .held) (g .store) (over (words rs) l) }
+      record { yield = offered (countNumbers (tally noCounts (g .judgements))) (g .judgements); state = at st (g .held) (g .store) (over (words rs) l) }
 
   -- what an offer yields, by what it does to the model
   abbrev stepOf : Result Offered → Step
@@ -129,11 +132,11 @@ module _ (st : Settings) (h : Held) (s l : List ℕ) where
 
     -- a case for each way that an offer goes
     module _ (packet : List ℕ) (P : Step → Type 0)
-        (refusing : (q : Refusal) → offerRefusal st s l packet ≡ number q → P (refusedOffer q))
+        (refusing : (q : Fault) → offerRefusal st s l packet ≡ number (q .refusal) → P (refusedOffer q))
         (judging : (rs : List Row) → IsRead packet rs → offerRefusal st s l packet ≡ 0 → P (judgedOffer packet rs)) where
       read-cases : rowArea ≤ length l → storeSize ≤ length s → (x : Outcome) → reading st (length l) packet ≡ x
           → offerRefusal st s l packet ≡ readRefusal x → P (stepOf (judgeRead h packet s x))
-      read-cases a room (unread q) e r = rw (ne-eqb (number q) 0 (omega (arith, number-positive q))) (refusing q r)
+      read-cases a room (unread q) e r = rw (ne-eqb (number (q .refusal)) 0 (omega (arith, number-positive (q .refusal)))) (refusing q r)
       read-cases a room (readAs x rs request) e r = judging rs (record { area = a; room = room; head = x; request = request; same = e }) r
 
       went : (x : Result Offered) → offerTo (record { settings = st; held = h }) packet (length l) s ≡ x → P (stepOf x)
@@ -144,9 +147,9 @@ module _ (st : Settings) (h : Held) (s l : List ℕ) where
       unfolding offerTo offerRefusal
       offer-ways =
           by-test (ltb (length l) rowArea)
-          (λ a. went (refused AreaTooShort) (rw a) (refusing AreaTooShort (rw a)))
+          (λ a. went (refused (fault AreaTooShort)) (rw a) (refusing (fault AreaTooShort) (rw a)))
           (λ a. by-test (ltb (length s) storeSize)
-          (λ b. went (refused AreaTooShort) (rw (a, b)) (refusing AreaTooShort (rw (a, b))))
+          (λ b. went (refused (fault AreaTooShort)) (rw (a, b)) (refusing (fault AreaTooShort) (rw (a, b))))
           (λ b.
           went (judgeRead h packet s (reading st (length l) packet)) (rw (a, b))
           (read-cases (ltb-false _ _ a) (ltb-false _ _ b) (reading st (length l) packet) refl (rw (a, b)))))
@@ -170,7 +173,7 @@ module _ (st : Settings) (h : Held) (s l : List ℕ) where
 
 module _ (st : Settings) (range : inRange st ≡ true) (h : Held) (g : Fine st h) (s rows : List ℕ) where
   pub offer-cases : (o : Offer) (P : Step → Type 0) → let l = lent rows (o .area) in
-      ((q : Refusal) → offerRefusal st s l (o .packet) ≡ number q → P (refusedOffer st h s l q))
+      ((q : Fault) → offerRefusal st s l (o .packet) ≡ number (q .refusal) → P (refusedOffer st h s l q))
       → ((rs : List Row) → IsRead st h s l (o .packet) rs → offerRefusal st s l (o .packet) ≡ 0 → P (judgedOffer st h s l (o .packet) rs))
       → P (step (at st h s rows) (offer o))
   unfolding step

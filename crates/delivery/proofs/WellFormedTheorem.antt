@@ -11,8 +11,10 @@ use Rattle.layout.specs.declared.buffer.Buffer.{Buffer}
 use Rattle.layout.specs.Arrays.{Machine}
 use Rattle.layout.specs.Layout.{decode}
 use Rattle.layout.specs.WellFormed.{wellFormed}
-use Rattle.reorder.specs.Calls.{NewOutcome, OfferOutcome, DrawOutcome}
-use Rattle.reorder.proofs.CallLaws.{new-in, offer-out, draw-out}
+use Rattle.reorder.specs.Calls.{NewOutcome, OfferOutcome}
+use Rattle.drawing.specs.Calls.{DrawOutcome}
+use Rattle.reorder.proofs.CallLaws.{new-in, offer-out}
+use Rattle.drawing.proofs.CallLaws.{draw-out}
 use Rattle.layout.proofs.WellFormedLaws.{encode-decode, fresh-formed}
 use Rattle.reorder.proofs.BufferLaws.{buffer-good, good-fine}
 use Rattle.delivery.specs.Runs.{State, lent, Call, offer, draw, step, run, begun}

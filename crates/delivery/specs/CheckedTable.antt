@@ -46,7 +46,7 @@ entry time channel length slot = record { time = time; channel = channel; class 
 
 -- an offer that is not refused: how often each verdict was given, the buffer and the store left, and the rows read
 abbrev pub comesTo : List ℕ → Counts → Buffer → List Row → List ℕ → OfferOutcome
-comesTo rows counts b rs store = record { answer = countNumbers 0 counts; buffer = b; rows = over (words rs) rows; store = store }
+comesTo rows counts b rs store = record { answer = countNumbers counts; buffer = b; rows = over (words rs) rows; store = store }
 
 -- any bytes of such a length
 abbrev pub Bytes : ℕ → (List ℕ → Type 0) → Type 0

@@ -14,20 +14,21 @@ use Rattle.rtp.specs.declared.refusal.Refusal.the-variants.{AreaTooShort}
 use Rattle.packet.specs.Readings.{Outcome, refused, readAs, reading}
 use Rattle.playout.specs.Sizes.{slots, slotSize, storeSize}
 use Rattle.playout.specs.Copies.{Copy}
-use Rattle.playout.specs.Verdicts.{noCounts, tally}
+use Rattle.playout.specs.Verdicts.{Counts, noCounts, tally}
 use Rattle.playout.specs.Lists.{Playout, WithinStretch, AtMost}
 use Rattle.layout.specs.declared.buffer.Buffer.{Buffer}
 use Rattle.layout.specs.Arrays.{Machine}
 use Rattle.layout.specs.Layout.{decode}
 use Rattle.layout.specs.WellFormed.{wellFormed}
 use Rattle.reorder.specs.Rows.{readCopies}
-use Rattle.reorder.specs.Calls.{newCall, countNumbers, noFrame}
+use Rattle.reorder.specs.Calls.{newCall, OfferNumbers}
+use Rattle.drawing.specs.Calls.{noFrame}
 use Rattle.delivery.specs.Runs.{State, lent, Offer, Call, offer, draw, Yield, offered, drew, step, Run, run, begun, refusalOf, judged, Served, served, frames}
 
 -- What is refused
 
 abbrev pub readRefusal : Outcome → ℕ
-readRefusal (refused r) = number r
+readRefusal (refused f) = number (f .refusal)
 readRefusal (readAs h rs request) = 0
 
 -- the refusal that an offer gets: an area lent to it is under its size, or reading refuses its packet; else 0
@@ -122,9 +123,13 @@ pub record KeepsWellFormed : Type 0 where
 
 -- The counts
 
+-- those in an offer's answer
+abbrev pub countsOf : OfferNumbers → Counts
+countsOf n = record { late = n .late; far = n .far; repeated = n .repeated; better = n .better; noRoom = n .noRoom; inserted = n .inserted }
+
 -- an offer's answer gives how often each verdict was given on its copies, whatever the state
 abbrev pub Counted : Yield → Type 0
-Counted (offered n js) = n ≡ countNumbers (n .refusal) (tally noCounts js)
+Counted (offered n js) = countsOf n ≡ tally noCounts js
 Counted (drew n area) = Unit {0}
 
 abbrev pub CountsVerdicts : Type 0

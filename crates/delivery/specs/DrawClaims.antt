@@ -13,7 +13,7 @@ use Rattle.layout.specs.Bits.{markOf, lowestFree}
 use Rattle.layout.specs.Arrays.{Machine}
 use Rattle.layout.specs.Layout.{decode}
 use Rattle.layout.specs.WellFormed.{wellFormed}
-use Rattle.reorder.specs.Calls.{DrawOutcome, drawCall}
+use Rattle.drawing.specs.Calls.{DrawOutcome, drawCall}
 
 -- the buffer b holds the frame of e, the earliest, and then es; r is what a draw comes to
 pub record DrawsEarliest (b : Buffer) (store area : List ℕ) (e : Entry) (es : List Entry) (r : DrawOutcome) : Type 0 where

@@ -10,7 +10,8 @@ use Rattle.playout.specs.Verdicts.{Judgement}
 use Rattle.layout.specs.declared.buffer.Buffer.{Buffer}
 use Rattle.layout.specs.Layout.{model}
 use Rattle.reorder.specs.ModelCalls.{Result, refused, done, Offered, offerTo}
-use Rattle.reorder.specs.Calls.{newCall, OfferNumbers, offerCall, DrawNumbers, drawCall}
+use Rattle.reorder.specs.Calls.{newCall, OfferNumbers, offerCall}
+use Rattle.drawing.specs.Calls.{DrawNumbers, drawCall}
 
 -- The calls
 
@@ -51,7 +52,7 @@ pub record Step : Type 0 where
 
 -- the copies that an offer judges: those of its packet, in order; none if it is refused
 abbrev pub judgementsOf : Result Offered → List Judgement
-judgementsOf (refused r) = []
+judgementsOf (refused f) = []
 judgementsOf (done o) = o .gathered .judgements
 
 unfoldable pub judgedBy : Buffer → List ℕ → List ℕ → List ℕ → List Judgement

@@ -20,7 +20,8 @@ use Rattle.layout.specs.Arrays.{Machine}
 use Rattle.layout.specs.Layout.{encode, decode}
 use Rattle.layout.specs.Model.{fine}
 use Rattle.layout.specs.WellFormed.{wellFormed}
-use Rattle.reorder.specs.Calls.{OfferOutcome, offerCall, noFrame, DrawOutcome, drawCall}
+use Rattle.reorder.specs.Calls.{OfferOutcome, offerCall}
+use Rattle.drawing.specs.Calls.{noFrame, DrawOutcome, drawCall}
 
 -- what the type of the struct says of its arrays and words
 pub record Typed (b : Buffer) : Type 0 where

@@ -15,7 +15,8 @@ use Rattle.formats.specs.Codes.{noCode, codeFor}
 use Rattle.encoder.specs.Bytes.{halves, flag, firstByte, startBytes, gapBytes, entryBytes, tableBytes}
 use Rattle.formats.proofs.FormatLaws.{code-placed}
 use Rattle.formats.proofs.CodeLaws.{code-below}
-use Rattle.encoder.specs.Room.{rowAs, wordsAt, blockGaps, runGroup, GapRoom, StartRoom, EntryRoom}
+use Rattle.plans.specs.Room.{rowAs, wordsAt}
+use Rattle.encoder.specs.Room.{blockGaps, runGroup, GapRoom, StartRoom, EntryRoom}
 use Rattle.encoder.proofs.StoreLaws.{over-one, over-two}
 use Rattle.encoder.proofs.GapLaws.{length-gaps}
 

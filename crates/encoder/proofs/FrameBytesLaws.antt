@@ -13,10 +13,11 @@ use Rattle.rtp.specs.Areas.{over}
 use Rattle.rtp.proofs.TestLaws.{by-test, not-both}
 use Rattle.rtp.proofs.AreaLaws.{over-none, over-part, part-size}
 use Rattle.payload.specs.Rows.{Row}
-use Rattle.encoder.specs.Lists.{rowsIn, outside}
+use Rattle.plans.specs.Lists.{rowsIn, outside}
 use Rattle.encoder.specs.Bytes.{frames}
-use Rattle.encoder.specs.Room.{FramesRoom, lengthsIn}
-use Rattle.encoder.proofs.ListLaws.{rows-none, rows-more}
+use Rattle.plans.specs.Room.{lengthsIn}
+use Rattle.encoder.specs.Room.{FramesRoom}
+use Rattle.plans.proofs.ListLaws.{rows-none, rows-more}
 
 -- the first row lies in its bytes, and so do the others
 inside-more : (n : ℕ) (r : Row) (rs : List Row) → outside n (r ∷ rs) ≡ false → (r .start + r .length ≤ n) × (outside n rs ≡ false)

@@ -11,7 +11,7 @@ use borrow.Rule.Slice.PartMut.{putMid}
 use Rattle.rtp.specs.Areas.{over}
 use Rattle.rtp.proofs.AreaLaws.{over-none, over-part}
 use Rattle.formats.specs.Formats.{stepOf}
-use Rattle.encoder.specs.Plans.{gapBetween}
+use Rattle.plans.specs.Plans.{gapBetween}
 use Rattle.encoder.specs.Bytes.{halves}
 use Rattle.encoder.specs.Room.{blockGaps, Halves, GapRoom}
 use Rattle.encoder.proofs.StoreLaws.{over-one}

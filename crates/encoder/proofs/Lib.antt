@@ -1,6 +1,3 @@
-pub mod ListLaws
-pub mod PlanLaws
-pub mod BlockLaws
 pub mod RunLaws
 pub mod StoreLaws
 pub mod GapLaws

@@ -18,13 +18,14 @@ use Rattle.rtp.proofs.AreaLaws.{over-part}
 use Rattle.formats.specs.Formats.{formatOf, stepOf, maxGap}
 use Rattle.contents.specs.Contents.{Group, Contents, refused, groups, sizeIn, framesIn}
 use Rattle.payload.specs.Rows.{Row}
-use Rattle.encoder.specs.Lists.{rowsIn, outside}
-use Rattle.encoder.specs.Plans.{maxPayload, unwritable, gapBetween, headGap, joins, attach, follows, nextChannel, planFrom, stepBefore, payloadSize, fitting, plan}
+use Rattle.plans.specs.Lists.{rowsIn, outside}
+use Rattle.plans.specs.Plans.{maxPayload, unwritable, gapBetween, headGap, joins, attach, follows, nextChannel, planFrom, stepBefore, payloadSize, fitting, plan}
 use Rattle.encoder.specs.Bytes.{requestBytes, tableBytes, frames}
 use Rattle.encoder.specs.Writings.{plannedBytes, encodedBytes}
-use Rattle.encoder.specs.Room.{rowAs, wordsAt, FramesRoom, timed, Near, PlanRoom, TableRoom, planBytes, WholePlan, ListRoom, PayloadRoom}
-use Rattle.encoder.proofs.ListLaws.{rows-none, rows-more, length-rows}
-use Rattle.encoder.proofs.BlockLaws.{no-plan, plan-time, frames-all}
+use Rattle.plans.specs.Room.{rowAs, wordsAt}
+use Rattle.encoder.specs.Room.{FramesRoom, timed, Near, PlanRoom, TableRoom, planBytes, WholePlan, ListRoom, PayloadRoom}
+use Rattle.plans.proofs.ListLaws.{rows-none, rows-more, length-rows}
+use Rattle.plans.proofs.BlockLaws.{no-plan, plan-time, frames-all}
 use Rattle.encoder.proofs.RunLaws.{first-gap}
 use Rattle.encoder.proofs.EntryLaws.{length-table}
 use Rattle.encoder.proofs.FrameBytesLaws.{length-frames}

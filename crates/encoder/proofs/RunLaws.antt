@@ -7,7 +7,7 @@ use native.Mathlib.Omega.{arith}
 use native.Mathlib.Nat.{mul-one, mul-suc, le-mul-of-pos-right}
 use lib.ListN.{length, getD, drop, length-drop}
 use lib.Seq.{drop-drop, getD-drop}
-use lib.Dec.{ltb, leb, eqb}
+use lib.Dec.{ltb, leb}
 use borrow.Author.Tests.{ltb-true, ltb-false, leb-true}
 use Rattle.rtp.specs.Sizes.{rowWidth}
 use Rattle.rtp.proofs.TestLaws.{by-test}
@@ -16,12 +16,13 @@ use Rattle.contents.specs.Contents.{Group, Contents, refused, groups}
 use Rattle.payload.specs.Rows.{Row}
 use Rattle.formats.specs.Codes.{noCode, codeFor}
 use Rattle.formats.proofs.FormatLaws.{gap-small}
-use Rattle.encoder.specs.Lists.{rowsIn}
-use Rattle.encoder.specs.Plans.{joinsRun, gapBetween, headGap, single, joins, attach, planFrom}
-use Rattle.encoder.specs.Room.{rowAs, wordsAt, timed, joined, Accepted, blockGaps, runGroup, Halves, Near}
-use Rattle.encoder.proofs.ListLaws.{rows-none}
-use Rattle.encoder.proofs.PlanLaws.{joins-true}
-use Rattle.encoder.proofs.BlockLaws.{no-plan, plan-time, starts-code, Block, block-step}
+use Rattle.plans.specs.Lists.{rowsIn}
+use Rattle.plans.specs.Plans.{joinsRun, gapBetween, headGap, single, joins, attach, planFrom}
+use Rattle.plans.specs.Room.{rowAs, wordsAt}
+use Rattle.encoder.specs.Room.{timed, joined, Accepted, blockGaps, runGroup, Halves, Near}
+use Rattle.plans.proofs.ListLaws.{rows-none}
+use Rattle.plans.proofs.PlanLaws.{joins-true}
+use Rattle.plans.proofs.BlockLaws.{no-plan, plan-time, starts-code, Block, block-step, attached-some}
 
 -- The two ways in which a frame-block makes the plan of those after it a longer one
 data Attached (format : ℕ) (r : Row) (gap : ℕ) (hs : List Group) (g : Group) (gs : List Group) : Type 0 where
@@ -40,16 +41,6 @@ attached format r gap (h ∷ hs) g gs e =
     let x : groups (single r gap ∷ h ∷ hs) ≡ groups (g ∷ gs) = rw (a, b) at e in
     alone (cc) (cc) (leb-true (headGap h) (maxGap format) b) (rw a))
     (λ b. absurd (no-plan (rw (a, b) at e))))
-
-pub attached-some : (format : ℕ) (r : Row) (gap : ℕ) (hs : List Group) → attach format r gap (groups hs) ≡ groups [] → ⊥
-attached-some format r gap [] e = let z : _≡_ {A = ℕ} 0 1 = cc in absurd (omega arith)
-attached-some format r gap (h ∷ hs) e =
-    by-test (joins format r h)
-    (λ a. no-more (rw a at e))
-    (λ a. by-test (leb (headGap h) (maxGap format)) (λ b. no-more (rw (a, b) at e)) (λ b. no-plan (rw (a, b) at e)))
-  where
-    no-more : {g : Group} {gs : List Group} → groups (g ∷ gs) ≡ groups [] → ⊥
-    no-more e = let z : _≡_ {A = ℕ} 0 1 = cc in absurd (omega arith)
 
 -- what the first group has of the frame-block
 record First (format : ℕ) (r : Row) (gap : ℕ) (hs : List Group) (g : Group) : Type 0 where

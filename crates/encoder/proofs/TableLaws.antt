@@ -17,19 +17,16 @@ use Rattle.formats.specs.Formats.{stepOf}
 use Rattle.contents.specs.Contents.{Group, Contents, refused, groups, entrySize, sizeIn}
 use Rattle.payload.specs.Rows.{Row}
 use Rattle.formats.proofs.FormatLaws.{gap-small}
-use Rattle.encoder.specs.Lists.{rowsIn}
-use Rattle.encoder.specs.Plans.{planFrom}
+use Rattle.plans.specs.Lists.{rowsIn}
+use Rattle.plans.specs.Plans.{planFrom}
 use Rattle.encoder.specs.Bytes.{entryBytes, tableBytes}
-use Rattle.encoder.specs.Room.{rowAs, wordsAt, timed, joined, Accepted, RunRoom, runGroup, Halves, EntryRoom, PlanRoom, TableRoom, planBytes}
-use Rattle.encoder.proofs.ListLaws.{rows-none}
-use Rattle.encoder.proofs.BlockLaws.{block-step}
-use Rattle.encoder.proofs.RunLaws.{attached-some, some-row, Run, run, first-blocks, joined-rest, joined-words}
+use Rattle.plans.specs.Room.{rowAs, wordsAt}
+use Rattle.encoder.specs.Room.{timed, joined, Accepted, RunRoom, runGroup, Halves, EntryRoom, PlanRoom, TableRoom, planBytes}
+use Rattle.plans.proofs.ListLaws.{rows-none}
+use Rattle.plans.proofs.BlockLaws.{some-group}
+use Rattle.encoder.proofs.RunLaws.{some-row, Run, run, first-blocks, joined-rest, joined-words}
 use Rattle.encoder.proofs.GapLaws.{length-gaps}
 use Rattle.encoder.proofs.EntryLaws.{length-entry, follow, table-more}
-
--- a plan of a list that has a row has a group
-pub some-group : (format ch : ℕ) (p : Row) (ws : List ℕ) → 0 < ch → rowWidth ≤ length ws → planFrom format ch 0 p (rowsIn ws) ≡ groups [] → ⊥
-some-group format ch p ws l h e = let b = block-step format ch p ws [] l h e in attached-some format _ _ (b .rest) (b .attached)
 
 -- another entry follows where there is another row
 pub follow-is : (format ch : ℕ) (p : Row) (ws : List ℕ) (gs : List Group) → 0 < ch → planFrom format ch 0 p (rowsIn ws) ≡ groups gs → leb rowWidth (length ws) ≡ follow gs

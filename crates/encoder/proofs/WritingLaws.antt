@@ -1,6 +1,6 @@
 -- Laws of writing and measuring a payload, case by case.
 use mathlib.Core.Path.{_≡_, refl, ap, sym, _∙_, subst}
-use mathlib.Core.List.{List, [], _∷_, _++_}
+use mathlib.Core.List.{List, _++_}
 use mathlib.Core.Bool.{true, false}
 use Prim.Native.Nat.{ℕ, _+_, _-_, _%_, _≤_, _<_}
 use native.Mathlib.Omega.{arith}
@@ -15,59 +15,47 @@ use Rattle.rtp.specs.declared.refusal.Refusal.the-variants.{SettingsOutOfRange,
 use Rattle.rtp.proofs.TestLaws.{by-test}
 use Rattle.rtp.proofs.AreaLaws.{over-none}
 use Rattle.formats.specs.Formats.{formatOf}
-use Rattle.contents.specs.Contents.{Group, Contents, refused, groups, sizeIn, framesIn}
-use Rattle.encoder.specs.declared.plans.Plan.{Plan}
-use Rattle.encoder.specs.declared.plans.Planned.{Planned}
+use Rattle.contents.specs.Contents.{Group, Contents, refused, groups, sizeIn}
+use Rattle.plans.specs.declared.planning.Sizes.{Sizes}
+use Rattle.plans.specs.declared.planning.ListPlan.{ListPlan}
 use Rattle.encoder.specs.declared.writing.Written.{Written}
-use Rattle.encoder.specs.Lists.{rowsIn, whole, outside}
-use Rattle.encoder.specs.Plans.{maxPayload, unwritable, plan}
+use Rattle.plans.specs.Lists.{rowsIn, whole, outside}
+use Rattle.plans.specs.Plans.{maxPayload, unwritable, payloadSize, plan}
 use Rattle.encoder.specs.Bytes.{requestBytes, tableBytes, frames}
 use Rattle.encoder.specs.Writings.{Encoded, noBytes, bytesOf, maxRequest, askable, plannedBytes, encoded, roomFor, writing, writtenNumbers, encodedNumbers, encodedBytes, plannedNumbers, refusedNumbers, measured}
-use Rattle.encoder.specs.Room.{planAnswer, WholePlan, PayloadRoom}
-use Rattle.encoder.proofs.TableLaws.{some-group}
+use Rattle.plans.specs.Room.{listAnswer}
+use Rattle.encoder.specs.Room.{WholePlan, PayloadRoom}
 pub use Rattle.rtp.proofs.RangeLaws.{in-range-some}
 use Rattle.encoder.proofs.RequestLaws.{asked}
 use Rattle.encoder.proofs.PayloadLaws.{plan-refused, listed, length-bytes}
 
 -- The plan that an answer stands for
 
-abbrev tableOf : Planned → ℕ
-tableOf (Planned.Table p) = p .table
-tableOf Planned.Empty = 0
-tableOf Planned.Unwritable = 0
+abbrev tableOf : ListPlan → ℕ
+tableOf (ListPlan.Fits s) = s .table
+tableOf ListPlan.Unwritable = 0
 
-abbrev framesOf : Planned → ℕ
-framesOf (Planned.Table p) = p .frames
-framesOf Planned.Empty = 0
-framesOf Planned.Unwritable = 0
+abbrev payloadOf : ListPlan → ℕ
+payloadOf (ListPlan.Fits s) = s .payload
+payloadOf ListPlan.Unwritable = 0
 
-pub record Answered (format ch : ℕ) (x : Contents) (p : Plan) : Type 0 where
+pub record Answered (format ch : ℕ) (x : Contents) (s : Sizes) : Type 0 where
   pub table-groups : List Group
   pub planned : x ≡ groups table-groups
-  pub table : p .table ≡ sizeIn format table-groups
-  pub frames : p .frames ≡ framesIn ch table-groups
+  pub table : s .table ≡ sizeIn format table-groups
+  pub payload : s .payload ≡ payloadSize format ch table-groups
 
-pub answered : (format ch : ℕ) (x : Contents) (p : Plan) → Planned.Table p ≡ planAnswer format ch x → Answered format ch x p
-unfolding planAnswer
-answered format ch (refused q) p e = let z : _≡_ {A = ℕ} 0 1 = cc in absurd (omega arith)
-answered format ch (groups []) p e = let z : _≡_ {A = ℕ} 0 1 = cc in absurd (omega arith)
-answered format ch (groups (g ∷ gs)) p e = record { table-groups = g ∷ gs; planned = refl; table = ap tableOf e; frames = ap framesOf e }
+pub answered : (format ch : ℕ) (x : Contents) (s : Sizes) → ListPlan.Fits s ≡ listAnswer format ch x → Answered format ch x s
+unfolding listAnswer
+answered format ch (refused q) s e = let z : _≡_ {A = ℕ} 0 1 = cc in absurd (omega arith)
+answered format ch (groups gs) s e = record { table-groups = gs; planned = refl; table = ap tableOf e; payload = ap payloadOf e }
 
-pub unanswered : (format ch : ℕ) (ws : List ℕ) → Planned.Unwritable ≡ planAnswer format ch (plan format ch (rowsIn ws)) → plan format ch (rowsIn ws) ≡ refused unwritable
+pub unanswered : (format ch : ℕ) (ws : List ℕ) → ListPlan.Unwritable ≡ listAnswer format ch (plan format ch (rowsIn ws)) → plan format ch (rowsIn ws) ≡ refused unwritable
 unanswered format ch ws e = by-plan (plan format ch (rowsIn ws)) refl e
   where
-    by-plan : (x : Contents) → plan format ch (rowsIn ws) ≡ x → Planned.Unwritable ≡ planAnswer format ch x → plan format ch (rowsIn ws) ≡ refused unwritable
+    by-plan : (x : Contents) → plan format ch (rowsIn ws) ≡ x → ListPlan.Unwritable ≡ listAnswer format ch x → plan format ch (rowsIn ws) ≡ refused unwritable
     by-plan (refused q) x y = x ∙ ap refused (plan-refused format ch (rowsIn ws) q x)
-    by-plan (groups []) x y = let z : _≡_ {A = ℕ} 0 1 = unfold planAnswer in cc in absurd (omega arith)
-    by-plan (groups (g ∷ gs)) x y = let z : _≡_ {A = ℕ} 0 1 = unfold planAnswer in cc in absurd (omega arith)
-
-pub not-empty : (format ch : ℕ) (ws : List ℕ) → 0 < ch → Planned.Empty ≡ planAnswer format ch (plan format ch (rowsIn ws)) → ⊥
-not-empty format ch ws l e = by-plan (plan format ch (rowsIn ws)) refl e
-  where
-    by-plan : (x : Contents) → plan format ch (rowsIn ws) ≡ x → Planned.Empty ≡ planAnswer format ch x → ⊥
-    by-plan (refused q) x y = let z : _≡_ {A = ℕ} 0 1 = unfold planAnswer in cc in absurd (omega arith)
-    by-plan (groups []) x y = let d = listed format ch ws [] x in some-group format ch _ ws l (d .row) (d .planned)
-    by-plan (groups (g ∷ gs)) x y = let z : _≡_ {A = ℕ} 0 1 = unfold planAnswer in cc in absurd (omega arith)
+    by-plan (groups gs) x y = let z : _≡_ {A = ℕ} 0 1 = unfold listAnswer in cc in absurd (omega arith)
 
 -- Writing
 
@@ -97,34 +85,34 @@ module _ (st : Settings) (request : ℕ) (ws bytes : List ℕ) (area : ℕ) (i :
       pub writing-none : plan (st .format) (st .channels) (rowsIn ws) ≡ refused unwritable → writing st request ws bytes area ≡ noBytes Unwritable
       writing-none e = writing-planned ∙ ap (λ (x : Contents). roomFor area (plannedBytes (st .format) request bytes (rowsIn ws) x)) e
 
-      module _ (p : Plan) (d : Answered (st .format) (st .channels) (plan (st .format) (st .channels) (rowsIn ws)) p) where
+      module _ (s : Sizes) (d : Answered (st .format) (st .channels) (plan (st .format) (st .channels) (rowsIn ws)) s) where
         bytes-of : plannedBytes (st .format) request bytes (rowsIn ws) (plan (st .format) (st .channels) (rowsIn ws)) ≡ bytesOf (requestBytes (st .format) request ++ (tableBytes (st .format) (d .table-groups) ++ frames bytes (rowsIn ws)))
         bytes-of = ap (plannedBytes (st .format) request bytes (rowsIn ws)) (d .planned)
 
-        size-of : length (requestBytes (st .format) request ++ (tableBytes (st .format) (d .table-groups) ++ frames bytes (rowsIn ws))) ≡ formatOf (st .format) .header + p .table + p .frames
-        size-of = length-bytes (st .format) request (st .channels) ws bytes (d .table-groups) (in-range-some st (asked st request i .settings)) o (d .planned) ∙ omega (arith, d .table, d .frames)
+        size-of : length (requestBytes (st .format) request ++ (tableBytes (st .format) (d .table-groups) ++ frames bytes (rowsIn ws))) ≡ s .payload
+        size-of = length-bytes (st .format) request (st .channels) ws bytes (d .table-groups) (in-range-some st (asked st request i .settings)) o (d .planned) ∙ sym (d .payload)
 
-        pub writing-short : area < formatOf (st .format) .header + p .table + p .frames → writing st request ws bytes area ≡ noBytes AreaTooShort
-        writing-short l = writing-planned ∙ ap (roomFor area) bytes-of ∙ rw (size-of, lt-ltb area (formatOf (st .format) .header + p .table + p .frames) l)
+        pub writing-short : area < s .payload → writing st request ws bytes area ≡ noBytes AreaTooShort
+        writing-short l = writing-planned ∙ ap (roomFor area) bytes-of ∙ rw (size-of, lt-ltb area (s .payload) l)
 
-        pub writing-all : formatOf (st .format) .header + p .table + p .frames ≤ area → writing st request ws bytes area ≡ plannedBytes (st .format) request bytes (rowsIn ws) (plan (st .format) (st .channels) (rowsIn ws))
+        pub writing-all : s .payload ≤ area → writing st request ws bytes area ≡ plannedBytes (st .format) request bytes (rowsIn ws) (plan (st .format) (st .channels) (rowsIn ws))
         writing-all l =
             let n : length (requestBytes (st .format) request ++ (tableBytes (st .format) (d .table-groups) ++ frames bytes (rowsIn ws))) ≤ area = omega (arith, size-of) in
             writing-planned ∙ ap (roomFor area) bytes-of ∙ rw (le-ltb area (length (requestBytes (st .format) request ++ (tableBytes (st .format) (d .table-groups) ++ frames bytes (rowsIn ws)))) n) (sym bytes-of)
 
-        pub numbers-all : formatOf (st .format) .header + p .table + p .frames ≤ area → writtenNumbers (Written.Bytes (formatOf (st .format) .header + p .table + p .frames)) ≡ encodedNumbers (writing st request ws bytes area)
+        pub numbers-all : s .payload ≤ area → writtenNumbers (Written.Bytes (s .payload)) ≡ encodedNumbers (writing st request ws bytes area)
         unfolding encodedNumbers
         numbers-all l = sym (ap encodedNumbers (writing-all l ∙ bytes-of) ∙ rw size-of)
 
-        pub payload-room : st .channels < 256 → formatOf (st .format) .header + p .table + p .frames ≤ area → PayloadRoom (st .format) request (st .channels) (p .table) (length bytes) ws area
+        pub payload-room : st .channels < 256 → s .payload ≤ area → PayloadRoom (st .format) request (st .channels) (s .table) (length bytes) ws area
         payload-room c l = record {
           small = asked st request i .small;
-          room = omega arith;
+          room = omega (arith, d .payload);
           list = record {
             some = in-range-some st (asked st request i .settings);
             channels = c;
             inside = o;
-            planned = subst (λ (x : Contents). WholePlan (st .format) (st .channels) (p .table) (area - formatOf (st .format) .header) x) (sym (d .planned)) (d .table, omega (arith, d .frames));
+            planned = subst (λ (x : Contents). WholePlan (st .format) (st .channels) (s .table) (area - formatOf (st .format) .header) x) (sym (d .planned)) (d .table, omega (arith, d .table, d .payload));
           };
         }
 
@@ -147,8 +135,8 @@ module _ (st : Settings) (ws : List ℕ) (i : inRange st ≡ true) where
     pub measured-none : plan (st .format) (st .channels) (rowsIn ws) ≡ refused unwritable → refusedNumbers Unwritable ≡ measured st ws
     measured-none e = sym (measured-plan ∙ ap (plannedNumbers (st .format) (st .channels)) e)
 
-    pub measured-all : (p : Plan) → Answered (st .format) (st .channels) (plan (st .format) (st .channels) (rowsIn ws)) p → writtenNumbers (Written.Bytes (formatOf (st .format) .header + p .table + p .frames)) ≡ measured st ws
-    measured-all p d = sym (measured-plan ∙ ap (plannedNumbers (st .format) (st .channels)) (d .planned) ∙ rw (← (d .table), ← (d .frames)))
+    pub measured-all : (s : Sizes) → Answered (st .format) (st .channels) (plan (st .format) (st .channels) (rowsIn ws)) s → writtenNumbers (Written.Bytes (s .payload)) ≡ measured st ws
+    measured-all s d = sym (measured-plan ∙ ap (plannedNumbers (st .format) (st .channels)) (d .planned) ∙ rw (← (d .payload)))
 
 -- what is measured is what is encoded, where the rows lie inside their bytes
 pub numbers-encoded : (st : Settings) (request : ℕ) (ws bytes : List ℕ) → 0 < st .channels → outside (length bytes) (rowsIn ws) ≡ false

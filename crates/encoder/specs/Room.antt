@@ -1,99 +1,21 @@
--- Plans as the code holds them, and what the functions that plan and write ask of one another inside this crate.
+-- What the functions that write ask of one another inside this crate.
 use Prim.Native.Nat.{ℕ, zero, suc, _+_, _-_, _*_, _/_, _≤_, _<_}
 use mathlib.Core.Path.{_≡_}
 use mathlib.Core.List.{List, [], _∷_}
 use mathlib.Core.Bool.{false, cond}
 use lib.ListN.{length, getD, drop}
-use lib.Dec.{leb}
-use Rattle.rtp.specs.Sizes.{maxRows, maxFrame, rowWidth}
+use Rattle.rtp.specs.Sizes.{maxRows, rowWidth}
 use Rattle.contents.specs.Contents.{Group, Contents, refused, groups, minEntry, entrySize, sizeIn, framesIn}
 use Rattle.formats.specs.Formats.{formatOf, stepOf, maxGap}
 use Rattle.payload.specs.Rows.{Row}
-use Rattle.encoder.specs.declared.lists.RowWords.{RowWords}
-use Rattle.encoder.specs.declared.plans.Plan.{Plan}
-use Rattle.encoder.specs.declared.plans.Planned.{Planned}
-use Rattle.encoder.specs.Lists.{rowOf, rowsIn, outside}
+use Rattle.plans.specs.Lists.{rowsIn, outside}
 use Rattle.formats.specs.Codes.{noCode, codeFor}
-use Rattle.encoder.specs.Plans.{headGap, gapBetween, joinsRun, joins, planFrom, plan}
+use Rattle.plans.specs.Plans.{headGap, gapBetween, joins, planFrom, plan}
+use Rattle.plans.specs.Room.{wordsAt, rowAs, lengthsIn}
 use Rattle.encoder.specs.Bytes.{tableBytes}
 use Rattle.encoder.specs.Writings.{maxRequest}
 
--- the words of the row at a word of the area
-abbrev pub wordsAt : List ℕ → ℕ → RowWords
-wordsAt ws at = record { time = getD ws at 0; tag = getD ws (at + 1) 0; start = getD ws (at + 2) 0; length = getD ws (at + 3) 0 }
-
-abbrev pub rowAs : RowWords → Row
-rowAs w = rowOf (w .time) (w .tag) (w .start) (w .length)
-
--- a plan by its first run
-unfoldable pub planAnswer : ℕ → ℕ → Contents → Planned
-planAnswer format ch (refused q) = Planned.Unwritable
-planAnswer format ch (groups []) = Planned.Empty
-planAnswer format ch (groups (g ∷ gs)) = Planned.Table (record {
-  class = g .class;
-  length = g .length;
-  gap = headGap g;
-  blocks = length (g .gaps);
-  table = sizeIn format (g ∷ gs);
-  frames = framesIn ch (g ∷ gs);
-})
-
--- `attach` by the numbers of the first run
-abbrev pub attachPlan : ℕ → ℕ → Row → ℕ → Planned → Planned
-attachPlan format ch r gap Planned.Unwritable = Planned.Unwritable
-attachPlan format ch r gap Planned.Empty = Planned.Table (record {
-  class = r .class;
-  length = r .length;
-  gap = gap;
-  blocks = 1;
-  table = entrySize format 1;
-  frames = ch * r .length;
-})
-attachPlan format ch r gap (Planned.Table p) =
-    cond (joinsRun format r (p .class) (p .length) (p .gap))
-    (Planned.Table (record {
-      class = p .class;
-      length = p .length;
-      gap = gap;
-      blocks = p .blocks + 1;
-      table = entrySize format (p .blocks + 1) + (p .table - entrySize format (p .blocks));
-      frames = ch * r .length + p .frames;
-    }))
-    (cond (leb (p .gap) (maxGap format))
-    (Planned.Table (record {
-      class = r .class;
-      length = r .length;
-      gap = gap;
-      blocks = 1;
-      table = entrySize format 1 + p .table;
-      frames = ch * r .length + p .frames;
-    }))
-    Planned.Unwritable)
-
--- the numbers of a plan of at most n frame-blocks stay small
-pub record SmallPlan (format ch n : ℕ) (p : Plan) : Type 0 where
-  pub few : p .blocks ≤ n
-  pub entry : entrySize format (p .blocks) ≤ p .table
-  pub tabled : p .table ≤ 3 * n
-  pub framed : p .frames ≤ n * (ch * maxFrame)
-
-abbrev pub Small : ℕ → ℕ → ℕ → Planned → Type 0
-Small format ch n (Planned.Table p) = SmallPlan format ch n p
-Small format ch n Planned.Empty = Unit {0}
-Small format ch n Planned.Unwritable = Unit {0}
-
--- a frame-block of a frame that the format has, before a plan of at most as many frame-blocks as a packet has rows
-pub record Attachable (format ch : ℕ) (r : Row) (rest : Planned) : Type 0 where
-  pub channels : ch < 256
-  pub short : r .length ≤ maxFrame
-  pub small : Small format ch maxRows rest
-
 -- Frames
-
--- the bytes of a list's frames
-unfoldable pub lengthsIn : List Row → ℕ
-lengthsIn [] = 0
-lengthsIn (r ∷ rs) = r .length + lengthsIn rs
 
 -- every frame lies in its bytes, and the area has room for them all
 pub record FramesRoom (bytes : ℕ) (rs : List Row) (area : ℕ) : Type 0 where

@@ -12,8 +12,8 @@ use Rattle.rtp.specs.declared.refusal.Refusal.the-variants.{SettingsOutOfRange,
 use Rattle.contents.specs.Contents.{Contents, refused, groups}
 use Rattle.payload.specs.Rows.{Row}
 use Rattle.encoder.specs.declared.writing.Written.{Written}
-use Rattle.encoder.specs.Lists.{rowsIn, whole, outside}
-use Rattle.encoder.specs.Plans.{payloadSize, plan}
+use Rattle.plans.specs.Lists.{rowsIn, whole, outside}
+use Rattle.plans.specs.Plans.{payloadSize, plan}
 use Rattle.encoder.specs.Bytes.{requestBytes, tableBytes, frames}
 
 -- bytes to be written, or why there are none

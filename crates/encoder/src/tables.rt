@@ -1,22 +1,23 @@
 // Tables of contents and frames, written from left to right.
-use crate::lists;
-use crate::lists::RowWords;
-use crate::plans;
 use contents::entries;
 use formats::codes;
 use formats::facts;
 use formats::tagging;
+use plans::lists;
+use plans::lists::RowWords;
+use plans::planning;
 use rtp::sizes::ROW_WIDTH;
 ghost use mathlib.Core.Path.{_≡_};
 ghost use Prim.Native.Nat.{_≤_, _<_};
 ghost use lib.ListN.{length};
 ghost use Rattle.rtp.specs.Areas.{over};
 ghost use Rattle.formats.specs.Formats.{stepOf};
-ghost use Rattle.encoder.specs.Lists.{rowsIn};
+ghost use Rattle.plans.specs.Lists.{rowsIn};
 ghost use Rattle.formats.specs.Codes.{noCode, codeFor};
-ghost use Rattle.encoder.specs.Plans.{planFrom};
+ghost use Rattle.plans.specs.Plans.{planFrom};
 ghost use Rattle.encoder.specs.Bytes.{flag, halves, firstByte, startBytes, entryBytes, frames};
-ghost use Rattle.encoder.specs.Room.{rowAs, FramesRoom, joined, RunRoom, timed, blockGaps, runGroup, GapRoom, StartRoom, EntryRoom, TableRoom, planBytes};
+ghost use Rattle.plans.specs.Room.{rowAs};
+ghost use Rattle.encoder.specs.Room.{FramesRoom, joined, RunRoom, timed, blockGaps, runGroup, GapRoom, StartRoom, EntryRoom, TableRoom, planBytes};
 
 // The bytes of src over the front of the area.
 fn copy_bytes(out: &mut [u8], src: &[u8])
@@ -38,9 +39,9 @@ pub(crate) fn put_frames(rows: &[u32], bytes: &[u8], out: &mut [u8])
     if rows.len() < ROW_WIDTH {
         return;
     }
-    let row = lists::row_at(rows, 0);
-    let start = lists::wide(row.start);
-    let length = lists::wide(row.length);
+    let row = lists::first_row(rows);
+    let start = row.start as usize;
+    let length = row.length as usize;
     let end = start + length;
     copy_bytes(out, &bytes[start..end]);
     put_frames(&rows[ROW_WIDTH..], bytes, &mut out[length..]);
@@ -54,9 +55,9 @@ fn joined_blocks(format: u8, channels: usize, row: RowWords, rows: &[u32]) -> us
     if rows.len() < ROW_WIDTH {
         return 0;
     }
-    let next = lists::row_at(rows, 0);
-    let gap = plans::gap_between(format, row.time, next.time);
-    if plans::joins_run(format, row, tagging::tag_class(next.tag), next.length, gap) {
+    let next = lists::first_row(rows);
+    let gap = planning::gap_between(format, row.time, next.time);
+    if planning::joins_run(format, row, tagging::tag_class(next.tag), next.length, gap) {
         let width = ROW_WIDTH * channels;
         return joined_blocks(format, channels, next, &rows[width..]) + 1;
     }
@@ -75,7 +76,7 @@ fn first_byte(format: u8, more: bool, class: u32, length: u32) -> u8
     requires { ⌜ codeFor format class length < noCode ⌝ }
     ensures { λ r. ⌜ r ≡ firstByte format more class length ⌝ }
 {
-    let code = lists::wide(codes::code_for(format, class, length));
+    let code = codes::code_for(format, class, length) as usize;
     let facts = facts::format_of(format);
     (flag_of(more) + facts.unit * code) as u8
 }
@@ -100,13 +101,13 @@ fn put_gaps(format: u8, width: usize, blocks: usize, previous: u32, rows: &[u32]
         return;
     }
     let first = rows[0];
-    let high = 16 * plans::gap_between(format, previous, first);
+    let high = 16 * planning::gap_between(format, previous, first);
     if blocks == 1 {
         out[0] = high as u8;
         return;
     }
     let second = rows[width];
-    out[0] = (high + plans::gap_between(format, first, second)) as u8;
+    out[0] = (high + planning::gap_between(format, first, second)) as u8;
     let two = 2 * width;
     put_gaps(
         format,
@@ -131,7 +132,7 @@ fn put_entry(
     requires { ⌜ EntryRoom format width blocks previous (now rows) (length (now out)) ⌝ }
     ensures { λ _. ⌜ now (out .exit) ≡ over (entryBytes format more (runGroup format width blocks previous (now (rows .entry)))) (now (out .entry)) ⌝ }
 {
-    let row = lists::row_at(rows, 0);
+    let row = lists::first_row(rows);
     put_start(
         format,
         more,
@@ -155,7 +156,7 @@ pub(crate) fn put_table(format: u8, channels: usize, previous: u32, rows: &[u32]
         return;
     }
     let width = ROW_WIDTH * channels;
-    let first = lists::row_at(rows, 0);
+    let first = lists::first_row(rows);
     let blocks = joined_blocks(format, channels, first, &rows[width..]) + 1;
     let end = width * blocks;
     let more = ROW_WIDTH <= rows.len() - end;

@@ -1,23 +1,23 @@
 // A payload written alone.
-use crate::lists;
-use crate::plans;
-use crate::plans::Planned;
 use crate::tables;
 use formats::facts;
 use formats::frames;
+use plans::lists;
+use plans::planning;
+use plans::planning::ListPlan;
 use rtp::refusal::Refusal;
 use rtp::settings;
 use rtp::settings::Settings;
 use rtp::sizes::ROW_WIDTH;
 use rtp::time;
 ghost use mathlib.Core.Path.{_≡_};
-ghost use Prim.Native.Nat.{_-_, _≤_};
+ghost use Prim.Native.Nat.{_≤_};
 ghost use mathlib.Core.List.{_++_};
 ghost use lib.ListN.{length};
 ghost use Rattle.rtp.specs.Areas.{over};
 ghost use Rattle.formats.specs.Formats.{formatOf};
-ghost use Rattle.encoder.specs.Lists.{rowsIn};
-ghost use Rattle.encoder.specs.Plans.{plan};
+ghost use Rattle.plans.specs.Lists.{rowsIn};
+ghost use Rattle.plans.specs.Plans.{plan};
 ghost use Rattle.encoder.specs.Writings.{maxRequest, askable, plannedBytes, writing, writtenNumbers, encodedNumbers, encodedBytes, measured};
 ghost use Rattle.encoder.specs.Bytes.{requestBytes, frames};
 ghost use Rattle.encoder.specs.Room.{planBytes, ListRoom, PayloadRoom};
@@ -37,14 +37,9 @@ pub fn measure_payload(asked: Settings, rows: &[u32]) -> Written
 {
     if settings::in_range(asked) {
         if rows.len() % ROW_WIDTH == 0 {
-            match plans::plan_list(asked.format, asked.channels, rows) {
-                Planned::Table(plan) => Written::Bytes(plans::payload_size(
-                    asked.format,
-                    plan.table,
-                    plan.frames,
-                )),
-                Planned::Empty => Written::Refused(Refusal::Unwritable),
-                Planned::Unwritable => Written::Refused(Refusal::Unwritable),
+            match planning::plan_list(asked.format, asked.channels, rows) {
+                ListPlan::Fits(sizes) => Written::Bytes(sizes.payload),
+                ListPlan::Unwritable => Written::Refused(Refusal::Unwritable),
             }
         } else {
             Written::Refused(Refusal::Unwritable)
@@ -126,11 +121,10 @@ pub fn write_payload(
             return Written::Refused(Refusal::RowOutsideBytes);
         }
         if rows.len() % ROW_WIDTH == 0 {
-            match plans::plan_list(asked.format, asked.channels, rows) {
-                Planned::Empty => Written::Refused(Refusal::Unwritable),
-                Planned::Unwritable => Written::Refused(Refusal::Unwritable),
-                Planned::Table(plan) => {
-                    let size = plans::payload_size(asked.format, plan.table, plan.frames);
+            match planning::plan_list(asked.format, asked.channels, rows) {
+                ListPlan::Unwritable => Written::Refused(Refusal::Unwritable),
+                ListPlan::Fits(sizes) => {
+                    let size = sizes.payload;
                     if out.len() < size {
                         return Written::Refused(Refusal::AreaTooShort);
                     }
@@ -138,7 +132,7 @@ pub fn write_payload(
                         asked.format,
                         mode_request,
                         asked.channels as usize,
-                        plan.table,
+                        sizes.table,
                         rows,
                         bytes,
                         out,

@@ -4,13 +4,13 @@ use mathlib.Core.Bool.{Bool, true, false, cond}
 use Prim.Native.Nat.{ℕ, zero, suc, _+_, _/_, _%_, _^_, _≤_, _<_}
 use native.Mathlib.Omega.{arith}
 use lib.Dec.{T, eqb, ltb, leb, eqb→eq}
-use borrow.Author.Tests.{ne-eqb, lt-leb, le-ltb, ltb-true, ltb-false, leb-true, leb-false}
+use borrow.Author.Tests.{ne-eqb, le-leb, lt-leb, le-ltb, ltb-true, ltb-false, leb-true, leb-false}
 use Rattle.rtp.proofs.TestLaws.{by-test}
 use Rattle.formats.specs.declared.facts.Format.{Format}
 use Rattle.formats.specs.declared.facts.FrameTable.{FrameTable}
 use Rattle.formats.specs.Formats.{noCode, amrFormat, amrWbFormat, formatOf}
 use Rattle.formats.specs.Frames.{noData, noDataType, sound, sid, damagedSound, damagedSid, maxClass, amrLength, amrWbLength, lengthIn, goodClass, frameIn}
-use Rattle.formats.specs.Codes.{codeBelow, highestCode, codeFor, NoDataCodes, amrLongest, amrWbLongest, noType, typeBelow, typeFor, gradedCode, lengthBits, hasLength}
+use Rattle.formats.specs.Codes.{codeBelow, highestCode, codeFor, NoDataCodes, amrLongest, amrWbLongest, noType, typeBelow, typeFor, gradedCode, sidBits, lengthBits, hasLength, soundBits, tableCode}
 use Rattle.formats.proofs.TableRule.{allBelow, at}
 use Rattle.formats.proofs.FormatLaws.{keeps}
 use Rattle.formats.proofs.CodeLaws.{none}
@@ -69,14 +69,6 @@ module _ (class n : ℕ) where
 
 -- Whether there is a code
 
--- the lengths of the types below k as the bits of a word, and those of sound: the types below the SID's
-abbrev lengthsBelow : FrameTable → ℕ → ℕ
-lengthsBelow t zero = 0
-lengthsBelow t (suc k) = 2 ^ lengthIn t k + lengthsBelow t k
-
-abbrev pub soundBits : Format → ℕ
-soundBits f = lengthsBelow (f .table) (f .sid)
-
 -- no length has the bit of a word without any
 zero-bit : (n : ℕ) → n < 64 → 0 / 2 ^ n % 2 ≡ 0
 zero-bit n h = eqb→eq _ _ (at (λ (k : ℕ). eqb (0 / 2 ^ k % 2) 0) 64 tt n h)
@@ -125,14 +117,44 @@ module _ (f : Format) (sounds : ℕ) (k : T (keeps f (ruled 63))) (few : f .code
       (λ b. let l = ltb-false n 64 b in
       lacks (rw b) (by-test (leb class maxClass) (λ a. rw (a, lt-leb n 63 (omega arith))) (λ a. rw a)))
 
-module _ (class n : ℕ) where
-  pub amr-has : hasLength (soundBits amrFormat) class n ≡ ltb (highestCode amrFormat class n) noCode
-  unfolding told same hasLength lengthBits codeBelow frameIn lengthIn amrLength
-  amr-has = has-told amrFormat (soundBits amrFormat) tt (omega arith) class n tt
+-- .. which the tables of AMR and AMR-WB have
+pub sounds-has : (t : FrameTable) (class n : ℕ) → 0 < soundBits t → hasLength (soundBits t) class n ≡ ltb (tableCode t class n) noCode
+unfolding soundBits told same hasLength lengthBits codeBelow frameIn lengthIn amrLength amrWbLength
+sounds-has FrameTable.G719 class n h = absurd (omega (arith, h))
+sounds-has FrameTable.GsmHr class n h = absurd (omega (arith, h))
+sounds-has FrameTable.Amr class n h = has-told amrFormat (soundBits FrameTable.Amr) tt (omega arith) class n tt
+sounds-has FrameTable.AmrWb class n h = has-told amrWbFormat (soundBits FrameTable.AmrWb) tt (omega arith) class n tt
+sounds-has FrameTable.Empty class n h = absurd (omega (arith, h))
 
-  pub amr-wb-has : hasLength (soundBits amrWbFormat) class n ≡ ltb (highestCode amrWbFormat class n) noCode
-  unfolding told same hasLength lengthBits codeBelow frameIn lengthIn amrWbLength
-  amr-wb-has = has-told amrWbFormat (soundBits amrWbFormat) tt (omega arith) class n tt
+pub amr-sounds : 0 < soundBits FrameTable.Amr
+unfolding soundBits lengthIn amrLength
+amr-sounds = omega arith
+
+pub amr-wb-sounds : 0 < soundBits FrameTable.AmrWb
+unfolding soundBits lengthIn amrWbLength
+amr-wb-sounds = omega arith
+
+-- The words by class, as the code asks for them: a damaged frame's class is that of a good one and four
+unfoldable pub byFour : ℕ → ℕ → ℕ
+byFour sounds class =
+    cond (eqb class noData) 1
+    (cond (leb 8 class) 0
+    (cond (eqb (class % 4) sound) sounds
+    (cond (eqb (class % 4) sid) sidBits 0)))
+
+pub by-four : (sounds class : ℕ) → byFour sounds class ≡ lengthBits sounds class
+unfolding byFour lengthBits
+by-four sounds zero = refl
+by-four sounds (suc zero) = refl
+by-four sounds (suc (suc zero)) = refl
+by-four sounds (suc (suc (suc zero))) = refl
+by-four sounds (suc (suc (suc (suc zero)))) = refl
+by-four sounds (suc (suc (suc (suc (suc zero))))) = refl
+by-four sounds (suc (suc (suc (suc (suc (suc zero)))))) = refl
+by-four sounds (suc (suc (suc (suc (suc (suc (suc zero))))))) = refl
+by-four sounds (suc (suc (suc (suc (suc (suc (suc (suc k)))))))) =
+    let c : ℕ = suc (suc (suc (suc (suc (suc (suc (suc k))))))) in
+    let e : byFour sounds c ≡ 0 = rw (ne-eqb c noData (λ e. absurd (omega arith)), le-leb 8 c (omega arith)) in e ∙ sym (no-bits sounds c (omega arith))
 
 pub no-data-codes : NoDataCodes
 unfolding codeFor formatOf codeBelow frameIn lengthIn amrLength amrWbLength

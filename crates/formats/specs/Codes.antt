@@ -85,3 +85,15 @@ lengthBits sounds class =
 
 unfoldable pub hasLength : ℕ → ℕ → ℕ → Bool
 hasLength sounds class n = cond (ltb n 64) (eqb (lengthBits sounds class / 2 ^ n % 2) 1) false
+
+-- the lengths of the types below k as such a word; of a table's sound they are those of the types below the SID's, where there are such types
+abbrev pub lengthsBelow : FrameTable → ℕ → ℕ
+lengthsBelow t zero = 0
+lengthsBelow t (suc k) = 2 ^ lengthIn t k + lengthsBelow t k
+
+unfoldable pub soundBits : FrameTable → ℕ
+soundBits FrameTable.G719 = 0
+soundBits FrameTable.GsmHr = 0
+soundBits FrameTable.Amr = lengthsBelow FrameTable.Amr (amrFormat .sid)
+soundBits FrameTable.AmrWb = lengthsBelow FrameTable.AmrWb (amrWbFormat .sid)
+soundBits FrameTable.Empty = 0

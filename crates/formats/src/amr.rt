@@ -1,5 +1,6 @@
 // Frame tables of AMR and AMR-WB (RFC 4867), by frame type and by length.
 use crate::codes::NO_CODE;
+use crate::facts::FrameTable;
 use crate::frames::DAMAGED;
 ghost use mathlib.Core.Path.{_≡_};
 ghost use Prim.Native.Nat.{_<_, _≤_};
@@ -7,7 +8,7 @@ ghost use Rattle.formats.specs.declared.facts.FrameTable.{FrameTable};
 ghost use Rattle.formats.specs.Formats.{amrFormat, amrWbFormat};
 ghost use Rattle.formats.specs.Frames.{goodClass, amrLength, amrWbLength};
 ghost use lib.Dec.{ltb};
-ghost use Rattle.formats.specs.Codes.{noCode, amrLongest, amrWbLongest, typeFor, gradedCode, highestCode, lengthBits, hasLength};
+ghost use Rattle.formats.specs.Codes.{noCode, amrLongest, amrWbLongest, typeFor, gradedCode, highestCode, lengthBits, hasLength, soundBits};
 
 // The types that are SIDs.
 pub(crate) const AMR_SID: usize = 8;
@@ -262,22 +263,19 @@ fn length_bits(sounds: u64, class: u32) -> u64
     if class == 0 {
         return NO_DATA_BITS;
     }
-    if class == 1 {
+    if 8 <= class {
+        return 0;
+    }
+    if class % 4 == 1 {
         return sounds;
     }
-    if class == 5 {
-        return sounds;
-    }
-    if class == 2 {
-        return SID_BITS;
-    }
-    if class == 6 {
+    if class % 4 == 2 {
         return SID_BITS;
     }
     0
 }
 
-fn has_length(sounds: u64, class: u32, n: u32) -> bool
+pub(crate) fn has_length(sounds: u64, class: u32, n: u32) -> bool
     ensures { λ r. ⌜ r ≡ hasLength sounds class n ⌝ }
 {
     if n < 64 {
@@ -287,15 +285,15 @@ fn has_length(sounds: u64, class: u32, n: u32) -> bool
     false
 }
 
-// Whether a class and a length have a code.
-pub(crate) fn has_amr(class: u32, n: u32) -> bool
-    ensures { λ r. ⌜ r ≡ ltb (highestCode amrFormat class n) noCode ⌝ }
+// The word of sound of a table, 0 where it is not that of AMR or AMR-WB.
+pub(crate) fn sounds_of(table: FrameTable) -> u64
+    ensures { λ r. ⌜ r ≡ soundBits table ⌝ }
 {
-    has_length(AMR_SOUND, class, n)
-}
-
-pub(crate) fn has_amr_wb(class: u32, n: u32) -> bool
-    ensures { λ r. ⌜ r ≡ ltb (highestCode amrWbFormat class n) noCode ⌝ }
-{
-    has_length(AMR_WB_SOUND, class, n)
+    match table {
+        FrameTable::Amr => AMR_SOUND,
+        FrameTable::AmrWb => AMR_WB_SOUND,
+        FrameTable::G719 => 0,
+        FrameTable::GsmHr => 0,
+        FrameTable::Empty => 0,
+    }
 }

@@ -4,6 +4,7 @@ use mathlib.Core.List.{List}
 use Prim.Native.Nat.{ℕ}
 use Rattle.rtp.specs.Refusals.{number}
 use Rattle.rtp.specs.declared.refusal.Refusal.{Refusal}
+use Rattle.rtp.specs.declared.refusal.Fault.{Fault}
 use Rattle.packet.specs.declared.reading.Reading.{Reading}
 use Rattle.packet.specs.declared.reading.Packet.{Packet}
 use Rattle.packet.specs.Readings.{readingNumbers}
@@ -11,21 +12,22 @@ use Rattle.encoder.specs.declared.writing.Written.{Written}
 use Rattle.encoder.specs.Writings.{writtenNumbers}
 use Rattle.layout.specs.declared.buffer.Buffer.{Buffer}
 use Rattle.reorder.specs.declared.tally.Tally.{Tally}
-use Rattle.reorder.specs.declared.calls.DrawnFrame.{DrawnFrame}
+use Rattle.drawing.specs.declared.draws.DrawnFrame.{DrawnFrame}
 use Rattle.reorder.specs.declared.calls.NewAnswer.{NewAnswer}
 use Rattle.reorder.specs.declared.calls.OfferAnswer.{OfferAnswer}
-use Rattle.reorder.specs.declared.calls.DrawAnswer.{DrawAnswer}
-use Rattle.reorder.specs.Calls.{NewOutcome, newNumber, OfferNumbers, OfferOutcome, offerNumbers, DrawNumbers, DrawOutcome, drawNumbers}
+use Rattle.drawing.specs.declared.draws.DrawAnswer.{DrawAnswer}
+use Rattle.reorder.specs.Calls.{NewOutcome, newNumber, OfferNumbers, OfferOutcome, offerNumbers}
+use Rattle.drawing.specs.Calls.{DrawNumbers, DrawOutcome, drawNumbers}
 use Rattle.heolstorpit.specs.Answers.{readingAnswer, writtenAnswer}
 
 -- Reading
 
-pub refused-numbers : (x : Reading) (r : Refusal) (n : ℕ) → x ≡ Reading.Refused r → n ≡ number r
-    → readingAnswer (record { refusal = n; rows = 0; marker = 0; sequence = 0; timestamp = 0; source = 0; «mode_request» = 0 }) ≡ readingNumbers x
-refused-numbers x r n h k = rw (h, k)
+pub refused-numbers : (x : Reading) (f : Fault) (n : ℕ) → x ≡ Reading.Refused f → n ≡ number (f .refusal)
+    → readingAnswer (record { refusal = n; offset = f .offset; rows = 0; marker = 0; sequence = 0; timestamp = 0; source = 0; «mode_request» = 0 }) ≡ readingNumbers x
+refused-numbers x f n h k = rw (h, k)
 
 pub read-numbers : (x : Reading) (p : Packet) → x ≡ Reading.Read p
-    → readingAnswer (record { refusal = 0; rows = p .rows; marker = p .marker; sequence = p .sequence; timestamp = p .timestamp; source = p .source; «mode_request» = p .«mode_request» }) ≡ readingNumbers x
+    → readingAnswer (record { refusal = 0; offset = 0; rows = p .rows; marker = p .marker; sequence = p .sequence; timestamp = p .timestamp; source = p .source; «mode_request» = p .«mode_request» }) ≡ readingNumbers x
 read-numbers x p h = rw h
 
 -- Writing
@@ -53,12 +55,12 @@ Offers n b rows store o = record { answer = n; buffer = b; rows = rows; store = 
 pub offers-same : (n k : OfferNumbers) (b : Buffer) (rows store : List ℕ) (o : OfferOutcome) → k ≡ n → Offers n b rows store o → Offers k b rows store o
 offers-same n k b rows store o h e = ap (λ (m : OfferNumbers). record { answer = m; buffer = b; rows = rows; store = store }) h ∙ e
 
-pub offer-refused : (x : OfferAnswer) (r : Refusal) (n : ℕ) → x ≡ OfferAnswer.Refused r → n ≡ number r
-    → _≡_ {A = OfferNumbers} (record { refusal = n; late = 0; far = 0; repeated = 0; better = 0; noRoom = 0; inserted = 0 }) (offerNumbers x)
-offer-refused x r n h k = rw (h, k)
+pub offer-refused : (x : OfferAnswer) (f : Fault) (n : ℕ) → x ≡ OfferAnswer.Refused f → n ≡ number (f .refusal)
+    → _≡_ {A = OfferNumbers} (record { refusal = n; offset = f .offset; late = 0; far = 0; repeated = 0; better = 0; noRoom = 0; inserted = 0 }) (offerNumbers x)
+offer-refused x f n h k = rw (h, k)
 
 pub offer-judged : (x : OfferAnswer) (t : Tally) → x ≡ OfferAnswer.Judged t
-    → _≡_ {A = OfferNumbers} (record { refusal = 0; late = t .late; far = t .far; repeated = t .repeated; better = t .better; noRoom = t .«no_room»; inserted = t .inserted }) (offerNumbers x)
+    → _≡_ {A = OfferNumbers} (record { refusal = 0; offset = 0; late = t .late; far = t .far; repeated = t .repeated; better = t .better; noRoom = t .«no_room»; inserted = t .inserted }) (offerNumbers x)
 offer-judged x t h = rw h
 
 -- a draw's answer and what it leaves

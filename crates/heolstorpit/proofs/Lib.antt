@@ -1,3 +1,4 @@
 pub mod AnswerLaws
 pub mod SizeLaws
+pub mod PlaceLaws
 pub mod ReceptionAnswerLaws

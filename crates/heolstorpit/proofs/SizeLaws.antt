@@ -11,8 +11,8 @@ use Rattle.rtp.specs.Sizes.{maxPacket}
 use Rattle.rtp.specs.declared.settings.Settings.{Settings}
 use Rattle.rtp.proofs.TestLaws.{by-test}
 use Rattle.contents.specs.Contents.{Contents, refused, groups}
-use Rattle.encoder.specs.Lists.{rowsIn, whole, outside}
-use Rattle.encoder.specs.Plans.{maxPayload, plan}
+use Rattle.plans.specs.Lists.{rowsIn, whole, outside}
+use Rattle.plans.specs.Plans.{maxPayload, plan}
 use Rattle.encoder.specs.declared.writing.Written.{Written}
 use Rattle.encoder.specs.Writings.{Encoded, noBytes, bytesOf, askable, plannedBytes, encoded, roomFor, writing, writtenNumbers, encodedNumbers}
 use Rattle.encoder.proofs.PayloadLaws.{listed, length-bytes}

@@ -1,7 +1,8 @@
 -- What C is answered, in the numbers that the library's definitions give: field by field.
 use Rattle.packet.specs.Readings.{Numbers}
 use Rattle.encoder.specs.Writings.{Numbers as WrittenNumbers}
-use Rattle.reorder.specs.Calls.{NewOutcome, OfferNumbers, DrawNumbers}
+use Rattle.reorder.specs.Calls.{NewOutcome, OfferNumbers}
+use Rattle.drawing.specs.Calls.{DrawNumbers}
 use Rattle.heolstorpit.specs.declared.reading.HspReading.{HspReading}
 use Rattle.heolstorpit.specs.declared.writing.HspWritten.{HspWritten}
 use Rattle.heolstorpit.specs.declared.buffers.HspFresh.{HspFresh}
@@ -13,7 +14,7 @@ use Rattle.heolstorpit.specs.declared.buffers.HspDrawn.{HspDrawn}
 -- hsp_reading
 abbrev pub readingAnswer : HspReading → Numbers
 readingAnswer r =
-    record { refusal = r .refusal; rows = r .rows; marker = r .marker; sequence = r .sequence; timestamp = r .timestamp; source = r .source; «mode_request» = r .«mode_request» }
+    record { refusal = r .refusal; offset = r .offset; rows = r .rows; marker = r .marker; sequence = r .sequence; timestamp = r .timestamp; source = r .source; «mode_request» = r .«mode_request» }
 
 -- hsp_written
 abbrev pub writtenAnswer : HspWritten → WrittenNumbers
@@ -27,6 +28,7 @@ freshAnswer r = record { refusal = r .refusal; buffer = r .buffer }
 abbrev pub offerFields : OfferFields → OfferNumbers
 offerFields r = record {
   refusal = r .refusal;
+  offset = r .offset;
   late = r .late;
   far = r .far;
   repeated = r .repeated;
@@ -38,6 +40,7 @@ offerFields r = record {
 abbrev pub offeredAnswer : HspOffered → OfferNumbers
 offeredAnswer r = record {
   refusal = r .refusal;
+  offset = r .offset;
   late = r .late;
   far = r .far;
   repeated = r .repeated;

@@ -1,13 +1,17 @@
 // hsp_new, hsp_offer and hsp_draw: the calls on a reorder buffer.
+use drawing::draws;
+use drawing::draws::DrawAnswer;
 use layout::buffer::Buffer;
 use reorder::calls;
-use reorder::calls::DrawAnswer;
 use reorder::calls::NewAnswer;
 use reorder::calls::OfferAnswer;
 use rtp::refusal;
 use rtp::settings::Settings;
 ghost use mathlib.Core.Path.{_≡_};
-ghost use Rattle.reorder.specs.Calls.{newCall, offerNumbers, offerCall, drawNumbers, drawCall};
+ghost use Prim.Native.Nat.{_≤_};
+ghost use Rattle.rtp.specs.Sizes.{maxPacket};
+ghost use Rattle.reorder.specs.Calls.{newCall, offerNumbers, offerCall};
+ghost use Rattle.drawing.specs.Calls.{drawNumbers, drawCall};
 ghost use Rattle.heolstorpit.specs.Answers.{freshAnswer, offerFields, offeredAnswer, drawFields, drawnAnswer};
 
 // hsp_fresh: the refusal number or 0.
@@ -17,10 +21,12 @@ pub struct HspFresh {
     pub buffer: Buffer,
 }
 
-// hsp_offered: the refusal number or 0; then how often each verdict was given, zeros on refusal.
+// hsp_offered: the refusal number or 0; for 6 to 10 the place of the fault as an offset in the packet, else 0; then how often each verdict was given, zeros
+// on refusal.
 #[repr(C)]
 pub struct HspOffered {
     pub refusal: u32,
+    pub offset: u32,
     pub late: u32,
     pub far: u32,
     pub repeated: u32,
@@ -61,6 +67,7 @@ pub extern "C" fn hsp_new(settings: Settings) -> HspFresh
 // hsp_offered but for the buffer.
 pub struct OfferFields {
     pub refusal: u32,
+    pub offset: u32,
     pub late: u32,
     pub far: u32,
     pub repeated: u32,
@@ -70,11 +77,13 @@ pub struct OfferFields {
 }
 
 fn offer_fields(answer: OfferAnswer) -> OfferFields
+    requires { ⌜ offerNumbers answer .offset ≤ maxPacket ⌝ }
     ensures { λ r. ⌜ offerFields r ≡ offerNumbers answer ⌝ }
 {
     match answer {
         OfferAnswer::Judged(tally) => OfferFields {
             refusal: 0,
+            offset: 0,
             late: tally.late,
             far: tally.far,
             repeated: tally.repeated,
@@ -82,15 +91,19 @@ fn offer_fields(answer: OfferAnswer) -> OfferFields
             no_room: tally.no_room,
             inserted: tally.inserted,
         },
-        OfferAnswer::Refused(reason) => OfferFields {
-            refusal: refusal::refusal_number(reason),
-            late: 0,
-            far: 0,
-            repeated: 0,
-            better: 0,
-            no_room: 0,
-            inserted: 0,
-        },
+        OfferAnswer::Refused(fault) => {
+            let reason = fault.refusal;
+            OfferFields {
+                refusal: refusal::refusal_number(reason),
+                offset: fault.offset as u32,
+                late: 0,
+                far: 0,
+                repeated: 0,
+                better: 0,
+                no_room: 0,
+                inserted: 0,
+            }
+        }
     }
 }
 
@@ -110,6 +123,7 @@ pub extern "C" fn hsp_offer(
     let fields = offer_fields(answer);
     HspOffered {
         refusal: fields.refusal,
+        offset: fields.offset,
         late: fields.late,
         far: fields.far,
         repeated: fields.repeated,
@@ -166,7 +180,7 @@ pub extern "C" fn hsp_draw(buffer: Buffer, store: &[u8], area: &mut [u8]) -> Hsp
     ensures { λ r. ⌜ record { answer = drawnAnswer r; buffer = r .buffer; area = now (area .exit) } ≡
         drawCall buffer (now (store .entry)) (now (area .entry)) ⌝ }
 {
-    let drawn = calls::draw(buffer, store, area);
+    let drawn = draws::draw(buffer, store, area);
     let left = drawn.buffer;
     let answer = drawn.answer;
     let fields = draw_fields(answer);

@@ -9,10 +9,12 @@ ghost use Rattle.rtp.specs.Areas.{over};
 ghost use Rattle.packet.specs.Readings.{reading, outcomeNumbers, outcomeWords};
 ghost use Rattle.heolstorpit.specs.Answers.{readingAnswer};
 
-// hsp_reading: the refusal number or 0; then the row count, the header's fields and the mode request, all 0 on refusal.
+// hsp_reading: the refusal number or 0; for 6 to 10 the place of the fault as an offset in the packet, else 0; then the row count, the header's fields and
+// the mode request, all 0 on refusal.
 #[repr(C)]
 pub struct HspReading {
     pub refusal: u32,
+    pub offset: u32,
     pub rows: u32,
     pub marker: u32,
     pub sequence: u32,
@@ -27,17 +29,22 @@ pub extern "C" fn hsp_read(settings: Settings, packet: &[u8], rows: &mut [u32]) 
         × (now (rows .exit) ≡ over (outcomeWords (reading settings (length (now (rows .entry))) (now (packet .entry)))) (now (rows .entry))) ⌝ }
 {
     match reading::read(settings, packet, rows) {
-        Reading::Refused(reason) => HspReading {
-            refusal: refusal::refusal_number(reason),
-            rows: 0,
-            marker: 0,
-            sequence: 0,
-            timestamp: 0,
-            source: 0,
-            mode_request: 0,
-        },
+        Reading::Refused(fault) => {
+            let reason = fault.refusal;
+            HspReading {
+                refusal: refusal::refusal_number(reason),
+                offset: fault.offset as u32,
+                rows: 0,
+                marker: 0,
+                sequence: 0,
+                timestamp: 0,
+                source: 0,
+                mode_request: 0,
+            }
+        }
         Reading::Read(found) => HspReading {
             refusal: 0,
+            offset: 0,
             rows: found.rows,
             marker: found.marker as u32,
             sequence: found.sequence as u32,

@@ -1,10 +1,11 @@
 // Document 02, P1: packets of AMR and AMR-WB, whole, with frames that can be read. A fixed header, the mode byte, the entries and the
 // frames: AMR's type 0 has 12 bytes, type 1 has 13, AMR-WB's type 0 has 17 and each SID has 5.
 use crate::example;
+use drawing::draws;
+use drawing::draws::DrawAnswer;
+use drawing::draws::DrawnFrame;
 use layout::buffer::Buffer;
 use reorder::calls;
-use reorder::calls::DrawAnswer;
-use reorder::calls::DrawnFrame;
 use rtp::refusal;
 use rtp::settings::AMR;
 use rtp::settings::AMR_WB;
@@ -23,7 +24,7 @@ fn print_frame(frame: DrawnFrame, area: &[u8]) {
 fn draw(buffer: Buffer, store: &[u8]) -> Buffer {
     let mut area = example::zero_frame();
     io::write_all(1, b"draw");
-    let drawn = calls::draw(buffer, store, &mut area);
+    let drawn = draws::draw(buffer, store, &mut area);
     let answer = drawn.answer;
     match answer {
         DrawAnswer::Refused(why) => example::print(b" refusal ", refusal::refusal_number(why)),

@@ -1,10 +1,11 @@
 // A receiver of one channel, and packets of interleaved mono for it, printed.
+use drawing::draws;
+use drawing::draws::DrawAnswer;
+use drawing::draws::DrawnFrame;
 use layout::buffer::Buffer;
 use layout::buffer::SLOT_SIZE;
 use layout::buffer::STORE_SIZE;
 use reorder::calls;
-use reorder::calls::DrawAnswer;
-use reorder::calls::DrawnFrame;
 use reorder::calls::OfferAnswer;
 use reorder::tally::Tally;
 use rtp::refusal;
@@ -123,7 +124,7 @@ fn print_frame(base: u32, frame: DrawnFrame, area: &[u8; SLOT_SIZE]) {
 
 fn draw_one(buffer: Buffer, store: &[u8], base: u32) -> Buffer {
     let mut area = zero_frame();
-    let drawn = calls::draw(buffer, store, &mut area);
+    let drawn = draws::draw(buffer, store, &mut area);
     let answer = drawn.answer;
     match answer {
         DrawAnswer::Refused(why) => print(b" refusal ", refusal::refusal_number(why)),

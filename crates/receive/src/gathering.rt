@@ -9,14 +9,15 @@ use crate::totals::Totals;
 use console::stream;
 use console::stream::AREA;
 use console::stream::Input;
+use drawing::draws;
+use drawing::draws::DrawAnswer;
+use drawing::draws::DrawnFrame;
 use formats::frames;
 use layout::buffer::Buffer;
 use layout::buffer::SLOT_SIZE;
 use layout::buffer::SLOTS;
 use layout::buffer::STORE_SIZE;
 use reorder::calls;
-use reorder::calls::DrawAnswer;
-use reorder::calls::DrawnFrame;
 use reorder::calls::NewAnswer;
 use rtp::settings::Settings;
 use rtp::sizes::MAX_ROWS;
@@ -100,7 +101,7 @@ fn print_drawn(state: State, buffer: Buffer, frame: DrawnFrame, bytes: &[u8; SLO
 // The earliest frame, drawn and printed. Drawing is never refused here, nor the buffer empty: it holds a frame, and the areas have their sizes.
 fn draw_one(state: State, store: &[u8]) -> State {
     let mut area = zero_frame();
-    let drawn = calls::draw(state.buffer, store, &mut area);
+    let drawn = draws::draw(state.buffer, store, &mut area);
     let answer = drawn.answer;
     match answer {
         DrawAnswer::Frame(frame) => print_drawn(state, drawn.buffer, frame, &area),

@@ -7,6 +7,7 @@ use crate::totals::Totals;
 use console::lines;
 use console::lines::LINE;
 use console::refusals;
+use drawing::draws::DrawnFrame;
 use formats::frames::DAMAGED_SID;
 use formats::frames::DAMAGED_SOUND;
 use formats::frames::SID;
@@ -18,7 +19,6 @@ use reception::calls::ReportAnswer;
 use reception::calls::ReportBlock;
 use reception::record::Reception;
 use reception::signed;
-use reorder::calls::DrawnFrame;
 
 // Progress is said after each so many packets.
 const PROGRESS: u64 = 100000;

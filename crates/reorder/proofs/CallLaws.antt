@@ -1,31 +1,31 @@
--- Laws of the calls, one for each way that a call goes.
-use mathlib.Core.Path.{_≡_}
+-- Laws of new and offer, one for each way that a call goes.
+use mathlib.Core.Path.{_≡_, refl}
 use mathlib.Core.List.{List}
 use mathlib.Core.Bool.{true, false}
 use Prim.Native.Nat.{ℕ, _≤_, _<_}
+use native.Mathlib.Omega.{arith}
 use lib.ListN.{length}
+use lib.Dec.{ltb}
 use borrow.Author.Tests.{lt-ltb, le-ltb}
-use Rattle.rtp.specs.Sizes.{rowArea}
+use Rattle.rtp.specs.Sizes.{rowArea, maxPacket}
 use Rattle.rtp.specs.Ranges.{inRange}
 use Rattle.rtp.specs.Refusals.{number}
+use Rattle.rtp.specs.Faults.{fault}
 use Rattle.rtp.specs.declared.settings.Settings.{Settings}
 use Rattle.rtp.specs.declared.refusal.Refusal.the-variants.{SettingsOutOfRange, MalformedBuffer, AreaTooShort}
-use Rattle.packet.specs.Readings.{Outcome, reading}
-use Rattle.playout.specs.Sizes.{slotSize, storeSize}
-use Rattle.playout.specs.Entries.{Entry}
+use Rattle.rtp.proofs.TestLaws.{by-test}
+use Rattle.packet.specs.Readings.{Outcome, refused, readAs, reading}
+use Rattle.packet.proofs.PlaceLaws.{place-small}
+use Rattle.playout.specs.Sizes.{storeSize}
 use Rattle.layout.specs.declared.buffer.Buffer.{Buffer}
 use Rattle.layout.specs.Layout.{decode, fresh}
 use Rattle.layout.specs.WellFormed.{wellFormed}
-use Rattle.reorder.specs.ModelCalls.{done, judgeRead, offerTo, earliest, drawFrom}
-use Rattle.reorder.specs.Calls.{noSettings, newCall, OfferOutcome, offerRefused, offerDone, offerCall, DrawOutcome, drawRefused, drawDone, drawCall}
+use Rattle.reorder.specs.ModelCalls.{judgeRead, offerTo}
+use Rattle.reorder.specs.Calls.{noSettings, newCall, OfferOutcome, offerRefused, offerDone, offerCall}
 
 -- an offer whose packet was read, or not
 abbrev pub offerRead : Buffer → List ℕ → List ℕ → List ℕ → Outcome → OfferOutcome
 offerRead b packet rows store o = offerDone b rows store (judgeRead (decode b) packet store o)
-
--- a draw that goes through the areas, with the entries held
-abbrev pub drawFirst : Buffer → List ℕ → List ℕ → List Entry → DrawOutcome
-drawFirst b store area es = drawDone b area (done (earliest store es))
 
 pub new-in : (st : Settings) → inRange st ≡ true → newCall st ≡ record { refusal = 0; buffer = fresh st }
 unfolding newCall
@@ -36,21 +36,21 @@ unfolding newCall
 new-out st h = rw h
 
 module _ (b : Buffer) (packet rows store : List ℕ) where
-  pub offer-out : inRange (b .settings) ≡ false → offerCall b packet rows store ≡ offerRefused SettingsOutOfRange b rows store
+  pub offer-out : inRange (b .settings) ≡ false → offerCall b packet rows store ≡ offerRefused (fault SettingsOutOfRange) b rows store
   unfolding offerCall
   offer-out h = rw h
 
   module _ (h : inRange (b .settings) ≡ true) where
-    pub offer-malformed : wellFormed b ≡ false → offerCall b packet rows store ≡ offerRefused MalformedBuffer b rows store
+    pub offer-malformed : wellFormed b ≡ false → offerCall b packet rows store ≡ offerRefused (fault MalformedBuffer) b rows store
     unfolding offerCall
     offer-malformed w = rw (h, w)
 
     module _ (w : wellFormed b ≡ true) where
-      pub offer-rows : length rows < rowArea → offerCall b packet rows store ≡ offerRefused AreaTooShort b rows store
+      pub offer-rows : length rows < rowArea → offerCall b packet rows store ≡ offerRefused (fault AreaTooShort) b rows store
       unfolding offerCall offerTo
       offer-rows a = rw (h, w, lt-ltb (length rows) rowArea a)
 
-      pub offer-store : rowArea ≤ length rows → length store < storeSize → offerCall b packet rows store ≡ offerRefused AreaTooShort b rows store
+      pub offer-store : rowArea ≤ length rows → length store < storeSize → offerCall b packet rows store ≡ offerRefused (fault AreaTooShort) b rows store
       unfolding offerCall offerTo
       offer-store a s = rw (h, w, le-ltb (length rows) rowArea a, lt-ltb (length store) storeSize s)
 
@@ -59,25 +59,18 @@ module _ (b : Buffer) (packet rows store : List ℕ) where
       unfolding offerCall offerTo
       offer-reads a s = rw (h, w, le-ltb (length rows) rowArea a, le-ltb (length store) storeSize s)
 
-module _ (b : Buffer) (store area : List ℕ) where
-  pub draw-out : inRange (b .settings) ≡ false → drawCall b store area ≡ drawRefused SettingsOutOfRange b area
-  unfolding drawCall
-  draw-out h = rw h
+  read-place : (o : Outcome) → reading (b .settings) (length rows) packet ≡ o → offerRead b packet rows store o .answer .offset ≤ maxPacket
+  read-place (refused f) e = place-small (b .settings) (length rows) packet f e
+  read-place (readAs h rs request) e = omega arith
 
-  module _ (h : inRange (b .settings) ≡ true) where
-    pub draw-malformed : wellFormed b ≡ false → drawCall b store area ≡ drawRefused MalformedBuffer b area
-    unfolding drawCall
-    draw-malformed w = rw (h, w)
-
-    module _ (w : wellFormed b ≡ true) where
-      pub draw-store : length store < storeSize → drawCall b store area ≡ drawRefused AreaTooShort b area
-      unfolding drawCall drawFrom
-      draw-store s = rw (h, w, lt-ltb (length store) storeSize s)
-
-      pub draw-area : storeSize ≤ length store → length area < slotSize → drawCall b store area ≡ drawRefused AreaTooShort b area
-      unfolding drawCall drawFrom
-      draw-area s a = rw (h, w, le-ltb (length store) storeSize s, lt-ltb (length area) slotSize a)
-
-      pub draw-goes : storeSize ≤ length store → slotSize ≤ length area → drawCall b store area ≡ drawFirst b store area (decode b .entries)
-      unfolding drawCall drawFrom
-      draw-goes s a = rw (h, w, le-ltb (length store) storeSize s, le-ltb (length area) slotSize a)
+  -- the place in an offer's answer fits in any number that a packet's length fits in
+  pub offer-place : offerCall b packet rows store .answer .offset ≤ maxPacket
+  unfolding offerCall offerTo
+  offer-place =
+      by-test (inRange (b .settings))
+      (λ r. by-test (wellFormed b)
+      (λ w. by-test (ltb (length rows) rowArea)
+      (λ a. rw (r, w, a) (omega arith))
+      (λ a. by-test (ltb (length store) storeSize) (λ s. rw (r, w, a, s) (omega arith)) (λ s. rw (r, w, a, s) (read-place (reading (b .settings) (length rows) packet) refl))))
+      (λ w. rw (r, w) (omega arith)))
+      (λ r. rw r (omega arith))

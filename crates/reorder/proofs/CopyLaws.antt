@@ -55,7 +55,7 @@ module _ (st : Settings) (few : st .channels ≤ 2) (packet : List ℕ) where
 -- the copies of a packet that is read
 pub read-fit : (st : Settings) → inRange st ≡ true → (area : ℕ) (packet : List ℕ) (o : Outcome) → reading st area packet ≡ o → Fits st (readCopies packet o)
 unfolding Fits
-read-fit st h area packet (refused r) q = tt
+read-fit st h area packet (refused f) q = tt
 read-fit st h area packet (readAs x rs request) q = copies-fit st (few-channels st h) packet rs (rows-fine st area packet x rs request q .0)
 
 pub fits-frames : (st : Settings) (cs : List Copy) → Fits st cs → Frames cs

@@ -1,4 +1,3 @@
-pub mod SearchLaws
 pub mod PlaceLaws
 pub mod CallLaws
 pub mod StateLaws
@@ -7,5 +6,4 @@ pub mod CopyLaws
 pub mod VerdictLaws
 pub mod PlaceSearchLaws
 pub mod RowStepLaws
-pub mod DrawLaws
 pub mod OfferLaws

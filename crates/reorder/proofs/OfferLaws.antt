@@ -10,7 +10,7 @@ use Rattle.rtp.specs.Sizes.{rowWidth, rowArea, maxRows}
 use Rattle.rtp.specs.Ranges.{inRange}
 use Rattle.rtp.specs.Refusals.{number}
 use Rattle.rtp.specs.Areas.{over}
-use Rattle.rtp.specs.declared.refusal.Refusal.{Refusal}
+use Rattle.rtp.specs.declared.refusal.Fault.{Fault}
 use Rattle.rtp.specs.declared.header.Header.{Header}
 use Rattle.rtp.proofs.RefusalLaws.{number-positive}
 use Rattle.rtp.proofs.RangeLaws.{few-channels}
@@ -32,22 +32,26 @@ use Rattle.layout.specs.WellFormed.{wellFormed}
 use Rattle.reorder.specs.Rows.{copiesOf}
 use Rattle.layout.specs.Arrays.{Machine}
 use Rattle.reorder.specs.Judging.{noTally, RowsJudgeable, RowsJudged, OfferJudged}
-use Rattle.reorder.specs.Calls.{countNumbers, offerNumbers, offerRefused, offerCall}
+use Rattle.reorder.specs.Calls.{OfferNumbers, countNumbers, offerNumbers, offerRefused, offerCall}
 use Rattle.reorder.proofs.CallLaws.{offerRead, offer-reads}
 use Rattle.reorder.proofs.CopyLaws.{rows-allowed}
 
 -- an outcome whose numbers are those of a refusal is that refusal
-pub refused-words : (o : Outcome) (r : Refusal) → refusedNumbers r ≡ outcomeNumbers o → outcomeWords o ≡ []
+pub refused-words : (o : Outcome) (f : Fault) → refusedNumbers f ≡ outcomeNumbers o → outcomeWords o ≡ []
 unfolding outcomeNumbers outcomeWords
-refused-words (refused q) r e = refl
-refused-words (readAs h rs request) r e = let z : number r ≡ 0 = ap (λ (n : Numbers). n .refusal) e in absurd (omega (arith, number-positive r))
+refused-words (refused q) f e = refl
+refused-words (readAs h rs request) f e = let z : number (f .refusal) ≡ 0 = ap (λ (n : Numbers). n .refusal) e in absurd (omega (arith, number-positive (f .refusal)))
 
-pub refused-offer : (b : Buffer) (packet rows store : List ℕ) (o : Outcome) (r : Refusal) → refusedNumbers r ≡ outcomeNumbers o
-    → offerRefused r b rows store ≡ offerRead b packet rows store o
+-- its numbers as those of an offer
+abbrev refusedAs : Numbers → OfferNumbers
+refusedAs n = record { refusal = n .refusal; offset = n .offset; late = 0; far = 0; repeated = 0; better = 0; noRoom = 0; inserted = 0 }
+
+pub refused-offer : (b : Buffer) (packet rows store : List ℕ) (o : Outcome) (f : Fault) → refusedNumbers f ≡ outcomeNumbers o
+    → offerRefused f b rows store ≡ offerRead b packet rows store o
 unfolding outcomeNumbers
-refused-offer b packet rows store (refused q) r e =
-    ap (λ (n : ℕ). record { answer = countNumbers n noCounts; buffer = b; rows = rows; store = store }) (ap (λ (n : Numbers). n .refusal) e)
-refused-offer b packet rows store (readAs h rs request) r e = let z : number r ≡ 0 = ap (λ (n : Numbers). n .refusal) e in absurd (omega (arith, number-positive r))
+refused-offer b packet rows store (refused q) f e = ap (λ (n : Numbers). record { answer = refusedAs n; buffer = b; rows = rows; store = store }) e
+refused-offer b packet rows store (readAs h rs request) f e =
+    let z : number (f .refusal) ≡ 0 = ap (λ (n : Numbers). n .refusal) e in absurd (omega (arith, number-positive (f .refusal)))
 
 -- an outcome whose numbers are those of rows is rows
 pub record IsRead (o : Outcome) (n : ℕ) : Type 0 where
@@ -59,7 +63,7 @@ pub record IsRead (o : Outcome) (n : ℕ) : Type 0 where
 
 pub is-read : (o : Outcome) (p : Packet) → readingNumbers (Reading.Read p) ≡ outcomeNumbers o → IsRead o (p .rows)
 unfolding outcomeNumbers
-is-read (refused q) p e = let z : 0 ≡ number q = ap (λ (n : Numbers). n .refusal) e in absurd (omega (arith, number-positive q))
+is-read (refused q) p e = let z : 0 ≡ number (q .refusal) = ap (λ (n : Numbers). n .refusal) e in absurd (omega (arith, number-positive (q .refusal)))
 is-read (readAs h rs request) p e = record { head = h; rows = rs; request = request; same = refl; count = ap (λ (n : Numbers). n .rows) e }
 
 -- the rows of an offer judged, from none judged
@@ -68,7 +72,7 @@ pub rows-offer : (at : List ℕ → Buffer) (occupied : List ℕ) (sum : Judged)
     → OfferJudged (at occupied) b' packet rs (OfferAnswer.Judged t) store store'
 rows-offer at occupied sum e b' packet rs t store store' k =
     let j = subst (λ (x : Judged). RowsJudged (at (x .occupied)) b' packet rs (x .tally) t store store') e k in
-    record { answer = ap (countNumbers 0) (j .counts); buffer = j .buffer; store-left = j .store-left }
+    record { answer = ap countNumbers (j .counts); buffer = j .buffer; store-left = j .store-left }
 
 channels-few : (format ch n : ℕ) (rs : List Row) → ch ≤ 2 → AllRows (RowFine format ch n) rs → (i : ℕ) → i < length rs → channelAt rs i < 256
 channels-few format ch n [] few f i l = absurd (omega arith)
@@ -118,8 +122,8 @@ module _ (b : Buffer) (packet rows store : List ℕ) (h : inRange (b .settings) 
   offer-gives a b' store' j =
       let g : judgeAll (decode b) store (copiesOf packet (rowsIn (take (rowWidth * p .rows) rows'))) ≡ judgeAll (decode b) store (copiesOf packet rs) =
       ap (λ (l : List Row). judgeAll (decode b) store (copiesOf packet l)) rows-back in
-      let c : offerNumbers a ≡ countNumbers 0 (tally noCounts (judgeAll (decode b) store (copiesOf packet rs) .judgements)) =
-      j .answer ∙ ap (λ (x : Gathered). countNumbers 0 (tally noCounts (x .judgements))) g in
+      let c : offerNumbers a ≡ countNumbers (tally noCounts (judgeAll (decode b) store (copiesOf packet rs) .judgements)) =
+      j .answer ∙ ap (λ (x : Gathered). countNumbers (tally noCounts (x .judgements))) g in
       let u : b' ≡ encode (b .settings) (judgeAll (decode b) store (copiesOf packet rs) .held) = j .buffer ∙ ap (λ (x : Gathered). encode (b .settings) (x .held)) g in
       let s : store' ≡ judgeAll (decode b) store (copiesOf packet rs) .store = j .store-left ∙ ap (λ (x : Gathered). x .store) g in
       let z : record { answer = offerNumbers a; buffer = b'; rows = rows'; store = store' } ≡ offerRead b packet rows store (readAs (is .head) rs (is .request)) =

@@ -16,9 +16,9 @@ use Rattle.playout.specs.declared.order.Side.{Side}
 use Rattle.playout.specs.Entries.{Entry, sideOfEntry, putAt, put, findAt, findBy, always}
 use Rattle.playout.specs.Verdicts.{allWithin, fits}
 use Rattle.playout.proofs.InsertionLaws.{Cmp, cmp}
-use Rattle.reorder.specs.declared.columns.Place.{Place}
+use Rattle.placing.specs.declared.columns.Place.{Place}
 use Rattle.layout.specs.Columns.{withinFrom, fitsFrom}
-use Rattle.reorder.specs.Places.{placeAt, placeFrom}
+use Rattle.placing.specs.Places.{placeAt, placeFrom}
 use Rattle.layout.specs.Layout.{entryTag, column}
 use Rattle.layout.proofs.ColumnLaws.{inserted}
 use Rattle.layout.proofs.LayoutLaws.{noEntry, Octets, column-at, column-first, at-member, tag-channel}

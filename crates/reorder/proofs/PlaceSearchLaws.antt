@@ -16,7 +16,7 @@ use Rattle.rtp.proofs.RangeLaws.{few-channels}
 use Rattle.layout.specs.declared.buffer.Buffer.{Buffer}
 use Rattle.reorder.specs.declared.laying.FrameHead.{FrameHead}
 use Rattle.layout.specs.Bits.{heldIn}
-use Rattle.reorder.specs.Places.{Parted}
+use Rattle.placing.specs.Places.{Parted}
 use Rattle.layout.specs.Layout.{entryAt, decode}
 use Rattle.reorder.specs.Laying.{channelIn, copyIn}
 use Rattle.reorder.specs.Judging.{Judgeable}

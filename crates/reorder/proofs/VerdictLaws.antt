@@ -18,11 +18,11 @@ use Rattle.playout.specs.Copies.{Copy, better}
 use Rattle.playout.specs.Entries.{Entry, view, entryOf, sideOfEntry, put, findBy, always, freeSlot, placed, stored}
 use Rattle.playout.specs.Verdicts.{Judged, isLate, fits, isFar, keeps, lays, judgeHeld, judge}
 use Rattle.layout.specs.declared.buffer.Buffer.{Buffer}
-use Rattle.reorder.specs.declared.columns.Place.{Place}
+use Rattle.placing.specs.declared.columns.Place.{Place}
 use Rattle.reorder.specs.declared.laying.FrameHead.{FrameHead}
 use Rattle.layout.specs.Bits.{heldIn, wordsOf, marked, lowestFree}
 use Rattle.layout.specs.Columns.{insertAt, fitsFrom}
-use Rattle.reorder.specs.Places.{placeFrom}
+use Rattle.placing.specs.Places.{placeFrom}
 use Rattle.layout.specs.Layout.{entryTag, column, flagOf, encode, entryAt, entriesFrom, decode}
 use Rattle.layout.specs.WellFormed.{wellFormed}
 use Rattle.layout.specs.Arrays.{Machine}

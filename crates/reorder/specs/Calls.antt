@@ -1,8 +1,7 @@
--- Document 01, "The take": the three calls, between a buffer and its model. Each definition is the whole meaning of a call, refusals included: answer, buffer and every lent area.
+-- Document 01, "The take": the calls new and offer, between a buffer and its model. Each definition is the whole meaning of a call, refusals included: answer, buffer and every lent area.
 use Prim.Native.Nat.{ℕ}
 use mathlib.Core.List.{List}
 use mathlib.Core.Bool.{cond}
-use mathlib.Core.Option.{Option, none, some}
 use lib.ListN.{length}
 use Rattle.rtp.specs.Ranges.{inRange}
 use Rattle.rtp.specs.Refusals.{number}
@@ -17,10 +16,9 @@ use Rattle.playout.specs.Verdicts.{Counts, noCounts, tally}
 use Rattle.layout.specs.declared.buffer.Buffer.{Buffer}
 use Rattle.reorder.specs.declared.calls.NewAnswer.{NewAnswer}
 use Rattle.reorder.specs.declared.calls.OfferAnswer.{OfferAnswer}
-use Rattle.reorder.specs.declared.calls.DrawAnswer.{DrawAnswer}
 use Rattle.layout.specs.Layout.{encode, model, fresh}
 use Rattle.layout.specs.WellFormed.{wellFormed}
-use Rattle.reorder.specs.ModelCalls.{Result, refused, done, Offered, offerTo, HandedOut, drawFrom}
+use Rattle.reorder.specs.ModelCalls.{Result, refused, done, Offered, offerTo}
 
 -- New
 
@@ -101,49 +99,3 @@ offerCall b packet rows store =
     (cond (wellFormed b) (offerDone b rows store (offerTo (model b) packet (length rows) store))
     (offerRefused (fault MalformedBuffer) b rows store))
     (offerRefused (fault SettingsOutOfRange) b rows store)
-
--- Draw
-
--- the answer in numbers: the refusal number or 0, 1 if the buffer is empty, and the frame's time, channel, class and length, or zeros
-pub record DrawNumbers : Type 0 where
-  pub refusal : ℕ
-  pub empty : ℕ
-  pub time : ℕ
-  pub channel : ℕ
-  pub class : ℕ
-  pub length : ℕ
-
-abbrev pub noFrame : ℕ → ℕ → DrawNumbers
-noFrame r empty = record { refusal = r; empty = empty; time = 0; channel = 0; class = 0; length = 0 }
-
--- of the code's answer, case by case
-abbrev pub drawNumbers : DrawAnswer → DrawNumbers
-drawNumbers (DrawAnswer.Refused r) = noFrame (number r) 0
-drawNumbers DrawAnswer.Empty = noFrame 0 1
-drawNumbers (DrawAnswer.Frame f) = record { refusal = 0; empty = 0; time = f .time; channel = f .channel; class = f .class; length = f .length }
-
-pub record DrawOutcome : Type 0 where
-  pub answer : DrawNumbers
-  pub buffer : Buffer
-  pub area : List ℕ
-
-abbrev pub drawRefused : Refusal → Buffer → List ℕ → DrawOutcome
-drawRefused r b area = record { answer = noFrame (number r) 0; buffer = b; area = area }
-
--- what a draw does to the model, as buffer and area; an empty buffer stays as it stood
-abbrev pub drawDone : Buffer → List ℕ → Result (Option HandedOut) → DrawOutcome
-drawDone b area (refused f) = drawRefused (f .refusal) b area
-drawDone b area (done none) = record { answer = noFrame 0 1; buffer = b; area = area }
-drawDone b area (done (some d)) = record {
-  answer = record { refusal = 0; empty = 0; time = d .entry .time; channel = d .entry .channel; class = d .entry .class; length = d .entry .length };
-  buffer = encode (b .settings) (d .held);
-  area = over (d .bytes) area;
-}
-
--- a draw into an area: 11, 15, then what it does to the model
-unfoldable pub drawCall : Buffer → List ℕ → List ℕ → DrawOutcome
-drawCall b store area =
-    cond (inRange (b .settings))
-    (cond (wellFormed b) (drawDone b area (drawFrom (model b) store (length area)))
-    (drawRefused MalformedBuffer b area))
-    (drawRefused SettingsOutOfRange b area)

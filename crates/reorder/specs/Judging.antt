@@ -9,7 +9,7 @@ use Rattle.rtp.specs.declared.settings.Settings.{Settings}
 use Rattle.formats.specs.Frames.{noData}
 use Rattle.payload.specs.Rows.{Row}
 use Rattle.playout.specs.declared.verdict.Verdict.{Verdict}
-use Rattle.playout.specs.Sizes.{slotSize, storeSize}
+use Rattle.playout.specs.Sizes.{storeSize}
 use Rattle.playout.specs.Copies.{Copy}
 use Rattle.playout.specs.Verdicts.{isLate, isFar, Counts, noCounts, judge, tally, judgeAll}
 use Rattle.layout.specs.declared.buffer.Buffer.{Buffer}
@@ -17,7 +17,6 @@ use Rattle.reorder.specs.declared.calls.OfferAnswer.{OfferAnswer}
 use Rattle.reorder.specs.declared.laying.FrameHead.{FrameHead}
 use Rattle.reorder.specs.declared.tally.Tally.{Tally}
 use Rattle.layout.specs.Arrays.{Machine}
-use Rattle.layout.specs.Bits.{heldIn}
 use Rattle.layout.specs.Layout.{encode, decode}
 use Rattle.layout.specs.Model.{allowed}
 use Rattle.layout.specs.WellFormed.{wellFormed}
@@ -88,14 +87,3 @@ pub record OfferJudged (b b' : Buffer) (packet : List ℕ) (rs : List Row) (a : 
   pub answer : offerNumbers a ≡ countNumbers (tally noCounts (judgeAll (decode b) store (copiesOf packet rs) .judgements))
   pub buffer : b' ≡ encode (b .settings) (judgeAll (decode b) store (copiesOf packet rs) .held)
   pub store-left : store' ≡ judgeAll (decode b) store (copiesOf packet rs) .store
-
--- Drawing
-
--- a well-formed buffer of n entries, at least one, with its store and an area for a frame
-pub record Drawable (b : Buffer) (n : ℕ) (store area : List ℕ) : Type 0 where
-  pub machine : Machine b
-  pub fine : wellFormed b ≡ true
-  pub held : n ≡ heldIn (b .occupied)
-  pub some : 1 ≤ n
-  pub room : storeSize ≤ length store
-  pub space : slotSize ≤ length area

@@ -1,4 +1,3 @@
-pub mod Places
 pub mod Rows
 pub mod ModelCalls
 pub mod Calls

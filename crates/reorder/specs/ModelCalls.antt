@@ -1,8 +1,7 @@
--- Document 01, "The take": what an offer and a draw do to a model and its store. Refusals 11 and 15 come before: they are about the record handed over.
+-- Document 01, "The take": what an offer does to a model and its store. Refusals 11 and 15 come before: they are about the record handed over.
 use Prim.Native.Nat.{ℕ}
-use mathlib.Core.List.{List, [], _∷_}
-use mathlib.Core.Bool.{true, cond}
-use mathlib.Core.Option.{Option, none, some}
+use mathlib.Core.List.{List}
+use mathlib.Core.Bool.{cond}
 use lib.ListN.{length}
 use lib.Dec.{ltb}
 use Rattle.rtp.specs.Sizes.{rowArea}
@@ -11,8 +10,8 @@ use Rattle.rtp.specs.declared.refusal.Fault.{Fault}
 use Rattle.rtp.specs.declared.refusal.Refusal.the-variants.{AreaTooShort}
 use Rattle.payload.specs.Rows.{Row}
 use Rattle.packet.specs.Readings.{Outcome, refused as unread, readAs, reading}
-use Rattle.playout.specs.Sizes.{slotSize, storeSize}
-use Rattle.playout.specs.Entries.{Entry, Held, frameOf}
+use Rattle.playout.specs.Sizes.{storeSize}
+use Rattle.playout.specs.Entries.{Held}
 use Rattle.playout.specs.Verdicts.{Gathered, judgeAll}
 use Rattle.layout.specs.Model.{Model}
 use Rattle.reorder.specs.Rows.{copiesOf}
@@ -40,27 +39,3 @@ offerTo m packet area store =
     cond (ltb area rowArea) (refused (fault AreaTooShort))
     (cond (ltb (length store) storeSize) (refused (fault AreaTooShort))
     (judgeRead (m .held) packet store (reading (m .settings) area packet)))
-
--- Draw
-
--- the entry handed out, its frame's bytes, and what is held after it
-pub record HandedOut : Type 0 where
-  pub entry : Entry
-  pub bytes : List ℕ
-  pub held : Held
-
--- the first entry, if any: its slot is free, and its pair is the last drawn
-abbrev pub earliest : List ℕ → List Entry → Option HandedOut
-earliest store [] = none
-earliest store (e ∷ es) = some (record {
-  entry = e;
-  bytes = frameOf store e;
-  held = record { entries = es; drawn = true; lastTime = e .time; lastChannel = e .channel };
-})
-
--- a draw into an area of so many bytes: 12; an area is asked for before the buffer is found empty
-unfoldable pub drawFrom : Model → List ℕ → ℕ → Result (Option HandedOut)
-drawFrom m store area =
-    cond (ltb (length store) storeSize) (refused (fault AreaTooShort))
-    (cond (ltb area slotSize) (refused (fault AreaTooShort))
-    (done (earliest store (m .held .entries))))

@@ -1,14 +1,9 @@
-// The three calls on a reorder buffer: new, offer and draw.
-use crate::columns;
+// Two of the three calls on a reorder buffer: new and offer.
 use crate::judging;
-use crate::laying;
 use crate::tally::Tally;
-use formats::tagging;
-use layout::bits;
 use layout::buffer;
 use layout::buffer::Buffer;
 use layout::buffer::Fixed;
-use layout::buffer::SLOT_SIZE;
 use layout::buffer::STORE_SIZE;
 use layout::well_formed;
 use packet::reading;
@@ -24,10 +19,9 @@ ghost use mathlib.Core.Bool.{true};
 ghost use Rattle.rtp.specs.Ranges.{inRange};
 ghost use Rattle.rtp.specs.Faults.{faultAt};
 ghost use Rattle.payload.specs.Rows.{rowsIn};
-ghost use Rattle.layout.specs.Layout.{decode, assembled};
-ghost use Rattle.reorder.specs.ModelCalls.{done, earliest};
-ghost use Rattle.reorder.specs.Calls.{newNumber, newCall, offerNumbers, offerCall, drawNumbers, drawDone, drawCall};
-ghost use Rattle.reorder.specs.Judging.{noTally, RowsJudgeable, OfferJudged, Drawable};
+ghost use Rattle.layout.specs.Layout.{assembled};
+ghost use Rattle.reorder.specs.Calls.{newNumber, newCall, offerNumbers, offerCall};
+ghost use Rattle.reorder.specs.Judging.{noTally, RowsJudgeable, OfferJudged};
 
 pub enum NewAnswer {
     Accepted,
@@ -46,25 +40,6 @@ pub enum OfferAnswer {
 
 pub struct Offered {
     pub answer: OfferAnswer,
-    pub buffer: Buffer,
-}
-
-// A frame that is handed out; its bytes are at the front of the draw area.
-pub struct DrawnFrame {
-    pub time: u32,
-    pub channel: u32,
-    pub class: u32,
-    pub length: u32,
-}
-
-pub enum DrawAnswer {
-    Frame(DrawnFrame),
-    Empty,
-    Refused(Refusal),
-}
-
-pub struct Drawn {
-    pub answer: DrawAnswer,
     pub buffer: Buffer,
 }
 
@@ -196,97 +171,4 @@ pub fn offer(buffer: Buffer, packet: &[u8], rows: &mut [u32], store: &mut [u8]) 
         return offer_checked(buffer, packet, rows, store);
     }
     refuse_offer(Refusal::SettingsOutOfRange, 0, buffer)
-}
-
-fn refuse_draw(refusal: Refusal, buffer: Buffer) -> Drawn
-    ensures { λ r. ⌜ r ≡ record { answer = DrawAnswer.Refused refusal; buffer = buffer } ⌝ }
-{
-    Drawn {
-        answer: DrawAnswer::Refused(refusal),
-        buffer,
-    }
-}
-
-// The first of n entries handed out: its frame to the front of the area, its slot free, its pair the last drawn.
-fn draw_first(mut buffer: Buffer, n: usize, store: &[u8], area: &mut [u8]) -> Drawn
-    requires { ⌜ Drawable buffer n (now (store)) (now area) ⌝ }
-    ensures { λ r. ⌜ record { answer = drawNumbers (r .answer); buffer = r .buffer; area = now (area .exit) }
-        ≡ drawDone buffer (now (area .entry)) (done (earliest (now (store .entry)) (decode buffer .entries))) ⌝ }
-{
-    let time = buffer.times[0];
-    let channel = tagging::tag_channel(buffer.tags[0]);
-    let class = tagging::tag_class(buffer.tags[0]);
-    let length = buffer.lengths[0];
-    let slot = buffer.slots[0] as usize;
-    let occupied = buffer.occupied;
-    let start = SLOT_SIZE * slot;
-    let end = start + (length as usize);
-    laying::copy_into(area, 0, &store[start..end]);
-    columns::remove_first(&mut buffer.times, n);
-    columns::remove_first(&mut buffer.tags, n);
-    columns::remove_first(&mut buffer.lengths, n);
-    columns::remove_first(&mut buffer.slots, n);
-    let next = bits::unmark(occupied, slot);
-    buffer.occupied = next;
-    buffer.last_time = time;
-    buffer.last_channel = channel;
-    buffer.drawn = 1;
-    Drawn {
-        answer: DrawAnswer::Frame(DrawnFrame {
-            time,
-            channel,
-            class,
-            length,
-        }),
-        buffer,
-    }
-}
-
-// A draw under settings in range.
-fn draw_checked(buffer: Buffer, store: &[u8], area: &mut [u8]) -> Drawn
-    requires { ⌜ inRange (buffer .settings) ≡ true ⌝ }
-    ensures { λ r. ⌜ record { answer = drawNumbers (r .answer); buffer = r .buffer; area = now (area .exit) }
-        ≡ drawCall buffer (now (store .entry)) (now (area .entry)) ⌝ }
-{
-    let times = buffer.times;
-    let tags = buffer.tags;
-    let lengths = buffer.lengths;
-    let slots = buffer.slots;
-    let occupied = buffer.occupied;
-    let settings = buffer.settings;
-    let fixed = Fixed {
-        last_time: buffer.last_time,
-        last_channel: buffer.last_channel,
-        drawn: buffer.drawn,
-        settings,
-    };
-    if !well_formed::well_formed(&times, &tags, &lengths, &slots, occupied, fixed) {
-        return refuse_draw(Refusal::MalformedBuffer, buffer);
-    }
-    if store.len() < STORE_SIZE {
-        return refuse_draw(Refusal::AreaTooShort, buffer);
-    }
-    if area.len() < SLOT_SIZE {
-        return refuse_draw(Refusal::AreaTooShort, buffer);
-    }
-    let n = bits::held_in(occupied);
-    if n == 0 {
-        return Drawn {
-            answer: DrawAnswer::Empty,
-            buffer,
-        };
-    }
-    draw_first(buffer, n, store, area)
-}
-
-// The earliest frame handed out, or that the buffer is empty; or a refusal, and everything as it stood.
-pub fn draw(buffer: Buffer, store: &[u8], area: &mut [u8]) -> Drawn
-    ensures { λ r. ⌜ record { answer = drawNumbers (r .answer); buffer = r .buffer; area = now (area .exit) }
-        ≡ drawCall buffer (now (store .entry)) (now (area .entry)) ⌝ }
-{
-    let settings = buffer.settings;
-    if settings::in_range(settings) {
-        return draw_checked(buffer, store, area);
-    }
-    refuse_draw(Refusal::SettingsOutOfRange, buffer)
 }

@@ -1,6 +1,4 @@
 // Frames judged against the buffer.
-use crate::columns;
-use crate::columns::Place;
 use crate::laying;
 use crate::laying::FrameHead;
 use crate::tally;
@@ -10,6 +8,8 @@ use layout::bits;
 use layout::buffer::Fixed;
 use layout::buffer::SLOTS;
 use layout::well_formed;
+use placing::columns;
+use placing::columns::Place;
 use playout::verdict::Verdict;
 use rtp::sizes::ROW_WIDTH;
 ghost use mathlib.Core.Path.{_≡_};

@@ -1,15 +1,15 @@
 // Frames laid into the columns and the store.
-use crate::columns;
 use formats::tagging;
 use layout::bits;
 use layout::buffer::SLOT_SIZE;
 use layout::buffer::SLOTS;
+use placing::areas;
+use placing::columns;
 use playout::compare;
 use playout::verdict::Verdict;
 ghost use mathlib.Core.Path.{_≡_};
-ghost use Prim.Native.Nat.{_+_, _≤_};
+ghost use Prim.Native.Nat.{_≤_};
 ghost use lib.ListN.{length};
-ghost use lib.Seq.{paste};
 ghost use Rattle.playout.specs.Sizes.{slotSize};
 ghost use Rattle.reorder.specs.Laying.{HeldAt, Replaced, Insertable, Laid};
 
@@ -17,18 +17,6 @@ ghost use Rattle.reorder.specs.Laying.{HeldAt, Replaced, Insertable, Lai
 pub struct FrameHead {
     pub time: u32,
     pub tag: u32,
-}
-
-// Bytes laid into a longer area.
-pub(crate) fn copy_into(area: &mut [u8], at: usize, src: &[u8])
-    requires { ⌜ at + length (now src) ≤ length (now area) ⌝ }
-    ensures { λ _. ⌜ now (area .exit) ≡ paste (now (area .entry)) at (now (src .entry)) (length (now (src .entry))) ⌝ }
-{
-    let mut i = 0;
-    while i < src.len() {
-        area[at + i] = src[i];
-        i += 1;
-    }
 }
 
 // A frame whose pair is held, as the entry at a place: a better copy replaces it in its slot.
@@ -56,7 +44,7 @@ pub(crate) fn replace_copy(
     ) {
         tags[at] = head.tag;
         lengths[at] = frame.len() as u32;
-        copy_into(store, start, frame);
+        areas::copy_into(store, start, frame);
         return Verdict::Better;
     }
     Verdict::Repeated
@@ -85,6 +73,6 @@ pub(crate) fn insert_copy(
     columns::insert_at(tags, n, at, head.tag);
     columns::insert_at(lengths, n, at, frame.len() as u32);
     columns::insert_at(slots, n, at, slot as u32);
-    copy_into(store, SLOT_SIZE * slot, frame);
+    areas::copy_into(store, SLOT_SIZE * slot, frame);
     next
 }

@@ -1,6 +1,5 @@
-// The reorder buffer: gathers frames from packets, and hands them out in time order across the timestamp wrap.
+// The reorder buffer gathers frames from packets, in time order across the timestamp wrap: the calls new and offer.
 pub mod calls;
-pub mod columns;
 pub mod judging;
 pub mod laying;
 pub mod tally;

@@ -12,8 +12,8 @@ use Rattle.formats.specs.Formats.{formatOf, maxGap}
 use Rattle.contents.specs.Contents.{Group, groups}
 use Rattle.payload.specs.Rows.{Row}
 use Rattle.formats.specs.Codes.{noCode, codeFor}
-use Rattle.encoder.specs.Plans.{headGap, single, joins, attach}
-use Rattle.encoder.proofs.PlanLaws.{Joins, joins-true}
+use Rattle.plans.specs.Plans.{headGap, single, joins, attach}
+use Rattle.plans.proofs.PlanLaws.{Joins, joins-true}
 use Rattle.roundtrip.proofs.EntryBackLaws.{Run}
 use Rattle.roundtrip.proofs.TableBackLaws.{Runs}
 use Rattle.roundtrip.proofs.TableBlockLaws.{Block, blocksIn}

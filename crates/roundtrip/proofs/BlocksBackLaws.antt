@@ -20,7 +20,7 @@ use Rattle.packet.specs.Blocks.{cut, typedBlockRows, thenRows, blocksRows, redu
 use Rattle.packet.specs.Requests.{blockRequest, blocksRequest, redundantRequest}
 use Rattle.packet.proofs.AnswerLaws.{then-none}
 use Rattle.packet.proofs.BlockLaws.{block}
-use Rattle.encoder.specs.Lists.{outside, firstTime}
+use Rattle.plans.specs.Lists.{outside, firstTime}
 use Rattle.sender.proofs.WordLaws.{outside-take, outside-drop}
 use Rattle.roundtrip.specs.ReadingBack.{readRequest, SameFrames}
 use Rattle.roundtrip.proofs.PlanRowLaws.{Times}

@@ -12,7 +12,7 @@ use Rattle.rtp.proofs.RedundancyLaws.{bytes-drop}
 use Rattle.contents.specs.Contents.{Group, rowCount}
 use Rattle.payload.specs.Rows.{Row}
 use Rattle.formats.specs.Formats.{formatOf, maxGap}
-use Rattle.encoder.specs.Plans.{headGap}
+use Rattle.plans.specs.Plans.{headGap}
 use Rattle.encoder.specs.Bytes.{requestBytes, halves, firstByte, startBytes, gapBytes, entryBytes, tableBytes, frameIn, frames}
 use Rattle.encoder.specs.Writings.{maxRequest}
 use Rattle.roundtrip.specs.ReadingBack.{Bytes}

@@ -15,7 +15,7 @@ use Rattle.contents.specs.declared.entries.Entry.{Entry}
 use Rattle.contents.specs.declared.entries.EntryRead.{EntryRead}
 use Rattle.contents.specs.Contents.{minEntry, codeIn, blocksIn, entrySize, entryOf, Group, halfAt, gapAt, gapsFrom, meaning}
 use Rattle.formats.specs.Codes.{noCode, codeFor}
-use Rattle.encoder.specs.Plans.{headGap}
+use Rattle.plans.specs.Plans.{headGap}
 use Rattle.encoder.specs.Bytes.{halves, flag, firstByte, gapBytes, entryBytes}
 use Rattle.encoder.proofs.EntryLaws.{length-entry}
 use Rattle.formats.proofs.CodeLaws.{code-back, code-below}

@@ -11,9 +11,9 @@ use borrow.Author.Tests.{ltb-false}
 use Rattle.rtp.proofs.TestLaws.{neither}
 use Rattle.rtp.proofs.AreaLaws.{part-size}
 use Rattle.payload.specs.Rows.{Row}
-use Rattle.encoder.specs.Lists.{outside}
+use Rattle.plans.specs.Lists.{outside}
 use Rattle.encoder.specs.Bytes.{frameIn, frames}
-use Rattle.encoder.specs.Room.{lengthsIn}
+use Rattle.plans.specs.Room.{lengthsIn}
 use Rattle.roundtrip.specs.ReadingBack.{SameFrames}
 use Rattle.roundtrip.proofs.TableBlockLaws.{Laid}
 

@@ -16,8 +16,8 @@ use Rattle.rtp.specs.declared.refusal.Refusal.the-variants.{SettingsOutOfRange,
 use Rattle.rtp.proofs.TestLaws.{by-test}
 use Rattle.contents.specs.Contents.{Contents, refused, groups}
 use Rattle.payload.specs.Rows.{Row}
-use Rattle.encoder.specs.Lists.{rowsIn, whole, outside}
-use Rattle.encoder.specs.Plans.{plan}
+use Rattle.plans.specs.Lists.{rowsIn, whole, outside}
+use Rattle.plans.specs.Plans.{plan}
 use Rattle.encoder.specs.Writings.{Encoded, noBytes, bytesOf, maxRequest, askable, plannedBytes, encoded, roomFor, writing, Numbers, encodedNumbers, refusedNumbers, measured}
 use Rattle.encoder.proofs.WritingLaws.{in-range-some, numbers-encoded}
 use Rattle.roundtrip.specs.PayloadClaims.{Measuring}

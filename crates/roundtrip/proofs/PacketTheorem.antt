@@ -15,11 +15,11 @@ use Rattle.payload.specs.Rows.{Row}
 use Rattle.packet.specs.Readings.{typedRows}
 use Rattle.packet.specs.Requests.{typedRequest}
 use Rattle.packet.proofs.ReadingLaws.{reading-headed}
-use Rattle.encoder.specs.Lists.{rowsIn, outside}
+use Rattle.plans.specs.Lists.{rowsIn, outside}
 use Rattle.roundtrip.proofs.PayloadTheorems.{times}
 use Rattle.encoder.specs.Writings.{Encoded, noBytes, bytesOf, askable, roomFor}
 use Rattle.encoder.proofs.RequestLaws.{asked}
-use Rattle.encoder.proofs.ListLaws.{length-rows}
+use Rattle.plans.proofs.ListLaws.{length-rows}
 use Rattle.roundtrip.proofs.PlanRowLaws.{Times}
 use Rattle.sender.specs.Parts.{maxRedundant, total, primaryTime, Part, Parts, noParts, partsOf, parts}
 use Rattle.sender.specs.Packets.{Heading, headerBytes, bodyBytes, packetType, redundancyMissing, assembledFrom, assembled, countsFit, sending}

@@ -11,7 +11,7 @@ use Rattle.rtp.specs.Time.{difference}
 use Rattle.rtp.specs.declared.settings.Settings.{Settings}
 use Rattle.payload.specs.Rows.{Row}
 use Rattle.encoder.specs.Writings.{Encoded, noBytes, bytesOf, encoded}
-use Rattle.encoder.specs.Lists.{firstTime}
+use Rattle.plans.specs.Lists.{firstTime}
 use Rattle.roundtrip.proofs.PlanRowLaws.{Times}
 use Rattle.sender.specs.Parts.{maxOffset, maxBlock, primaryTime, Part, Parts, noParts, partsOf, primaryPart, prependPart, redundantPart, parts}
 

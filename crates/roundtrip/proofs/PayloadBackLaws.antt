@@ -16,8 +16,8 @@ use Rattle.contents.specs.Contents.{Group, Contents, refused, groups, contents,
 use Rattle.payload.specs.Rows.{Row, tableRows}
 use Rattle.payload.specs.Payloads.{body, payload, requestOf, Rows, rowsOf, placedRows, payloadRows}
 use Rattle.payload.proofs.PayloadLaws.{length-table}
-use Rattle.encoder.specs.Lists.{outside, firstTime}
-use Rattle.encoder.specs.Plans.{plan}
+use Rattle.plans.specs.Lists.{outside, firstTime}
+use Rattle.plans.specs.Plans.{plan}
 use Rattle.encoder.specs.Bytes.{requestBytes, tableBytes, frames}
 use Rattle.encoder.specs.Writings.{bytesOf, plannedBytes, encoded}
 use Rattle.contents.proofs.EntryLaws.{size-some}

@@ -21,11 +21,11 @@ use Rattle.payload.specs.Payloads.{exact, body, tableStart, startingAt, payload
 use Rattle.contents.proofs.ContentsLaws.{Small, Within, within}
 use Rattle.payload.proofs.FirstLaws.{sizes-passed}
 use Rattle.payload.specs.Rows.{rowsIn}
-use Rattle.encoder.specs.Lists.{firstTime, whole, outside}
-use Rattle.encoder.specs.Plans.{maxPayload, plan}
+use Rattle.plans.specs.Lists.{firstTime, whole, outside}
+use Rattle.plans.specs.Plans.{maxPayload, plan}
 use Rattle.encoder.specs.Bytes.{requestBytes, tableBytes, frames}
 use Rattle.encoder.specs.Writings.{noBytes, bytesOf, maxRequest, askable, plannedBytes, encoded, roomFor, writing}
-use Rattle.encoder.proofs.ListLaws.{length-rows}
+use Rattle.plans.proofs.ListLaws.{length-rows}
 use Rattle.encoder.proofs.PayloadLaws.{listed, length-bytes}
 use Rattle.encoder.proofs.RequestLaws.{asked}
 use Rattle.encoder.proofs.WritingLaws.{in-range-some}

@@ -13,7 +13,7 @@ use Rattle.contents.specs.Contents.{Group, Contents, refused, groups}
 use Rattle.payload.specs.Rows.{Row, placed, blockRows}
 use Rattle.formats.specs.Codes.{noCode, codeFor}
 use Rattle.formats.proofs.FormatLaws.{gap-small}
-use Rattle.encoder.specs.Plans.{unwritable, gapBetween, nextChannel, starts, follows, attach, planFrom}
+use Rattle.plans.specs.Plans.{unwritable, gapBetween, nextChannel, starts, follows, attach, planFrom}
 use Rattle.roundtrip.proofs.TableBackLaws.{Runs}
 use Rattle.roundtrip.proofs.TableBlockLaws.{Block, blocksOf, blocksIn, blocksRows}
 use Rattle.roundtrip.proofs.FrameLaws.{plain, plains}

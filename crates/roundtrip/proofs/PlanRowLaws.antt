@@ -11,7 +11,7 @@ use Rattle.formats.specs.Formats.{stepOf}
 use Rattle.contents.specs.Contents.{Group, Contents, refused, groups}
 use Rattle.payload.specs.Rows.{Row, placed, nextPlace, blockRows}
 use Rattle.formats.specs.Codes.{noCode, codeFor}
-use Rattle.encoder.specs.Plans.{unwritable, ticksAfter, gapBetween, continues, follows, attach, planFrom}
+use Rattle.plans.specs.Plans.{unwritable, ticksAfter, gapBetween, continues, follows, attach, planFrom}
 use Rattle.roundtrip.proofs.TableBlockLaws.{Block, blocksIn, blocksRows}
 use Rattle.roundtrip.proofs.FrameLaws.{plain, plains, plains-append, Alike}
 use Rattle.roundtrip.proofs.AttachLaws.{Later, same-groups, Attached, attached}

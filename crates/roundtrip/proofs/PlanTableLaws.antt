@@ -13,9 +13,9 @@ use Rattle.formats.specs.Formats.{stepOf, maxGap}
 use Rattle.contents.specs.Contents.{Group, Contents, refused, groups, rowCount, framesIn}
 use Rattle.payload.specs.Rows.{Row, tableRows}
 use Rattle.payload.proofs.PayloadLaws.{length-table}
-use Rattle.encoder.specs.Plans.{maxPayload, unwritable, gapBetween, nextChannel, follows, joins, headGap, attach, planFrom, stepBefore, payloadSize, fitting, plan}
-use Rattle.encoder.specs.Lists.{firstTime}
-use Rattle.encoder.specs.Room.{lengthsIn}
+use Rattle.plans.specs.Plans.{maxPayload, unwritable, gapBetween, nextChannel, follows, joins, headGap, attach, planFrom, stepBefore, payloadSize, fitting, plan}
+use Rattle.plans.specs.Lists.{firstTime}
+use Rattle.plans.specs.Room.{lengthsIn}
 use Rattle.encoder.proofs.PayloadLaws.{fitted}
 use Rattle.roundtrip.proofs.TableBackLaws.{Runs}
 use Rattle.roundtrip.proofs.TableBlockLaws.{blocksIn, table-blocks, table-frames}

@@ -20,7 +20,7 @@ use Rattle.contents.proofs.EntryLaws.{past, same-entry, code-in, fair}
 use Rattle.contents.proofs.ContentsLaws.{contents-step, shorter, blocks-of}
 use Rattle.payload.proofs.FirstLaws.{length-direct}
 use Rattle.formats.specs.Codes.{noCode, codeFor}
-use Rattle.encoder.specs.Plans.{headGap}
+use Rattle.plans.specs.Plans.{headGap}
 use Rattle.formats.proofs.CodeLaws.{code-some}
 use Rattle.roundtrip.proofs.EntryBackLaws.{Run}
 use Rattle.roundtrip.proofs.TableBackLaws.{Runs}

@@ -11,7 +11,7 @@ use borrow.Author.Tests.{ltb-false}
 use Rattle.rtp.proofs.TestLaws.{neither}
 use Rattle.rtp.proofs.AreaLaws.{part-size}
 use Rattle.payload.specs.Rows.{Row}
-use Rattle.encoder.specs.Lists.{outside}
+use Rattle.plans.specs.Lists.{outside}
 use Rattle.encoder.specs.Bytes.{frameIn}
 use Rattle.roundtrip.specs.ReadingBack.{SameFrames}
 

@@ -10,8 +10,8 @@ use Rattle.rtp.proofs.TestLaws.{by-test, not-both}
 use Rattle.formats.specs.Formats.{formatOf, maxGap}
 use Rattle.contents.specs.Contents.{gapsSize, entrySize, Group, Contents, groups, sizeIn}
 use Rattle.payload.specs.Rows.{Row}
-use Rattle.encoder.specs.Plans.{headGap, joins, attach}
-use Rattle.encoder.proofs.PlanLaws.{joins-true}
+use Rattle.plans.specs.Plans.{headGap, joins, attach}
+use Rattle.plans.proofs.PlanLaws.{joins-true}
 use Rattle.roundtrip.proofs.TableBackLaws.{Runs}
 use Rattle.roundtrip.proofs.TableBlockLaws.{Block, blocksOf, blocksIn}
 use Rattle.roundtrip.proofs.AttachLaws.{joins-so, firstGap}

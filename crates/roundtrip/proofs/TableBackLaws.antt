@@ -10,7 +10,7 @@ use Rattle.rtp.specs.Sizes.{maxRows}
 use Rattle.formats.specs.Formats.{maxGap}
 use Rattle.contents.specs.Contents.{Group, groups, meaning, prepend, contents, rowCount}
 use Rattle.contents.proofs.ContentsLaws.{contents-last, contents-more}
-use Rattle.encoder.specs.Plans.{headGap}
+use Rattle.plans.specs.Plans.{headGap}
 use Rattle.encoder.specs.Bytes.{entryBytes, tableBytes}
 use Rattle.encoder.proofs.EntryLaws.{length-entry}
 use Rattle.roundtrip.proofs.EntryBackLaws.{Run, entryFor, entry-back, meaning-back}

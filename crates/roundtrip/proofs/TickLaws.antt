@@ -7,7 +7,7 @@ use Rattle.rtp.specs.Time.{difference}
 use Rattle.formats.specs.Formats.{stepOf}
 use Rattle.payload.specs.Rows.{placed}
 use Rattle.formats.proofs.FormatLaws.{maxStep, step-fine}
-use Rattle.encoder.specs.Plans.{ticksAfter, gapBetween}
+use Rattle.plans.specs.Plans.{ticksAfter, gapBetween}
 
 -- the place after a time
 abbrev pub next : ℕ → ℕ → ℕ

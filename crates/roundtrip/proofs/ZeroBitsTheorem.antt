@@ -14,8 +14,8 @@ use Rattle.formats.proofs.FormatLaws.{each}
 use Rattle.contents.specs.Contents.{minEntry, entrySize, Group, Contents, refused, groups, halfAt, contents, sizeIn}
 use Rattle.payload.specs.Rows.{Row}
 use Rattle.payload.specs.Payloads.{body}
-use Rattle.encoder.specs.Lists.{rowsIn}
-use Rattle.encoder.specs.Plans.{headGap, plan}
+use Rattle.plans.specs.Lists.{rowsIn}
+use Rattle.plans.specs.Plans.{headGap, plan}
 use Rattle.encoder.specs.Bytes.{requestBytes, halves, flag, firstByte, entryBytes, tableBytes, frames}
 use Rattle.encoder.specs.Writings.{bytesOf, plannedBytes, encoded}
 use Rattle.encoder.proofs.EntryLaws.{length-entry}

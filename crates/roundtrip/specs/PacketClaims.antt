@@ -7,7 +7,7 @@ use Rattle.rtp.specs.declared.settings.Settings.{Settings}
 use Rattle.rtp.specs.declared.header.Header.{Header}
 use Rattle.payload.specs.Rows.{Row}
 use Rattle.packet.specs.Readings.{readAs, reading}
-use Rattle.encoder.specs.Lists.{rowsIn}
+use Rattle.plans.specs.Lists.{rowsIn}
 use Rattle.encoder.specs.Writings.{bytesOf}
 use Rattle.sender.specs.Parts.{primaryTime}
 use Rattle.sender.specs.Packets.{Heading, markerBit, sending}

@@ -13,8 +13,8 @@ use Rattle.rtp.specs.declared.refusal.Refusal.the-variants.{Unwritable, AreaToo
 use Rattle.formats.specs.Formats.{formatOf}
 use Rattle.contents.specs.Contents.{minEntry, Group, groups, halfAt, contents, sizeIn}
 use Rattle.payload.specs.Payloads.{body, requestOf}
-use Rattle.encoder.specs.Lists.{rowsIn, outside}
-use Rattle.encoder.specs.Plans.{maxPayload}
+use Rattle.plans.specs.Lists.{rowsIn, outside}
+use Rattle.plans.specs.Plans.{maxPayload}
 use Rattle.encoder.specs.Writings.{noBytes, bytesOf, maxRequest, askable, encoded, writing, encodedNumbers, measured}
 use Rattle.roundtrip.specs.ReadingBack.{Bytes, Words, readRequest, ReadsTo}
 

@@ -9,7 +9,7 @@ use Rattle.rtp.specs.declared.settings.Settings.{Settings}
 use Rattle.formats.specs.Formats.{formatOf}
 use Rattle.payload.specs.Rows.{Row}
 use Rattle.payload.specs.Payloads.{noRequest, rowsOf, payloadRows}
-use Rattle.encoder.specs.Lists.{rowsIn, firstTime, whole}
+use Rattle.plans.specs.Lists.{rowsIn, firstTime, whole}
 use Rattle.encoder.specs.Bytes.{frameIn}
 
 -- each element is a byte

@@ -17,8 +17,8 @@ use Rattle.rtp.proofs.TestLaws.{by-test}
 use Rattle.contents.specs.Contents.{Contents, refused, groups}
 use Rattle.payload.specs.Rows.{rowsIn}
 use Rattle.encoder.specs.declared.writing.Written.{Written}
-use Rattle.encoder.specs.Lists.{whole, firstTime}
-use Rattle.encoder.specs.Plans.{maxPayload, plan}
+use Rattle.plans.specs.Lists.{whole, firstTime}
+use Rattle.plans.specs.Plans.{maxPayload, plan}
 use Rattle.encoder.specs.Writings.{Numbers, writtenNumbers, plannedNumbers, refusedNumbers, measured}
 use Rattle.encoder.proofs.PayloadLaws.{listed}
 use Rattle.sender.specs.Packets.{blockHeaderBytes}

@@ -10,8 +10,8 @@ use lib.Dec.{ltb}
 use Rattle.rtp.specs.Sizes.{rowWidth}
 use Rattle.rtp.proofs.TestLaws.{neither}
 use Rattle.payload.specs.Rows.{Row, rowOf, rowsIn}
-use Rattle.encoder.specs.Lists.{outside}
-pub use Rattle.encoder.proofs.BlockLaws.{rows-drop}
+use Rattle.plans.specs.Lists.{outside}
+pub use Rattle.plans.proofs.BlockLaws.{rows-drop}
 use Rattle.sender.specs.Parts.{total}
 use Rattle.sender.specs.Room.{Counted}
 

@@ -9,7 +9,7 @@ use Rattle.rtp.specs.Ranges.{noRedundancy}
 use Rattle.rtp.specs.declared.settings.Settings.{Settings}
 use Rattle.rtp.specs.declared.refusal.Refusal.the-variants.{SettingsOutOfRange, RowOutsideBytes, Unwritable}
 use Rattle.payload.specs.Rows.{Row}
-use Rattle.encoder.specs.Lists.{rowsIn, outside}
+use Rattle.plans.specs.Lists.{rowsIn, outside}
 use Rattle.encoder.specs.Writings.{Encoded, noBytes, bytesOf, askable, roomFor}
 use Rattle.sender.specs.Parts.{maxRedundant, total, primaryTime, Part, Parts, noParts, partsOf, parts}
 

@@ -8,7 +8,7 @@ use Rattle.rtp.specs.Time.{difference}
 use Rattle.rtp.specs.declared.settings.Settings.{Settings}
 use Rattle.payload.specs.Rows.{Row}
 use Rattle.encoder.specs.Writings.{Encoded, noBytes, bytesOf, encoded}
-use Rattle.encoder.specs.Lists.{firstTime}
+use Rattle.plans.specs.Lists.{firstTime}
 
 -- the most redundant blocks of a packet, the largest offset and the most bytes of one
 abbrev pub maxRedundant : ℕ

@@ -10,7 +10,7 @@ use Rattle.rtp.specs.Ranges.{noRedundancy}
 use Rattle.rtp.specs.Time.{difference}
 use Rattle.rtp.specs.declared.settings.Settings.{Settings}
 use Rattle.rtp.specs.declared.refusal.Refusal.the-variants.{Unwritable}
-use Rattle.encoder.specs.Lists.{rowsIn, outside, firstTime}
+use Rattle.plans.specs.Lists.{rowsIn, outside, firstTime}
 use Rattle.encoder.specs.Writings.{Encoded, noBytes, bytesOf, askable, encoded, encodedBytes, Numbers, refusedNumbers, measured}
 use Rattle.sender.specs.Parts.{maxOffset, maxBlock, total, parts}
 use Rattle.sender.specs.Packets.{Heading, blockHeaderBytes, assembledFrom}

@@ -1,9 +1,9 @@
 // Packets, written.
 use crate::headers;
 use crate::sizes;
-use encoder::lists;
 use encoder::writing;
 use encoder::writing::Written;
+use plans::lists;
 use rtp::refusal::Refusal;
 use rtp::settings::NO_REDUNDANCY;
 use rtp::settings::Settings;
@@ -14,7 +14,7 @@ ghost use Prim.Native.Nat.{_+_, _≤_, _<_};
 ghost use mathlib.Core.List.{_++_};
 ghost use lib.ListN.{length};
 ghost use Rattle.rtp.specs.Areas.{over};
-ghost use Rattle.encoder.specs.Lists.{rowsIn};
+ghost use Rattle.plans.specs.Lists.{rowsIn};
 ghost use Rattle.encoder.specs.Writings.{writtenNumbers, encodedNumbers, encodedBytes, measured};
 ghost use Rattle.sender.specs.Parts.{maxRedundant, parts};
 ghost use Rattle.sender.specs.Packets.{assembledFrom, sending, blockHeaderBytes};

@@ -10,7 +10,7 @@ ghost use mathlib.Core.Path.{_≡_};
 ghost use Prim.Native.Nat.{_+_, _*_, _^_, _≤_, _<_};
 ghost use lib.ListN.{length, getD};
 ghost use Rattle.rtp.specs.Sizes.{rowWidth};
-ghost use Rattle.encoder.specs.Lists.{rowsIn, firstTime};
+ghost use Rattle.plans.specs.Lists.{rowsIn, firstTime};
 ghost use Rattle.encoder.specs.Writings.{writtenNumbers, measured};
 ghost use Rattle.sender.specs.Parts.{maxRedundant, total, primaryTime};
 ghost use Rattle.sender.specs.Packets.{countsFit};

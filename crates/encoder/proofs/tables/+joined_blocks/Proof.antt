@@ -9,10 +9,11 @@ use Rattle.rtp.specs.Sizes.{rowWidth}
 use Rattle.rtp.proofs.AreaLaws.{part-to-end}
 use Rattle.formats.specs.Formats.{stepOf}
 use Rattle.formats.specs.Tags.{tagClass}
-use Rattle.encoder.specs.declared.lists.RowWords.{RowWords}
-use Rattle.encoder.specs.Lists.{rowsIn}
-use Rattle.encoder.specs.Plans.{joinsRun, gapBetween, planFrom}
-use Rattle.encoder.specs.Room.{rowAs, wordsAt, joined, Accepted}
+use Rattle.plans.specs.declared.lists.RowWords.{RowWords}
+use Rattle.plans.specs.Lists.{rowsIn}
+use Rattle.plans.specs.Plans.{joinsRun, gapBetween, planFrom}
+use Rattle.plans.specs.Room.{rowAs, wordsAt}
+use Rattle.encoder.specs.Room.{joined, Accepted}
 use Rattle.encoder.proofs.RunLaws.{joined-none, joined-few, joined-rest, joined-words, joined-step}
 use borrow.Author.Needs.{needs}
 use Prim.Native.Nat.{ℕ, suc, _*_, _≤_, _<_}
@@ -21,10 +22,10 @@ use borrow.Fn.PlainCycle.{Measures, is, falls, and}
 use Rattle.encoder.proofs.tables.joined_blocks.Reads as joined-blocks
 use Rattle.encoder.proofs.tables.joined_blocks.Kinds as joined-blocks-kinds
 use Rattle.encoder.proofs.tables.+joined_blocks.Lts-joined_blocks as joined-blocks-lts
-use Rattle.encoder.proofs.lists.row_at.Reads as row-at-reads
-use Rattle.encoder.proofs.plans.gap_between.Reads as gap-between-reads
+use Rattle.plans.proofs.lists.first_row.Reads as first-row-reads
+use Rattle.plans.proofs.planning.gap_between.Reads as gap-between-reads
 use Rattle.formats.proofs.tagging.tag_class.Reads as tag-class-reads
-use Rattle.encoder.proofs.plans.joins_run.Reads as joins-run-reads
+use Rattle.plans.proofs.planning.joins_run.Reads as joins-run-reads
 use Rattle.encoder.proofs.tables.+joined_blocks.{statement}
 use Rattle.encoder.proofs.tables.+joined_blocks.Tie.{close}
 
@@ -45,7 +46,7 @@ joined-blocks-below t =
 
 -- what the callees ask and give
 abbrev callees : ℕ → joined-blocks-lts.Claims
-callees t = (row-at-reads.Asked, row-at-reads.Learnt, gap-between-reads.Asked, gap-between-reads.Learnt, tag-class-reads.Asked, tag-class-reads.Learnt, joins-run-reads.Asked, joins-run-reads.Learnt, joined-blocks-below t, joined-blocks.Post)
+callees t = (first-row-reads.Asked, first-row-reads.Learnt, gap-between-reads.Asked, gap-between-reads.Learnt, tag-class-reads.Asked, tag-class-reads.Learnt, joins-run-reads.Asked, joins-run-reads.Learnt, joined-blocks-below t, joined-blocks.Post)
 
 -- a need or a place at the measure t
 abbrev At : (joined-blocks-lts.Claims → In 1 joined-blocks-kinds.ps → Out 1 joined-blocks-kinds.ps joined-blocks-kinds.r → Type 0) → ℕ → Type 0
@@ -57,9 +58,9 @@ joins-at : (t : ℕ) (c : At joined-blocks-lts.After-joins-run t) → let a = c 
 joins-at t c =
     let a = c .before .before .before .before .before .before .args in
     sym (c .joins-run .ensures
-    ∙ ap (λ (k : ℕ). joinsRun (a .format) (rowAs (a .row)) k (c .before .before .before .row-at .result .length) (c .before .before .gap-between .result)) (c .before .tag-class .ensures)
-    ∙ ap (λ (g : ℕ). joinsRun (a .format) (rowAs (a .row)) (tagClass (c .before .before .before .row-at .result .tag)) (c .before .before .before .row-at .result .length) g) (c .before .before .gap-between .ensures)
-    ∙ ap (λ (w : RowWords). joinsRun (a .format) (rowAs (a .row)) (tagClass (w .tag)) (w .length) (gapBetween (stepOf (a .format)) (a .row .time) (w .time))) (c .before .before .before .row-at .ensures))
+    ∙ ap (λ (k : ℕ). joinsRun (a .format) (rowAs (a .row)) k (c .before .before .before .first-row .result .length) (c .before .before .gap-between .result)) (c .before .tag-class .ensures)
+    ∙ ap (λ (g : ℕ). joinsRun (a .format) (rowAs (a .row)) (tagClass (c .before .before .before .first-row .result .tag)) (c .before .before .before .first-row .result .length) g) (c .before .before .gap-between .ensures)
+    ∙ ap (λ (w : RowWords). joinsRun (a .format) (rowAs (a .row)) (tagClass (w .tag)) (w .length) (gapBetween (stepOf (a .format)) (a .row .time) (w .time))) (c .before .before .before .first-row .ensures))
 
 words-at : (t : ℕ) (c : At joined-blocks-lts.Else1 t) → rowWidth * c .before .before .args .channels ≤ length (now (c .before .before .args .rows))
 words-at t c = let a = c .before .before .args in let q = c .before .before .pre .1 in joined-words (a .format) (a .channels) (rowAs (a .row)) (now (a .rows)) (q .some) (q .planned) (c .if1 .left)
@@ -74,14 +75,14 @@ blocks-at : (t : ℕ) (c : At joined-blocks-lts.After-joined-blocks t) → let a
 blocks-at t c =
     let a = c .before .before .before .before .before .before .before .before .before .args in
     c .joined-blocks .ensures
-    ∙ ap (λ (l : List ℕ). joined (a .format) (rowAs (c .before .before .before .before .before .before .row-at .result)) (planFrom (a .format) (a .channels) 0 (rowAs (c .before .before .before .before .before .before .row-at .result)) (rowsIn l))) (part-to-end (rowWidth * a .channels) (now (a .rows)))
-    ∙ ap (λ (w : RowWords). joined (a .format) (rowAs w) (planFrom (a .format) (a .channels) 0 (rowAs w) (rowsIn (drop (rowWidth * a .channels) (now (a .rows)))))) (c .before .before .before .before .before .before .row-at .ensures)
+    ∙ ap (λ (l : List ℕ). joined (a .format) (rowAs (c .before .before .before .before .before .before .first-row .result)) (planFrom (a .format) (a .channels) 0 (rowAs (c .before .before .before .before .before .before .first-row .result)) (rowsIn l))) (part-to-end (rowWidth * a .channels) (now (a .rows)))
+    ∙ ap (λ (w : RowWords). joined (a .format) (rowAs w) (planFrom (a .format) (a .channels) 0 (rowAs w) (rowsIn (drop (rowWidth * a .channels) (now (a .rows)))))) (c .before .before .before .before .before .before .first-row .ensures)
 
 joined-blocks-returns : (t : ℕ) → At joined-blocks-lts.Need-returns t
 joined-blocks-returns t c = let a = c .before .before .args in sym (joined-none (a .format) (a .channels) (rowAs (a .row)) (now (a .rows)) (c .if1 .taken))
 
-joined-blocks-row-at-requires : (t : ℕ) → At joined-blocks-lts.Need-row-at-requires t
-joined-blocks-row-at-requires t c κs = search needs
+joined-blocks-first-row-requires : (t : ℕ) → At joined-blocks-lts.Need-first-row-requires t
+joined-blocks-first-row-requires t c κs = search needs
 
 joined-blocks-gap-between-requires : (t : ℕ) → At joined-blocks-lts.Need-gap-between-requires t
 joined-blocks-gap-between-requires t c κs = search needs
@@ -114,7 +115,7 @@ joined-blocks-joined-blocks-requires t c κs = let a = c .before .before .before
       record {
         some = q .some;
         channels = q .channels;
-        planned = rw part-to-end (subst (λ (w : RowWords). Accepted (planFrom (a .format) (a .channels) 0 (rowAs w) (rowsIn (drop (rowWidth * a .channels) (now (a .rows)))))) (sym (c .before .before .before .before .before .row-at .ensures)) (rest-at t (c .before .before .before .before .before .before)));
+        planned = rw part-to-end (subst (λ (w : RowWords). Accepted (planFrom (a .format) (a .channels) 0 (rowAs w) (rowsIn (drop (rowWidth * a .channels) (now (a .rows)))))) (sym (c .before .before .before .before .before .first-row .ensures)) (rest-at t (c .before .before .before .before .before .before)));
       },
     )
 
@@ -139,7 +140,7 @@ pub +joined-blocks-spec : {M : Type 1} → statement M
     (joined-blocks-at t)
     joined-blocks.Post
     (joined-blocks-returns t)
-    (joined-blocks-row-at-requires t)
+    (joined-blocks-first-row-requires t)
     (joined-blocks-gap-between-requires t)
     (joined-blocks-tag-class-requires t)
     (joined-blocks-joins-run-requires t)

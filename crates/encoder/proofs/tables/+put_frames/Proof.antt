@@ -6,8 +6,8 @@ use denote.Ref.{now}
 use Rattle.rtp.specs.Sizes.{rowWidth}
 use Rattle.rtp.specs.Areas.{over}
 use Rattle.rtp.proofs.AreaLaws.{part-length, part-to-end}
-use Rattle.encoder.specs.declared.lists.RowWords.{RowWords}
-use Rattle.encoder.specs.Lists.{rowsIn}
+use Rattle.plans.specs.declared.lists.RowWords.{RowWords}
+use Rattle.plans.specs.Lists.{rowsIn}
 use Rattle.encoder.specs.Bytes.{frames}
 use Rattle.encoder.specs.Room.{FramesRoom}
 use Rattle.encoder.proofs.FrameBytesLaws.{put-none, frame-inside, frame-room, rest-room, frame-part, put-frame}
@@ -18,8 +18,7 @@ use borrow.Fn.PlainCycle.{Measures, is, falls, and}
 use Rattle.encoder.proofs.tables.put_frames.Reads as put-frames
 use Rattle.encoder.proofs.tables.put_frames.Kinds as put-frames-kinds
 use Rattle.encoder.proofs.tables.+put_frames.Lts-put_frames as put-frames-lts
-use Rattle.encoder.proofs.lists.row_at.Reads as row-at-reads
-use Rattle.encoder.proofs.lists.wide.Reads as wide-reads
+use Rattle.plans.proofs.lists.first_row.Reads as first-row-reads
 use Rattle.encoder.proofs.tables.copy_bytes.Reads as copy-bytes-reads
 use Rattle.encoder.proofs.tables.+put_frames.{statement}
 use Rattle.encoder.proofs.tables.+put_frames.Tie.{close}
@@ -37,42 +36,42 @@ put-frames-below t =
 
 -- what the callees ask and give
 abbrev callees : ℕ → put-frames-lts.Claims
-callees t = (row-at-reads.Asked, row-at-reads.Learnt, wide-reads.Asked, wide-reads.Learnt, copy-bytes-reads.Asked, copy-bytes-reads.Learnt, put-frames-below t, put-frames.Post)
+callees t = (first-row-reads.Asked, first-row-reads.Learnt, copy-bytes-reads.Asked, copy-bytes-reads.Learnt, put-frames-below t, put-frames.Post)
 
 -- a need or a place at the measure t
 abbrev At : (put-frames-lts.Claims → In 3 put-frames-kinds.ps → Out 3 put-frames-kinds.ps put-frames-kinds.r → Type 0) → ℕ → Type 0
 At P t = P (callees t) (put-frames-at t) put-frames.Post
 
 -- the row's start and length, as the list has them, and what the room is good for
-start-is : (t : ℕ) (c : At put-frames-lts.After-wide2 t) → c .before .wide .result ≡ getD (now (c .before .before .before .before .before .before .before .args .rows)) 2 0
-start-is t c = c .before .wide .ensures .0 ∙ ap (λ (w : RowWords). w .start) (c .before .before .row-at .ensures)
+start-is : (t : ℕ) (c : At put-frames-lts.After-struct-known2 t) → c .before .before .first-row .result .start ≡ getD (now (c .before .before .before .before .before .before .before .args .rows)) 2 0
+start-is t c = ap (λ (w : RowWords). w .start) (c .before .before .first-row .ensures)
 
-length-is : (t : ℕ) (c : At put-frames-lts.After-wide2 t) → c .wide2 .result ≡ getD (now (c .before .before .before .before .before .before .before .args .rows)) 3 0
-length-is t c = c .wide2 .ensures .0 ∙ ap (λ (w : RowWords). w .length) (c .before .before .row-at .ensures)
+length-is : (t : ℕ) (c : At put-frames-lts.After-struct-known2 t) → c .before .before .first-row .result .length ≡ getD (now (c .before .before .before .before .before .before .before .args .rows)) 3 0
+length-is t c = ap (λ (w : RowWords). w .length) (c .before .before .first-row .ensures)
 
-inside-at : (t : ℕ) (c : At put-frames-lts.After-wide2 t) → c .before .wide .result + c .wide2 .result ≤ length (now (c .before .before .before .before .before .before .before .args .bytes))
+inside-at : (t : ℕ) (c : At put-frames-lts.After-struct-known2 t) → c .before .before .first-row .result .start + c .before .before .first-row .result .length ≤ length (now (c .before .before .before .before .before .before .before .args .bytes))
 inside-at t c = let a = c .before .before .before .before .before .before .before .args in frame-inside (now (a .bytes)) (now (a .rows)) (now (a .out)) (c .before .before .before .if1 .left) _ _ (start-is t c) (length-is t c) (length (now (a .out))) (c .before .before .before .before .before .before .before .pre .1)
 
-room-at : (t : ℕ) (c : At put-frames-lts.After-wide2 t) → c .wide2 .result ≤ length (now (c .before .before .before .before .before .before .before .args .out))
+room-at : (t : ℕ) (c : At put-frames-lts.After-struct-known2 t) → c .before .before .first-row .result .length ≤ length (now (c .before .before .before .before .before .before .before .args .out))
 room-at t c = let a = c .before .before .before .before .before .before .before .args in frame-room (now (a .bytes)) (now (a .rows)) (now (a .out)) (c .before .before .before .if1 .left) _ _ (start-is t c) (length-is t c) (length (now (a .out))) (c .before .before .before .before .before .before .before .pre .1)
 
-rest-at : (t : ℕ) (c : At put-frames-lts.After-wide2 t) → let a = c .before .before .before .before .before .before .before .args in FramesRoom (length (now (a .bytes))) (rowsIn (drop rowWidth (now (a .rows)))) (length (now (a .out)) - c .wide2 .result)
+rest-at : (t : ℕ) (c : At put-frames-lts.After-struct-known2 t) → let a = c .before .before .before .before .before .before .before .args in FramesRoom (length (now (a .bytes))) (rowsIn (drop rowWidth (now (a .rows)))) (length (now (a .out)) - c .before .before .first-row .result .length)
 rest-at t c = let a = c .before .before .before .before .before .before .before .args in rest-room (now (a .bytes)) (now (a .rows)) (now (a .out)) (c .before .before .before .if1 .left) _ _ (start-is t c) (length-is t c) (length (now (a .out))) (c .before .before .before .before .before .before .before .pre .1)
 
-part-at : (t : ℕ) (c : At put-frames-lts.After-wide2 t) → let n = c .before .wide .result in length (take (n + c .wide2 .result - n) (drop n (now (c .before .before .before .before .before .before .before .args .bytes)))) ≡ c .wide2 .result
+part-at : (t : ℕ) (c : At put-frames-lts.After-struct-known2 t) → let n = c .before .before .first-row .result .start in length (take (n + c .before .before .first-row .result .length - n) (drop n (now (c .before .before .before .before .before .before .before .args .bytes)))) ≡ c .before .before .first-row .result .length
 part-at t c = let a = c .before .before .before .before .before .before .before .args in frame-part (now (a .bytes)) (now (a .rows)) (now (a .out)) (c .before .before .before .if1 .left) _ _ (start-is t c) (length-is t c) (length (now (a .out))) (c .before .before .before .before .before .before .before .pre .1)
 
 put-frames-returns : (t : ℕ) → At put-frames-lts.Need-returns t
 put-frames-returns t c = let a = c .before .before .before .before .args in put-none (now (a .bytes)) (now (a .rows)) (now (a .out)) (c .if1 .taken)
 
-put-frames-row-at-requires : (t : ℕ) → At put-frames-lts.Need-row-at-requires t
-put-frames-row-at-requires t c κs = search needs
+put-frames-first-row-requires : (t : ℕ) → At put-frames-lts.Need-first-row-requires t
+put-frames-first-row-requires t c κs = search needs
 
-put-frames-wide-requires : (t : ℕ) → At put-frames-lts.Need-wide-requires t
-put-frames-wide-requires t c κs = search needs
+put-frames-cast-start : (t : ℕ) → At put-frames-lts.Need-cast-start t
+put-frames-cast-start t c = search needs
 
-put-frames-wide-requires-2 : (t : ℕ) → At put-frames-lts.Need-wide-requires-2 t
-put-frames-wide-requires-2 t c κs = search needs
+put-frames-cast-length : (t : ℕ) → At put-frames-lts.Need-cast-length t
+put-frames-cast-length t c = search needs
 
 put-frames-add-end : (t : ℕ) → At put-frames-lts.Need-add-end t
 put-frames-add-end t c = search needs
@@ -110,7 +109,7 @@ put-frames-part-put-frames-end-2 t c = search needs
 put-frames-put-frames-requires : (t : ℕ) → At put-frames-lts.Need-put-frames-requires t
 put-frames-put-frames-requires t c κs = let a = c .before .before .before .before .before .before .before .before .before .before .before .before .before .before .args in (
   rw (part-to-end rowWidth (now (a .rows)), length-drop) (omega (arith, c .before .before .before .before .before .before .before .before .before .before .before .before .before .before .pre .0, c .before .before .before .before .before .before .before .before .before .before .if1 .left)),
-  rw (part-length (c .before .before .before .before .copy-bytes .last .0) (now (a .out)) (c .before .before .before .before .before .before .before .wide2 .result) (c .before .before .before .before .copy-bytes .kept .0), part-to-end rowWidth (now (a .rows))) (rest-at t (c .before .before .before .before .before .before .before)),
+  rw (part-length (c .before .before .before .before .copy-bytes .last .0) (now (a .out)) (c .before .before .before .before .before .before .before .before .before .first-row .result .length) (c .before .before .before .before .copy-bytes .kept .0), part-to-end rowWidth (now (a .rows))) (rest-at t (c .before .before .before .before .before .before .before)),
 )
 
 put-frames-same-length : (t : ℕ) → At put-frames-lts.Need-same-length t
@@ -119,16 +118,16 @@ put-frames-same-length t c = search needs
 put-frames-returns-2 : (t : ℕ) → At put-frames-lts.Need-returns-2 t
 put-frames-returns-2 t c = let a = c .before .before .before .before .before .before .before .before .before .before .before .before .before .before .before .before .before .args in
     put-frame (now (a .bytes)) (now (a .rows)) (now (a .out)) (c .before .before .before .before .before .before .before .before .before .before .before .before .before .if1 .left) _ _ (start-is t (c .before .before .before .before .before .before .before .before .before .before)) (length-is t (c .before .before .before .before .before .before .before .before .before .before)) (length (now (a .out))) (c .before .before .before .before .before .before .before .before .before .before .before .before .before .before .before .before .before .pre .1) (c .before .before .before .before .before .before .before .copy-bytes .last .0) _ (c .before .before .before .before .before .before .before .copy-bytes .ensures)
-    (c .before .before .put-frames .ensures ∙ ap (λ (l : List ℕ). over (frames (now (a .bytes)) (rowsIn l)) (take (length (c .before .before .before .before .before .before .before .copy-bytes .last .0) - c .before .before .before .before .before .before .before .before .before .before .wide2 .result) (drop (c .before .before .before .before .before .before .before .before .before .before .wide2 .result) (c .before .before .before .before .before .before .before .copy-bytes .last .0)))) (part-to-end rowWidth (now (a .rows))))
+    (c .before .before .put-frames .ensures ∙ ap (λ (l : List ℕ). over (frames (now (a .bytes)) (rowsIn l)) (take (length (c .before .before .before .before .before .before .before .copy-bytes .last .0) - c .before .before .before .before .before .before .before .before .before .before .before .before .first-row .result .length) (drop (c .before .before .before .before .before .before .before .before .before .before .before .before .first-row .result .length) (c .before .before .before .before .before .before .before .copy-bytes .last .0)))) (part-to-end rowWidth (now (a .rows))))
 
 pub +put-frames-spec : {M : Type 1} → statement M
 +put-frames-spec = close μ-put-frames λ t. put-frames-lts.spec (callees t)
     (put-frames-at t)
     put-frames.Post
     (put-frames-returns t)
-    (put-frames-row-at-requires t)
-    (put-frames-wide-requires t)
-    (put-frames-wide-requires-2 t)
+    (put-frames-first-row-requires t)
+    (put-frames-cast-start t)
+    (put-frames-cast-length t)
     (put-frames-add-end t)
     (put-frames-sub-copy-bytes t)
     (put-frames-part-copy-bytes-start t)

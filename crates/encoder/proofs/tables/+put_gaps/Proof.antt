@@ -6,7 +6,7 @@ use denote.Ref.{now}
 use Rattle.rtp.specs.Areas.{over}
 use Rattle.rtp.proofs.AreaLaws.{part-length, part-to-end}
 use Rattle.formats.specs.Formats.{stepOf}
-use Rattle.encoder.specs.Plans.{gapBetween}
+use Rattle.plans.specs.Plans.{gapBetween}
 use Rattle.encoder.specs.Bytes.{halves}
 use Rattle.encoder.specs.Room.{blockGaps, GapRoom}
 use Rattle.encoder.proofs.GapLaws.{one-words, one-small, two-words, two-small, two-rest, put-no-gap, put-one-gap, put-two-gaps}
@@ -17,7 +17,7 @@ use borrow.Fn.PlainCycle.{Measures, is, falls, and}
 use Rattle.encoder.proofs.tables.put_gaps.Reads as put-gaps
 use Rattle.encoder.proofs.tables.put_gaps.Kinds as put-gaps-kinds
 use Rattle.encoder.proofs.tables.+put_gaps.Lts-put_gaps as put-gaps-lts
-use Rattle.encoder.proofs.plans.gap_between.Reads as gap-between-reads
+use Rattle.plans.proofs.planning.gap_between.Reads as gap-between-reads
 use Rattle.encoder.proofs.tables.+put_gaps.{statement}
 use Rattle.encoder.proofs.tables.+put_gaps.Tie.{close}
 

@@ -8,10 +8,11 @@ use denote.Ref.{now}
 use Rattle.rtp.specs.Sizes.{rowWidth}
 use Rattle.rtp.specs.Areas.{over}
 use Rattle.rtp.proofs.AreaLaws.{part-length, part-to-end}
-use Rattle.encoder.specs.declared.lists.RowWords.{RowWords}
-use Rattle.encoder.specs.Lists.{rowsIn}
-use Rattle.encoder.specs.Plans.{planFrom}
-use Rattle.encoder.specs.Room.{rowAs, wordsAt, timed, joined, RunRoom, planBytes}
+use Rattle.plans.specs.declared.lists.RowWords.{RowWords}
+use Rattle.plans.specs.Lists.{rowsIn}
+use Rattle.plans.specs.Plans.{planFrom}
+use Rattle.plans.specs.Room.{rowAs, wordsAt}
+use Rattle.encoder.specs.Room.{timed, joined, RunRoom, planBytes}
 use Rattle.encoder.proofs.TableLaws.{first-words, first-run, Entered, entered, put-no-run, put-run}
 use borrow.Author.Needs.{needs}
 use Prim.Native.Nat.{ℕ, suc, _+_, _-_, _*_, _≤_, _<_}
@@ -20,7 +21,7 @@ use borrow.Fn.PlainCycle.{Measures, is, falls, and}
 use Rattle.encoder.proofs.tables.put_table.Reads as put-table
 use Rattle.encoder.proofs.tables.put_table.Kinds as put-table-kinds
 use Rattle.encoder.proofs.tables.+put_table.Lts-put_table as put-table-lts
-use Rattle.encoder.proofs.lists.row_at.Reads as row-at-reads
+use Rattle.plans.proofs.lists.first_row.Reads as first-row-reads
 use Rattle.encoder.proofs.tables.joined_blocks.Reads as joined-blocks-reads
 use Rattle.encoder.proofs.tables.put_entry.Reads as put-entry-reads
 use Rattle.contents.proofs.entries.entry_size.Reads as entry-size-reads
@@ -39,7 +40,7 @@ put-table-below t =
 
 -- what the callees ask and give
 abbrev callees : ℕ → put-table-lts.Claims
-callees t = (row-at-reads.Asked, row-at-reads.Learnt, joined-blocks-reads.Asked, joined-blocks-reads.Learnt, put-entry-reads.Asked, put-entry-reads.Learnt, entry-size-reads.Asked, entry-size-reads.Learnt, put-table-below t, put-table.Post)
+callees t = (first-row-reads.Asked, first-row-reads.Learnt, joined-blocks-reads.Asked, joined-blocks-reads.Learnt, put-entry-reads.Asked, put-entry-reads.Learnt, entry-size-reads.Asked, entry-size-reads.Learnt, put-table-below t, put-table.Post)
 
 -- a need or a place at the measure t
 abbrev At : (put-table-lts.Claims → In 2 put-table-kinds.ps → Out 2 put-table-kinds.ps put-table-kinds.r → Type 0) → ℕ → Type 0
@@ -54,8 +55,8 @@ blocks-at : (t : ℕ) (c : At put-table-lts.After-joined-blocks t) → let a = c
 blocks-at t c =
     let a = c .before .before .before .before .before .before .args in
     add-one (c .joined-blocks .result) ∙ ap suc (c .joined-blocks .ensures
-    ∙ ap (λ (l : List ℕ). joined (a .format) (rowAs (c .before .before .row-at .result)) (planFrom (a .format) (a .channels) 0 (rowAs (c .before .before .row-at .result)) (rowsIn l))) (part-to-end (rowWidth * a .channels) (now (a .rows)))
-    ∙ ap (λ (w : RowWords). joined (a .format) (rowAs w) (planFrom (a .format) (a .channels) 0 (rowAs w) (rowsIn (drop (rowWidth * a .channels) (now (a .rows)))))) (c .before .before .row-at .ensures))
+    ∙ ap (λ (l : List ℕ). joined (a .format) (rowAs (c .before .before .first-row .result)) (planFrom (a .format) (a .channels) 0 (rowAs (c .before .before .first-row .result)) (rowsIn l))) (part-to-end (rowWidth * a .channels) (now (a .rows)))
+    ∙ ap (λ (w : RowWords). joined (a .format) (rowAs w) (planFrom (a .format) (a .channels) 0 (rowAs w) (rowsIn (drop (rowWidth * a .channels) (now (a .rows)))))) (c .before .before .first-row .ensures))
 
 entered-at : (t : ℕ) (c : At put-table-lts.After-joined-blocks t) → let a = c .before .before .before .before .before .before .args in
     Entered (a .format) (a .channels) (a .previous) (now (a .rows)) (length (now (a .out))) (c .joined-blocks .result + 1)
@@ -75,8 +76,8 @@ put-table-returns t c = let a = c .before .before .before .args in put-no-run (a
 put-table-mul-width : (t : ℕ) → At put-table-lts.Need-mul-width t
 put-table-mul-width t c = omega (arith, c .before .before .before .pre .1 .channels)
 
-put-table-row-at-requires : (t : ℕ) → At put-table-lts.Need-row-at-requires t
-put-table-row-at-requires t c κs = search needs
+put-table-first-row-requires : (t : ℕ) → At put-table-lts.Need-first-row-requires t
+put-table-first-row-requires t c κs = search needs
 
 put-table-mul-joined-blocks : (t : ℕ) → At put-table-lts.Need-mul-joined-blocks t
 put-table-mul-joined-blocks t c = omega (arith, c .before .before .before .before .pre .1 .channels)
@@ -92,7 +93,7 @@ put-table-part-joined-blocks-end t c = search needs
 
 put-table-joined-blocks-requires : (t : ℕ) → At put-table-lts.Need-joined-blocks-requires t
 put-table-joined-blocks-requires t c κs = let a = c .before .before .before .before .before .args in
-    rw (part-to-end (rowWidth * a .channels) (now (a .rows))) (subst (λ (w : RowWords). RunRoom (a .format) (a .channels) (rowAs w) (drop (rowWidth * a .channels) (now (a .rows)))) (sym (c .before .row-at .ensures))
+    rw (part-to-end (rowWidth * a .channels) (now (a .rows))) (subst (λ (w : RowWords). RunRoom (a .format) (a .channels) (rowAs w) (drop (rowWidth * a .channels) (now (a .rows)))) (sym (c .before .first-row .ensures))
     (first-run (a .format) (a .channels) (a .previous) (now (a .rows)) (length (now (a .out))) (c .before .before .before .before .before .pre .1) (c .before .before .if1 .left)))
 
 put-table-add-blocks : (t : ℕ) → At put-table-lts.Need-add-blocks t
@@ -164,7 +165,7 @@ pub +put-table-spec : {M : Type 1} → statement M
     put-table.Post
     (put-table-returns t)
     (put-table-mul-width t)
-    (put-table-row-at-requires t)
+    (put-table-first-row-requires t)
     (put-table-mul-joined-blocks t)
     (put-table-sub-joined-blocks t)
     (put-table-part-joined-blocks-start t)

@@ -8,19 +8,19 @@ use Rattle.encoder.proofs.tables.first_byte.Statement.{statement}
 use Rattle.encoder.proofs.tables.first_byte.Tie as tie
 
 -- the byte, and that it is one
-byte-at : (c : tie.After-struct-known) → let a = c .before .before .before .before .before .args in
-    c .before .flag-of .result + c .before .before .format-of .result .unit * c .before .before .before .wide .result ≡ firstByte (a .format) (a .more) (a .class) (a .length)
+byte-at : (c : tie.After-struct-known) → let a = c .before .before .before .before .args in
+    c .before .flag-of .result + c .before .before .format-of .result .unit * c .before .before .before .code-for .result ≡ firstByte (a .format) (a .more) (a .class) (a .length)
 unfolding firstByte
-byte-at c = simp (c .before .flag-of .ensures, c .before .before .format-of .ensures, c .before .before .before .wide .ensures .0, c .before .before .before .before .code-for .ensures)
+byte-at c = simp (c .before .flag-of .ensures, c .before .before .format-of .ensures, c .before .before .before .code-for .ensures)
 
-small-at : (c : tie.After-struct-known) → c .before .flag-of .result + c .before .before .format-of .result .unit * c .before .before .before .wide .result < 256
-small-at c = let a = c .before .before .before .before .before .args in omega (arith, byte-at c, first-small (a .format) (a .more) (a .class) (a .length) (c .before .before .before .before .before .pre))
+small-at : (c : tie.After-struct-known) → c .before .flag-of .result + c .before .before .format-of .result .unit * c .before .before .before .code-for .result < 256
+small-at c = let a = c .before .before .before .before .args in omega (arith, byte-at c, first-small (a .format) (a .more) (a .class) (a .length) (c .before .before .before .before .pre))
 
 code-for-requires : tie.Need-code-for-requires
 code-for-requires c κs = search needs
 
-wide-requires : tie.Need-wide-requires
-wide-requires c κs = search needs
+cast-code : tie.Need-cast-code
+cast-code c = search needs
 
 format-of-requires : tie.Need-format-of-requires
 format-of-requires c κs = search needs
@@ -45,7 +45,7 @@ first-byte-spec =
     tie.close
     (tie.spec
     code-for-requires
-    wide-requires
+    cast-code
     format-of-requires
     flag-of-requires
     mul-result

@@ -7,9 +7,10 @@ use Rattle.rtp.specs.Areas.{over}
 use Rattle.rtp.proofs.AreaLaws.{part-length}
 use Rattle.formats.specs.declared.facts.Format.{Format}
 use Rattle.formats.specs.Tags.{tagClass}
-use Rattle.encoder.specs.declared.lists.RowWords.{RowWords}
+use Rattle.plans.specs.declared.lists.RowWords.{RowWords}
 use Rattle.encoder.specs.Bytes.{startBytes}
-use Rattle.encoder.specs.Room.{rowAs, wordsAt, GapRoom, StartRoom}
+use Rattle.plans.specs.Room.{rowAs, wordsAt}
+use Rattle.encoder.specs.Room.{GapRoom, StartRoom}
 use Rattle.encoder.proofs.EntryLaws.{room-start, room-gaps, put-plain, put-displaced}
 use borrow.Author.Needs.{needs}
 use Rattle.encoder.proofs.tables.put_entry.Statement.{statement}
@@ -21,22 +22,22 @@ start-at : (c : tie.After-put-start) → let a = c .before .before .before .befo
 start-at c =
     let a = c .before .before .before .before .before .before .args in
     c .put-start .ensures
-    ∙ ap (λ (k : ℕ). over (startBytes (a .format) (a .more) k (c .before .before .before .row-at .result .length) (a .blocks)) (now (a .out))) (c .before .before .tag-class .ensures)
-    ∙ ap (λ (w : RowWords). over (startBytes (a .format) (a .more) (tagClass (w .tag)) (w .length) (a .blocks)) (now (a .out))) (c .before .before .before .row-at .ensures)
+    ∙ ap (λ (k : ℕ). over (startBytes (a .format) (a .more) k (c .before .before .before .first-row .result .length) (a .blocks)) (now (a .out))) (c .before .before .tag-class .ensures)
+    ∙ ap (λ (w : RowWords). over (startBytes (a .format) (a .more) (tagClass (w .tag)) (w .length) (a .blocks)) (now (a .out))) (c .before .before .before .first-row .ensures)
 
 -- the displacements come after them
 within-at : (c : tie.After-min-entry) → c .min-entry .result ≤ length (c .before .before .before .before .before .put-start .last .1 .1 .1 .1 .1 .0)
 within-at c = let a = c .before .before .before .before .before .before .before .before .before .before .before .args in omega (arith, c .min-entry .ensures, c .before .before .before .before .before .put-start .kept .1 .1 .1 .1 .1 .0, room-start (a .format) (a .width) (a .blocks) (a .previous) (now (a .rows)) (length (now (a .out))) (c .before .before .before .before .before .before .before .before .before .before .before .pre) .room)
 
-row-at-requires : tie.Need-row-at-requires
-row-at-requires c κs = search needs
+first-row-requires : tie.Need-first-row-requires
+first-row-requires c κs = search needs
 
 tag-class-requires : tie.Need-tag-class-requires
 tag-class-requires c κs = search needs
 
 put-start-requires : tie.Need-put-start-requires
-put-start-requires c κs = let a = c .before .before .before .before .before .args in subst (λ (k : ℕ). StartRoom (a .format) k (c .before .before .row-at .result .length) (a .blocks) (length (now (a .out)))) (sym (c .before .tag-class .ensures))
-    (subst (λ (w : RowWords). StartRoom (a .format) (tagClass (w .tag)) (w .length) (a .blocks) (length (now (a .out)))) (sym (c .before .before .row-at .ensures)) (room-start (a .format) (a .width) (a .blocks) (a .previous) (now (a .rows)) (length (now (a .out))) (c .before .before .before .before .before .pre)))
+put-start-requires c κs = let a = c .before .before .before .before .before .args in subst (λ (k : ℕ). StartRoom (a .format) k (c .before .before .first-row .result .length) (a .blocks) (length (now (a .out)))) (sym (c .before .tag-class .ensures))
+    (subst (λ (w : RowWords). StartRoom (a .format) (tagClass (w .tag)) (w .length) (a .blocks) (length (now (a .out)))) (sym (c .before .before .first-row .ensures)) (room-start (a .format) (a .width) (a .blocks) (a .previous) (now (a .rows)) (length (now (a .out))) (c .before .before .before .before .before .pre)))
 
 format-of-requires : tie.Need-format-of-requires
 format-of-requires c κs = search needs
@@ -73,7 +74,7 @@ pub put-entry-spec : {M : Type 1} → statement M
 put-entry-spec =
     tie.close
     (tie.spec
-    row-at-requires
+    first-row-requires
     tag-class-requires
     put-start-requires
     format-of-requires

@@ -7,8 +7,8 @@ use Rattle.rtp.specs.Time.{difference}
 use Rattle.rtp.specs.Areas.{over}
 use Rattle.rtp.proofs.AreaLaws.{part-length}
 use Rattle.formats.specs.Formats.{stepOf}
-use Rattle.encoder.specs.Lists.{rowsIn}
-use Rattle.encoder.specs.Plans.{planFrom}
+use Rattle.plans.specs.Lists.{rowsIn}
+use Rattle.plans.specs.Plans.{planFrom}
 use Rattle.encoder.specs.Room.{timed, TableRoom, planBytes}
 use Rattle.encoder.proofs.PayloadLaws.{payload-row, payload-table, table-room, frames-room, put-both}
 use borrow.Author.Needs.{needs}

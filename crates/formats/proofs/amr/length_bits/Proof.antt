@@ -1,31 +1,28 @@
-use borrow.Author.Tests.{eq-eqb, ne-eqb}
-use Rattle.formats.specs.Codes.{lengthBits}
+use mathlib.Core.Path.{_∙_}
+use borrow.Author.Tests.{eq-eqb, ne-eqb, le-leb, lt-leb}
+use Rattle.formats.proofs.AmrLaws.{byFour, by-four}
 use Rattle.formats.proofs.amr.length_bits.Statement.{statement}
 use Rattle.formats.proofs.amr.length_bits.Tie as tie
 
 returns : tie.Need-returns
-unfolding lengthBits
-returns c = simp (eq-eqb _ _ (c .if1 .taken))
+unfolding byFour
+returns c = (simp (eq-eqb _ _ (c .if1 .taken))) ∙ by-four _ _
 
 returns-2 : tie.Need-returns-2
-unfolding lengthBits
-returns-2 c = simp (ne-eqb _ _ (c .before .if1 .left), eq-eqb _ _ (c .if2 .taken))
+unfolding byFour
+returns-2 c = (simp (ne-eqb _ _ (c .before .if1 .left), le-leb _ _ (c .if2 .taken))) ∙ by-four _ _
 
 returns-3 : tie.Need-returns-3
-unfolding lengthBits
-returns-3 c = simp (ne-eqb _ _ (c .before .before .if1 .left), ne-eqb _ _ (c .before .if2 .left), eq-eqb _ _ (c .if3 .taken))
+unfolding byFour
+returns-3 c = (simp (ne-eqb _ _ (c .before .before .if1 .left), lt-leb _ _ (c .before .if2 .left), eq-eqb _ _ (c .if3 .taken))) ∙ by-four _ _
 
 returns-4 : tie.Need-returns-4
-unfolding lengthBits
-returns-4 c = simp (ne-eqb _ _ (c .before .before .before .if1 .left), ne-eqb _ _ (c .before .before .if2 .left), ne-eqb _ _ (c .before .if3 .left), eq-eqb _ _ (c .if4 .taken))
+unfolding byFour
+returns-4 c = (simp (ne-eqb _ _ (c .before .before .before .if1 .left), lt-leb _ _ (c .before .before .if2 .left), ne-eqb _ _ (c .before .if3 .left), eq-eqb _ _ (c .if4 .taken))) ∙ by-four _ _
 
 returns-5 : tie.Need-returns-5
-unfolding lengthBits
-returns-5 c = simp (ne-eqb _ _ (c .before .before .before .before .if1 .left), ne-eqb _ _ (c .before .before .before .if2 .left), ne-eqb _ _ (c .before .before .if3 .left), ne-eqb _ _ (c .before .if4 .left), eq-eqb _ _ (c .if5 .taken))
-
-returns-6 : tie.Need-returns-6
-unfolding lengthBits
-returns-6 c = simp (ne-eqb _ _ (c .before .before .before .before .if1 .left), ne-eqb _ _ (c .before .before .before .if2 .left), ne-eqb _ _ (c .before .before .if3 .left), ne-eqb _ _ (c .before .if4 .left), ne-eqb _ _ (c .if5 .left))
+unfolding byFour
+returns-5 c = (simp (ne-eqb _ _ (c .before .before .before .if1 .left), lt-leb _ _ (c .before .before .if2 .left), ne-eqb _ _ (c .before .if3 .left), ne-eqb _ _ (c .if4 .left))) ∙ by-four _ _
 
 pub length-bits-spec : {M : Type 1} → statement M
-length-bits-spec = tie.close (tie.spec returns returns-2 returns-3 returns-4 returns-5 returns-6)
+length-bits-spec = tie.close (tie.spec returns returns-2 returns-3 returns-4 returns-5)

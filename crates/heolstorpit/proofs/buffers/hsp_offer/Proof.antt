@@ -1,4 +1,5 @@
 use Rattle.heolstorpit.proofs.AnswerLaws.{offers-same}
+use Rattle.heolstorpit.proofs.PlaceLaws.{answer-place-fits}
 use borrow.Author.Needs.{needs}
 use Rattle.heolstorpit.proofs.buffers.hsp_offer.Statement.{statement}
 use Rattle.heolstorpit.proofs.buffers.hsp_offer.Tie as tie
@@ -7,7 +8,7 @@ offer-requires : tie.Need-offer-requires
 offer-requires c κs = search needs
 
 offer-fields-requires : tie.Need-offer-fields-requires
-offer-fields-requires c κs = search needs
+offer-fields-requires c κs = answer-place-fits _ _ _ _ _ _ _ _ (c .before .before .before .before .before .offer .ensures)
 
 same-length : tie.Need-same-length
 same-length c = search needs

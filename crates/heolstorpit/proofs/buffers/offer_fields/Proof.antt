@@ -1,4 +1,6 @@
 use Rattle.heolstorpit.proofs.AnswerLaws.{offer-judged, offer-refused}
+use Rattle.heolstorpit.proofs.PlaceLaws.{offer-place-fits}
+use native.Mathlib.Omega.{arith}
 use borrow.Author.Needs.{needs}
 use Rattle.heolstorpit.proofs.buffers.offer_fields.Statement.{statement}
 use Rattle.heolstorpit.proofs.buffers.offer_fields.Tie as tie
@@ -12,13 +14,22 @@ enum-known-answer-2 c = search needs
 refusal-number-requires : tie.Need-refusal-number-requires
 refusal-number-requires c κs = search needs
 
+cast-t7 : tie.Need-cast-t7
+cast-t7 c = omega (arith, offer-place-fits _ _ (c .before .before .before .answer2 .given .1) (c .before .before .before .before .before .pre))
+
 returns : tie.Need-returns
 returns c = offer-judged _ _ (c .before .answer .given .1)
 
 returns-2 : tie.Need-returns-2
-returns-2 c = offer-refused _ _ _ (c .before .before .answer2 .given .1) (c .refusal-number .ensures)
+returns-2 c = offer-refused _ _ _ (c .before .before .before .answer2 .given .1) (c .before .refusal-number .ensures)
 
 pub offer-fields-spec : {M : Type 1} → statement M
 offer-fields-spec =
     tie.close
-    (tie.spec enum-known-answer enum-known-answer-2 refusal-number-requires returns returns-2)
+    (tie.spec
+    enum-known-answer
+    enum-known-answer-2
+    refusal-number-requires
+    cast-t7
+    returns
+    returns-2)

@@ -1,4 +1,6 @@
 use Rattle.heolstorpit.proofs.AnswerLaws.{refused-numbers, read-numbers}
+use Rattle.heolstorpit.proofs.PlaceLaws.{reading-place-fits}
+use native.Mathlib.Omega.{arith}
 use mathlib.Core.Path.{_∙_}
 use borrow.Author.Needs.{needs}
 use Rattle.heolstorpit.proofs.reading.hsp_read.Statement.{statement}
@@ -7,29 +9,32 @@ use Rattle.heolstorpit.proofs.reading.hsp_read.Tie as tie
 read-requires : tie.Need-read-requires
 read-requires c κs = search needs
 
-enum-known-reason : tie.Need-enum-known-reason
-enum-known-reason c = search needs
+enum-known-fault : tie.Need-enum-known-fault
+enum-known-fault c = search needs
 
 refusal-number-requires : tie.Need-refusal-number-requires
 refusal-number-requires c κs = search needs
 
+cast-t12 : tie.Need-cast-t12
+cast-t12 c = omega (arith, reading-place-fits _ _ _ _ _ (c .before .before .before .fault .given .1) (c .before .before .before .before .before .before .before .read .ensures .0))
+
 enum-known-found : tie.Need-enum-known-found
 enum-known-found c = search needs
 
-cast-t11 : tie.Need-cast-t11
-cast-t11 c = search needs
-
-cast-t12 : tie.Need-cast-t12
-cast-t12 c = search needs
-
 cast-t13 : tie.Need-cast-t13
 cast-t13 c = search needs
+
+cast-t14 : tie.Need-cast-t14
+cast-t14 c = search needs
+
+cast-t15 : tie.Need-cast-t15
+cast-t15 c = search needs
 
 same-length : tie.Need-same-length
 same-length c = search needs
 
 returns : tie.Need-returns
-returns c = (refused-numbers _ _ _ (c .before .before .reason .given .1) (c .refusal-number .ensures) ∙ c .before .before .before .before .before .before .read .ensures .0, c .before .before .before .before .before .before .read .ensures .1)
+returns c = (refused-numbers _ _ _ (c .before .before .before .fault .given .1) (c .before .refusal-number .ensures) ∙ c .before .before .before .before .before .before .before .read .ensures .0, c .before .before .before .before .before .before .before .read .ensures .1)
 
 same-length-2 : tie.Need-same-length-2
 same-length-2 c = search needs
@@ -42,12 +47,13 @@ hsp-read-spec =
     tie.close
     (tie.spec
     read-requires
-    enum-known-reason
+    enum-known-fault
     refusal-number-requires
-    enum-known-found
-    cast-t11
     cast-t12
+    enum-known-found
     cast-t13
+    cast-t14
+    cast-t15
     same-length
     returns
     same-length-2

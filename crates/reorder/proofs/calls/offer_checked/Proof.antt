@@ -84,8 +84,8 @@ returns-3 c =
 read-requires : tie.Need-read-requires
 read-requires c κs = search needs
 
-enum-known-refusal : tie.Need-enum-known-refusal
-enum-known-refusal c = search needs
+enum-known-fault : tie.Need-enum-known-fault
+enum-known-fault c = search needs
 
 refuse-offer-requires-4 : tie.Need-refuse-offer-requires-4
 refuse-offer-requires-4 c κs = search needs
@@ -122,7 +122,7 @@ returns-4 c =
     let s = c .before .before .before .before .before .before .before .before .before .before .before .before .before .before .before .before .before .before .before .before .before .before .before .before .before in
     let a = s .args in
     let r = c .before .before .before .before .before .before .read in
-    let q = c .before .before .refusal .given in
+    let q = c .before .before .fault .given in
     let o = reading (a .buffer .settings) (length (now (a .rows))) (now (a .packet)) in
     let e : readingNumbers (Reading.Refused (q .0 .0)) ≡ outcomeNumbers o = ap readingNumbers (sym (q .1)) ∙ r .ensures .0 in
     let z : now (a .rows) ≡ r .last .1 .1 .0 = sym (r .ensures .1 ∙ ap (λ (x : List ℕ). over x (now (a .rows))) (refused-words o (q .0 .0) e) ∙ over-none (now (a .rows))) in
@@ -156,7 +156,7 @@ offer-checked-spec =
     refuse-offer-requires-3
     returns-3
     read-requires
-    enum-known-refusal
+    enum-known-fault
     refuse-offer-requires-4
     enum-known-head
     cast-words

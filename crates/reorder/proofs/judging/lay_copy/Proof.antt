@@ -1,4 +1,4 @@
-use mathlib.Core.Path.{_≡_, sym, _∙_, ap, subst}
+use mathlib.Core.Path.{_≡_, sym, _∙_, ap₂, subst₂}
 use Prim.Native.Nat.{ℕ, _<_, _≤_, _^_}
 use mir.Val.{Fits}
 use mir.Syntax.{w32}
@@ -6,11 +6,12 @@ use lib.ListN.{length}
 use denote.Ref.{now}
 use Rattle.playout.specs.Sizes.{slotSize}
 use Rattle.layout.specs.declared.buffer.Buffer.{Buffer}
-use Rattle.reorder.specs.declared.columns.Place.{Place}
-use Rattle.reorder.specs.Places.{Parted, placeFrom}
+use Rattle.placing.specs.declared.columns.Place.{Place}
+use Rattle.placing.specs.Places.{Parted, placeFrom}
 use Rattle.layout.specs.Layout.{assembled}
 use Rattle.reorder.specs.Laying.{classIn, channelIn}
 use Rattle.layout.proofs.AllowedLaws.{allowed-frame}
+use Rattle.placing.proofs.BoundLaws.{used-is}
 use Rattle.reorder.proofs.VerdictLaws.{held-at, step-found, place-in, step-full, step-new}
 use Rattle.reorder.proofs.PlaceSearchLaws.{parts}
 use borrow.Author.Needs.{needs}
@@ -30,23 +31,26 @@ word-at s = let f : Fits w32 (s .args .head .time) = search needs in f .fits
 abbrev place-at : tie.Start → Place
 place-at s = let a = s .args in placeFrom (now (a .times)) (now (a .tags)) (a .head .time) (channelIn (a .head)) (a .n) 0
 
+parted-at : (s : tie.Start) → let a = s .args in Parted (now (a .times)) (now (a .tags)) (a .head .time) (channelIn (a .head)) (a .n)
+parted-at s =
+    let a = s .args in
+    let t = s .pre .3 in
+    parts (buffer-at s) (a .head) (now (a .frame)) (now (a .store)) (s .pre .2) (word-at s) (t .not-late) (t .not-far) (a .n) (s .pre .0)
+
 found-at : (c : tie.After-find-place) → c .find-place .result .place ≡ place-at (c .before .before .before .before .before .before)
 found-at c =
-    let a = c .before .before .before .before .before .before .args in
-    c .find-place .ensures .1 ∙ ap (λ (d : ℕ). placeFrom (now (a .times)) (now (a .tags)) (a .head .time) d (a .n) 0) (c .before .before .before .tag-channel .ensures .0)
+    let s = c .before .before .before .before .before .before in
+    let a = s .args in
+    let e = c .before .before .before .tag-channel .ensures .0 in
+    let u = used-is (a .n) (s .pre .1) in
+    c .find-place .ensures .1 (subst₂ (Parted (now (a .times)) (now (a .tags)) (a .head .time)) (sym e) (sym u) (parted-at s))
+    ∙ ap₂ (λ (d m : ℕ). placeFrom (now (a .times)) (now (a .tags)) (a .head .time) d m 0) e u
 
 tag-channel-requires : tie.Need-tag-channel-requires
 tag-channel-requires c κs = search needs
 
 find-place-requires : tie.Need-find-place-requires
-find-place-requires c κs =
-    let s = c .before .before .before .before .before in
-    let a = s .args in
-    let t = s .pre .3 in (
-      s .pre .1,
-      subst (λ (d : ℕ). Parted (now (a .times)) (now (a .tags)) (a .head .time) d (a .n)) (sym (c .before .before .tag-channel .ensures .0))
-          (parts (buffer-at s) (a .head) (now (a .frame)) (now (a .store)) (s .pre .2) (word-at s) (t .not-late) (t .not-far) (a .n) (s .pre .0)),
-    )
+find-place-requires c κs = search needs
 
 enum-known-place : tie.Need-enum-known-place
 enum-known-place c = search needs

@@ -8,6 +8,7 @@ use Rattle.playout.specs.Sizes.{slots, slotSize}
 use Rattle.layout.specs.Bits.{lowestFree, claimed}
 use Rattle.layout.specs.Columns.{insertAt}
 use Rattle.layout.proofs.FreeLaws.{free-when-room, free-unmarked, claimed-free}
+use Rattle.placing.proofs.BoundLaws.{insertion-is, laid-is}
 use borrow.Author.Needs.{needs}
 use Rattle.reorder.proofs.laying.insert_copy.Statement.{statement}
 use Rattle.reorder.proofs.laying.insert_copy.Tie as tie
@@ -43,23 +44,25 @@ mul-copy-into : tie.Need-mul-copy-into
 mul-copy-into c = omega (arith, slot-at (c .before .before .before .before .before .before .before .before .before .before))
 
 copy-into-requires : tie.Need-copy-into-requires
-copy-into-requires c κs = omega (arith, slot-at (c .before .before .before .before .before .before .before .before .before .before), c .before .before .before .before .before .before .before .before .before .before .before .before .before .pre .short, c .before .before .before .before .before .before .before .before .before .before .before .before .before .pre .room)
+copy-into-requires c κs = search needs
 
 same-length : tie.Need-same-length
 same-length c = search needs
 
 returns : tie.Need-returns
 returns c =
-    let a = c .before .before .before .before .before .before .before .before .before .before .before .before .before .before .before .before .args in
+    let s = c .before .before .before .before .before .before .before .before .before .before .before .before .before .before .before .before in
+    let a = s .args in
+    let g = s .pre in
     let e = c .before .before .before .before .before .before .before .before .before .before .before .before .before .lowest-free .ensures in
     let l : lowestFree (a .occupied) < slots = rw e at (slot-at (c .before .before .before .before .before .before .before .before .before .before .before .before .before)) in
     record {
-      times-left = c .before .before .before .before .before .before .before .before .before .before .insert-at .ensures;
-      tags-left = c .before .before .before .before .before .before .before .before .insert-at2 .ensures;
-      lengths-left = c .before .before .before .before .before .before .insert-at3 .ensures;
-      slots-left = c .before .before .before .before .insert-at4 .ensures ∙ ap (insertAt (now (a .slots)) (a .n) (a .at)) e;
+      times-left = c .before .before .before .before .before .before .before .before .before .before .insert-at .ensures ∙ insertion-is _ _ _ _ (g .place) (g .space);
+      tags-left = c .before .before .before .before .before .before .before .before .insert-at2 .ensures ∙ insertion-is _ _ _ _ (g .place) (g .space);
+      lengths-left = c .before .before .before .before .before .before .insert-at3 .ensures ∙ insertion-is _ _ _ _ (g .place) (g .space);
+      slots-left = c .before .before .before .before .insert-at4 .ensures ∙ insertion-is _ _ _ _ (g .place) (g .space) ∙ ap (insertAt (now (a .slots)) (a .n) (a .at)) e;
       words-left = c .before .before .before .before .before .before .before .before .before .before .before .before .mark .ensures ∙ ap (claimed (a .occupied)) e ∙ claimed-free (a .occupied) (lowestFree (a .occupied)) l (free-unmarked (a .occupied) l);
-      store-left = c .before .before .copy-into .ensures ∙ ap (λ (k : ℕ). paste (now (a .store)) (slotSize * k) (now (a .frame)) (length (now (a .frame)))) e;
+      store-left = c .before .before .copy-into .ensures ∙ laid-is _ _ _ (omega (arith, slot-at (c .before .before .before .before .before .before .before .before .before .before .before .before .before), g .short, g .room)) ∙ ap (λ (k : ℕ). paste (now (a .store)) (slotSize * k) (now (a .frame)) (length (now (a .frame)))) e;
     }
 
 pub insert-copy-spec : {M : Type 1} → statement M

@@ -1,6 +1,6 @@
 use mathlib.Core.List.{List}
-use Prim.Native.Nat.{ℕ, _+_, _-_, _*_}
-use lib.ListN.{getD, take, drop}
+use Prim.Native.Nat.{ℕ, _+_, _-_, _*_, _≤_}
+use lib.ListN.{length, getD, take, drop}
 use Rattle.formats.specs.Tags.{tagClass}
 use Rattle.playout.specs.Copies.{betterFrame}
 use Rattle.reorder.specs.declared.laying.FrameHead.{FrameHead}
@@ -10,6 +10,7 @@ use native.Mathlib.Omega.{arith}
 use denote.Ref.{now}
 use Rattle.playout.specs.Sizes.{slotSize}
 use Rattle.reorder.specs.Laying.{classIn, beats}
+use Rattle.placing.proofs.BoundLaws.{laid-is}
 use borrow.Author.Needs.{needs}
 use Rattle.reorder.proofs.laying.replace_copy.Statement.{statement}
 use Rattle.reorder.proofs.laying.replace_copy.Tie as tie
@@ -91,11 +92,16 @@ copy-into-requires c κs = search needs
 same-length : tie.Need-same-length
 same-length c = search needs
 
+-- the frame fits into the slot of the one that it replaces
+fit-at : (s : tie.Start) → let a = s .args in slotSize * getD (now (a .slots)) (a .at) 0 + length (now (a .frame)) ≤ length (now (a .store))
+fit-at s = let h = s .pre .1 in omega (arith, s .pre .0, h .slot, h .room)
+
 returns : tie.Need-returns
 returns c =
-    let a = c .before .before .before .before .before .before .before .before .before .before .before .before .before .before .before .args in
+    let s = c .before .before .before .before .before .before .before .before .before .before .before .before .before .before .before in
+    let a = s .args in
     let t : beats (a .head) (now (a .frame)) (now (a .tags)) (now (a .lengths)) (now (a .slots)) (a .at) (now (a .store)) ≡ true = sym (part-is (a .head) (now (a .frame)) (now (a .tags)) (now (a .lengths)) (now (a .slots)) (a .at) (now (a .store)) _ _ (c .before .before .before .before .before .before .before .before .tag-class2 .ensures) (c .before .before .before .before .before .before .before .before .before .tag-class .ensures)) ∙ sym (c .before .before .before .before .before .is-better .ensures) ∙ c .before .before .before .before .if1 .taken in
-    record { verdict = rw t; tags-left = rw t; lengths-left = rw t; store-left = rw t (c .before .before .copy-into .ensures) }
+    record { verdict = rw t; tags-left = rw t; lengths-left = rw t; store-left = rw t (c .before .before .copy-into .ensures ∙ laid-is _ _ _ (fit-at s)) }
 
 same-length-2 : tie.Need-same-length-2
 same-length-2 c = search needs

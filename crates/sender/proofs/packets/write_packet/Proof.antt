@@ -4,7 +4,7 @@ use lib.ListN.{length}
 use denote.Ref.{now}
 use Rattle.rtp.specs.Areas.{over}
 use Rattle.payload.specs.Rows.{rowsIn}
-use Rattle.encoder.specs.Lists.{outside}
+use Rattle.plans.specs.Lists.{outside}
 use Rattle.encoder.specs.Writings.{Encoded, askable, roomFor, writtenNumbers, encodedNumbers, encodedBytes}
 use Rattle.encoder.proofs.RequestLaws.{asked}
 use Rattle.encoder.proofs.WritingLaws.{refused-pair}

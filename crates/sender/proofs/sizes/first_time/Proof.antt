@@ -3,7 +3,7 @@ use mathlib.Core.Path.{ap, sym}
 use mathlib.Core.List.{List}
 use Rattle.payload.specs.Rows.{Row}
 use Rattle.payload.proofs.RowLaws.{rows-none, rows-more}
-use Rattle.encoder.specs.Lists.{firstTime}
+use Rattle.plans.specs.Lists.{firstTime}
 use borrow.Author.Needs.{needs}
 use Rattle.sender.proofs.sizes.first_time.Statement.{statement}
 use Rattle.sender.proofs.sizes.first_time.Tie as tie

@@ -1,0 +1,3 @@
+pub mod ModelCalls
+pub mod Calls
+pub mod Drawable

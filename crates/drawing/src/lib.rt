@@ -1,0 +1,2 @@
+// The reorder buffer hands out its earliest frame: the call draw.
+pub mod draws;

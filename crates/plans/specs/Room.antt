@@ -1,0 +1,96 @@
+-- Rows and plans as the code holds them, and what the functions that plan ask of one another inside this crate.
+use Prim.Native.Nat.{ℕ, _+_, _-_, _*_, _≤_, _<_}
+use mathlib.Core.List.{List, [], _∷_}
+use mathlib.Core.Bool.{cond}
+use lib.ListN.{length, getD}
+use lib.Dec.{leb}
+use Rattle.rtp.specs.Sizes.{maxRows, maxFrame}
+use Rattle.contents.specs.Contents.{Contents, refused, groups, entrySize, sizeIn, framesIn}
+use Rattle.formats.specs.Formats.{maxGap}
+use Rattle.payload.specs.Rows.{Row}
+use Rattle.plans.specs.declared.lists.RowWords.{RowWords}
+use Rattle.plans.specs.declared.planning.Plan.{Plan}
+use Rattle.plans.specs.declared.planning.Planned.{Planned}
+use Rattle.plans.specs.declared.planning.ListPlan.{ListPlan}
+use Rattle.plans.specs.Lists.{rowOf}
+use Rattle.plans.specs.Plans.{headGap, joinsRun, payloadSize}
+
+-- the words of the row at a word of the area, with 0 for one past the end
+abbrev pub wordsAt : List ℕ → ℕ → RowWords
+wordsAt ws at = record { time = getD ws at 0; tag = getD ws (at + 1) 0; start = getD ws (at + 2) 0; length = getD ws (at + 3) 0 }
+
+abbrev pub rowAs : RowWords → Row
+rowAs w = rowOf (w .time) (w .tag) (w .start) (w .length)
+
+-- a plan by its first run
+unfoldable pub planAnswer : ℕ → ℕ → Contents → Planned
+planAnswer format ch (refused q) = Planned.Unwritable
+planAnswer format ch (groups []) = Planned.Empty
+planAnswer format ch (groups (g ∷ gs)) = Planned.Table (record {
+  class = g .class;
+  length = g .length;
+  gap = headGap g;
+  blocks = length (g .gaps);
+  table = sizeIn format (g ∷ gs);
+  frames = framesIn ch (g ∷ gs);
+})
+
+-- `attach` by the numbers of the first run
+abbrev pub attachPlan : ℕ → ℕ → Row → ℕ → Planned → Planned
+attachPlan format ch r gap Planned.Unwritable = Planned.Unwritable
+attachPlan format ch r gap Planned.Empty = Planned.Table (record {
+  class = r .class;
+  length = r .length;
+  gap = gap;
+  blocks = 1;
+  table = entrySize format 1;
+  frames = ch * r .length;
+})
+attachPlan format ch r gap (Planned.Table p) =
+    cond (joinsRun format r (p .class) (p .length) (p .gap))
+    (Planned.Table (record {
+      class = p .class;
+      length = p .length;
+      gap = gap;
+      blocks = p .blocks + 1;
+      table = entrySize format (p .blocks + 1) + (p .table - entrySize format (p .blocks));
+      frames = ch * r .length + p .frames;
+    }))
+    (cond (leb (p .gap) (maxGap format))
+    (Planned.Table (record {
+      class = r .class;
+      length = r .length;
+      gap = gap;
+      blocks = 1;
+      table = entrySize format 1 + p .table;
+      frames = ch * r .length + p .frames;
+    }))
+    Planned.Unwritable)
+
+-- the numbers of a plan of at most n frame-blocks stay small
+pub record SmallPlan (format ch n : ℕ) (p : Plan) : Type 0 where
+  pub few : p .blocks ≤ n
+  pub entry : entrySize format (p .blocks) ≤ p .table
+  pub tabled : p .table ≤ 3 * n
+  pub framed : p .frames ≤ n * (ch * maxFrame)
+
+abbrev pub Small : ℕ → ℕ → ℕ → Planned → Type 0
+Small format ch n (Planned.Table p) = SmallPlan format ch n p
+Small format ch n Planned.Empty = Unit {0}
+Small format ch n Planned.Unwritable = Unit {0}
+
+-- a frame-block of a frame that the format has, before a plan of at most as many frame-blocks as a packet has rows
+pub record Attachable (format ch : ℕ) (r : Row) (rest : Planned) : Type 0 where
+  pub channels : ch < 256
+  pub short : r .length ≤ maxFrame
+  pub small : Small format ch maxRows rest
+
+-- the plan of a whole list by the bytes of its table and of the payload
+unfoldable pub listAnswer : ℕ → ℕ → Contents → ListPlan
+listAnswer format ch (refused q) = ListPlan.Unwritable
+listAnswer format ch (groups gs) = ListPlan.Fits (record { table = sizeIn format gs; payload = payloadSize format ch gs })
+
+-- the bytes of a list's frames
+unfoldable pub lengthsIn : List Row → ℕ
+lengthsIn [] = 0
+lengthsIn (r ∷ rs) = r .length + lengthsIn rs
