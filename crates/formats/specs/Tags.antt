@@ -26,3 +26,7 @@ tagChannel tag = tag % 256
 -- either was heard first-hand
 abbrev pub eitherMark : ℕ → ℕ → ℕ
 eitherMark a b = cond (eqb a redundantMark) b a
+
+-- a tag, marked if it or the other one is
+abbrev pub joinedTag : ℕ → ℕ → ℕ
+joinedTag tag other = tagOf (eitherMark (tagMark tag) (tagMark other)) (tagClass tag) (tagChannel tag)

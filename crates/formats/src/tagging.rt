@@ -1,7 +1,7 @@
 // A row's second word, its tag: whether the frame was heard first-hand, its class and its channel.
 ghost use mathlib.Core.Path.{_≡_};
 ghost use Prim.Native.Nat.{_<_};
-ghost use Rattle.formats.specs.Tags.{tagOf, tagMark, tagClass, tagChannel, eitherMark};
+ghost use Rattle.formats.specs.Tags.{tagOf, tagMark, tagClass, tagChannel, joinedTag};
 
 // The mark of a frame heard first-hand: in a plain payload or the primary block; and of one in a redundant block.
 pub const PRIMARY: u8 = 1;
@@ -34,7 +34,7 @@ pub fn tag_channel(tag: u32) -> u32
 
 // The tag, marked if it or the other one is.
 pub fn join_mark(tag: u32, other: u32) -> u32
-    ensures { λ r. ⌜ r ≡ tagOf (eitherMark (tagMark tag) (tagMark other)) (tagClass tag) (tagChannel tag) ⌝ }
+    ensures { λ r. ⌜ r ≡ joinedTag tag other ⌝ }
 {
     if tag_mark(tag) == 0 {
         return tag + 65536 * tag_mark(other);
