@@ -1,6 +1,7 @@
 // A packet in words. Each function answers whether the output takes it.
 use crate::frames;
 use crate::header;
+use crate::places;
 use crate::words;
 use console::lines;
 use console::refusals;
@@ -9,7 +10,7 @@ use packet::reading;
 use packet::reading::Reading;
 use payload::reading::NO_REQUEST;
 use rtp::refusal;
-use rtp::refusal::Refusal;
+use rtp::refusal::Fault;
 use rtp::settings::Settings;
 use rtp::sizes::ROW_AREA;
 
@@ -25,13 +26,19 @@ fn print_size(number: u64, size: usize) -> bool {
     words::print(&mut line, at)
 }
 
-fn print_refusal(why: Refusal) -> bool {
+// The refusal of a packet, with the place at fault where it has one.
+fn print_refusal(fault: Fault, bytes: &[u8]) -> bool {
+    let why = fault.refusal;
     let number = refusal::refusal_number(why);
+    let place = fault.offset;
     let mut line = lines::blank();
     let mut at = lines::put_number(&mut line, 0, b"  refusal ", number as u64);
+    if place != 0 {
+        at = lines::put_number(&mut line, at, b" at byte ", place as u64);
+    }
     at = lines::put(&mut line, at, b": ");
     at = refusals::put_reason(&mut line, at, number);
-    words::print(&mut line, at)
+    words::print(&mut line, at) && places::print(bytes, place)
 }
 
 // The mode request, in a format with a payload header.
@@ -52,7 +59,7 @@ fn print_request(format: u8, mode_request: u8) -> bool {
 fn print_reading(settings: Settings, bytes: &[u8]) -> bool {
     let mut rows = zero_rows();
     match reading::read(settings, bytes, &mut rows) {
-        Reading::Refused(why) => print_refusal(why),
+        Reading::Refused(fault) => print_refusal(fault, bytes),
         Reading::Read(answer) => {
             print_request(settings.format, answer.mode_request)
                 && frames::print(settings.format, &rows, answer.rows)

@@ -6,3 +6,5 @@ pub mod ReadingLaws
 pub mod PlaceLaws
 pub mod RowFactLaws
 pub mod CheckedTableProof
+pub mod CheckedPlacesProof
+pub mod PlaceTheorem

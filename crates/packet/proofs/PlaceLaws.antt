@@ -83,7 +83,7 @@ headed-inside st s (HeaderRead.Header h) q =
     let request = typedRequest st (h .«payload_type») p in
     (outcome-inside _ _ h request (typedRows st h p) fits rows, outcome-inside _ _ h request (typedRows st h p) ends rows)
 
-reading-inside : (st : Settings) (area : ℕ) (s : List ℕ) → OutcomeInside maxPacket (reading st area s) × OutcomeInside (length s) (reading st area s)
+pub reading-inside : (st : Settings) (area : ℕ) (s : List ℕ) → OutcomeInside maxPacket (reading st area s) × OutcomeInside (length s) (reading st area s)
 unfolding reading
 reading-inside st area s =
     by-test (inRange st)

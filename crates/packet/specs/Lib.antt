@@ -3,3 +3,4 @@ pub mod Requests
 pub mod Room
 pub mod Readings
 pub mod CheckedTable
+pub mod Places

@@ -111,11 +111,19 @@ fn print_rows(rows: &[u32; ROW_AREA], count: u32) {
     }
 }
 
+// The offset of the place at fault, 0 where there is none.
+fn print_offset(offset: usize) {
+    io::write_all(1, b" offset ");
+    io::print_decimal(1, offset as u64);
+    io::write_all(1, b"\n");
+}
+
 fn print_reading(format: u8, answer: Reading, rows: &[u32; ROW_AREA]) {
     match answer {
-        Reading::Refused(why) => {
+        Reading::Refused(fault) => {
+            let why = fault.refusal;
             print(b"refusal ", refusal::refusal_number(why));
-            io::write_all(1, b"\n");
+            print_offset(fault.offset);
         }
         Reading::Read(packet) => {
             print_header(format, packet);

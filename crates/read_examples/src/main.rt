@@ -1,10 +1,11 @@
-// Reads packets, whole and damaged, and prints for each what reading answers: the refusal's number; or row count, marker,
+// Reads packets, whole and damaged, and prints for each what reading answers: the refusal's number and offset; or row count, marker,
 // sequence, timestamp and source, in AMR and AMR-WB the mode request, and a line for each row with its time, class, channel, start and
 // length.
 mod accepted;
 mod amr;
 mod example;
 mod groups;
+mod places;
 mod refused;
 mod tables;
 
@@ -43,4 +44,8 @@ fn main() {
     refused::blocks();
     refused::settings();
     refused::areas();
+    places::padded();
+    places::after_headers();
+    places::entries();
+    places::blocks();
 }
