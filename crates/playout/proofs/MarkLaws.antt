@@ -35,17 +35,19 @@ mark-cases : (a : ℕ) → a < 2 → (a ≡ redundantMark) ⊎ (a ≡ primaryMar
 mark-cases a l = by-test (eqb a 0) (λ t. inl (eqb-true a 0 t)) (λ t. let n = eqb-false a 0 t in inr (omega (arith, n)))
 
 -- ---- the marks of entries, of the received copies that have P
-abbrev Of : Entry → Copy → Type 0
-Of e c = (e .time ≡ c .time) × (e .channel ≡ c .channel)
+-- an entry of a copy's pair
+abbrev pub PairOf : Entry → Copy → Type 0
+PairOf e c = (e .time ≡ c .time) × (e .channel ≡ c .channel)
 
-abbrev First : (Received → Type 0) → Entry → Type 0
-First P e = (x : Received) × P x × Of e (x .copy) × (x .primary ≡ primaryMark)
+-- some copy of its pair was heard first-hand
+abbrev pub FirstHand : (Received → Type 0) → Entry → Type 0
+FirstHand P e = (x : Received) × P x × PairOf e (x .copy) × (x .primary ≡ primaryMark)
 
--- each pair received is held; and its mark
+-- each pair received is held, and marked exactly if some copy of it was heard first-hand
 pub record Marked (P : Received → Type 0) (es : List Entry) : Type 0 where
-  pub held : (x : Received) → P x → (e : Entry) × List·Memᴰ e es × Of e (x .copy)
-  pub set : (e : Entry) → List·Memᴰ e es → First P e → e .primary ≡ primaryMark
-  pub unset : (e : Entry) → List·Memᴰ e es → (e .primary ≡ redundantMark) ⊎ First P e
+  pub held : (x : Received) → P x → (e : Entry) × List·Memᴰ e es × PairOf e (x .copy)
+  pub set : (e : Entry) → List·Memᴰ e es → FirstHand P e → e .primary ≡ primaryMark
+  pub unset : (e : Entry) → List·Memᴰ e es → (e .primary ≡ redundantMark) ⊎ FirstHand P e
 
 pub marked-none : (P : Received → Type 0) → ((x : Received) → P x → ⊥) → Marked P []
 marked-none P n = record { held = λ x p. absurd (n x p); set = λ e m. absurd (nowhere m); unset = λ e m. absurd (nowhere m) }
@@ -54,11 +56,11 @@ pub marked-like : (P Q : Received → Type 0) (es : List Entry) → ((x : Receiv
 marked-like P Q es f g K = record {
   held = λ x q. K .held x (g x q);
   set = λ e m t. K .set e m (t .0, g (t .0) (t .1), t .2, t .3);
-  unset = λ e m. ⊎-elim (λ z. inl z) (λ (t : First P e). inr (t .0, f (t .0) (t .1), t .2, t .3)) (K .unset e m);
+  unset = λ e m. ⊎-elim (λ z. inl z) (λ (t : FirstHand P e). inr (t .0, f (t .0) (t .1), t .2, t .3)) (K .unset e m);
 }
 
 -- an entry of a copy's pair is the one found
-found-member : (h : Held) (s : List ℕ) → HeldFacts h s → (c : Copy) (e : Entry) → List·Memᴰ e (h .entries) → Of e c → findPair c (h .entries) ≡ some e
+found-member : (h : Held) (s : List ℕ) → HeldFacts h s → (c : Copy) (e : Entry) → List·Memᴰ e (h .entries) → PairOf e c → findPair c (h .entries) ≡ some e
 unfolding entryOf
 found-member h s S c e m p =
     let T = sorted-first (h .entries) (S .rising) (S .stretch) (S .each) in
@@ -69,22 +71,22 @@ module _ (P : Received → Type 0) (h : Held) (s : List ℕ) (S : HeldFacts h s)
   abbrev More : Received → Type 0
   More y = (y ≡ x) ⊎ P y
 
-  more-first : (e : Entry) → First P e → First More e
+  more-first : (e : Entry) → FirstHand P e → FirstHand More e
   more-first e t = (t .0, inr (t .1), t .2, t .3)
 
   -- its entry in its place
-  module _ (n : Entry) (own : Of n (x .copy)) (t : List ℕ) (N : HeldFacts (holding n h) t) where
+  module _ (n : Entry) (own : PairOf n (x .copy)) (t : List ℕ) (N : HeldFacts (holding n h) t) where
     in-place : List·Memᴰ n (placed n (h .entries))
     unfolding placed
     in-place = put-new sideOfEntry always n (h .entries) (λ y. refl)
 
-    one-entry : (y : Entry) → List·Memᴰ y (placed n (h .entries)) → Of y (x .copy) → y ≡ n
+    one-entry : (y : Entry) → List·Memᴰ y (placed n (h .entries)) → PairOf y (x .copy) → y ≡ n
     one-entry y m p =
         let T = sorted-first (placed n (h .entries)) (N .rising) (N .stretch) (N .each) in
         let q : (y .time ≡ n .time) × (y .channel ≡ n .channel) = (p .0 ∙ sym (own .0), p .1 ∙ sym (own .1)) in
         asc-one (entryPlace (T .0)) (placed n (h .entries)) (T .1 .asc) y n m in-place (rw (q .0, q .1))
 
-    placed-marked : (First More n → n .primary ≡ primaryMark) → (n .primary ≡ redundantMark) ⊎ First More n → Marked More (placed n (h .entries))
+    placed-marked : (FirstHand More n → n .primary ≡ primaryMark) → (n .primary ≡ redundantMark) ⊎ FirstHand More n → Marked More (placed n (h .entries))
     placed-marked set-new unset-new = record {
       held = λ y. keep y;
       set = λ y m f. set-at y m f (come y m);
@@ -94,56 +96,56 @@ module _ (P : Received → Type 0) (h : Held) (s : List ℕ) (S : HeldFacts h s)
         come : (y : Entry) → List·Memᴰ y (placed n (h .entries)) → (y ≡ n) ⊎ List·Memᴰ y (h .entries)
         come y m = unfold placed in put-from sideOfEntry always n (h .entries) y m
 
-        stay : (y : Received) (e : Entry) → Of e (y .copy) → (sideOfEntry n e ≡ Ordering·eq) ⊎ List·Memᴰ e (placed n (h .entries)) → (f : Entry) × List·Memᴰ f (placed n (h .entries)) × Of f (y .copy)
+        stay : (y : Received) (e : Entry) → PairOf e (y .copy) → (sideOfEntry n e ≡ Ordering·eq) ⊎ List·Memᴰ e (placed n (h .entries)) → (f : Entry) × List·Memᴰ f (placed n (h .entries)) × PairOf f (y .copy)
         stay y e p (inl q) = let r = order-same (n .time) (n .channel) (e .time) (e .channel) q in (n, in-place, (r .0 ∙ p .0, r .1 ∙ p .1))
         stay y e p (inr m) = (e, m, p)
 
-        keep : (y : Received) → More y → (f : Entry) × List·Memᴰ f (placed n (h .entries)) × Of f (y .copy)
-        keep y (inl q) = (n, in-place, subst (λ (z : Received). Of n (z .copy)) (sym q) own)
+        keep : (y : Received) → More y → (f : Entry) × List·Memᴰ f (placed n (h .entries)) × PairOf f (y .copy)
+        keep y (inl q) = (n, in-place, subst (λ (z : Received). PairOf n (z .copy)) (sym q) own)
         keep y (inr p) = let k = K .held y p in stay y (k .0) (k .2) (unfold placed in put-keeps sideOfEntry always n (h .entries) (k .0) (k .1))
 
-        set-is : (y : Entry) → y ≡ n → First More y → y .primary ≡ primaryMark
-        set-is y q f = subst (λ (z : Entry). First More z → z .primary ≡ primaryMark) (sym q) set-new f
+        set-is : (y : Entry) → y ≡ n → FirstHand More y → y .primary ≡ primaryMark
+        set-is y q f = subst (λ (z : Entry). FirstHand More z → z .primary ≡ primaryMark) (sym q) set-new f
 
-        set-old : (y : Entry) → List·Memᴰ y (placed n (h .entries)) → List·Memᴰ y (h .entries) → (f : First More y) → More (f .0) → y .primary ≡ primaryMark
-        set-old y m k f (inl q) = set-is y (one-entry y m (subst (λ (z : Received). Of y (z .copy)) q (f .2))) f
+        set-old : (y : Entry) → List·Memᴰ y (placed n (h .entries)) → List·Memᴰ y (h .entries) → (f : FirstHand More y) → More (f .0) → y .primary ≡ primaryMark
+        set-old y m k f (inl q) = set-is y (one-entry y m (subst (λ (z : Received). PairOf y (z .copy)) q (f .2))) f
         set-old y m k f (inr p) = K .set y k (f .0, p, f .2, f .3)
 
-        set-at : (y : Entry) → List·Memᴰ y (placed n (h .entries)) → First More y → (y ≡ n) ⊎ List·Memᴰ y (h .entries) → y .primary ≡ primaryMark
+        set-at : (y : Entry) → List·Memᴰ y (placed n (h .entries)) → FirstHand More y → (y ≡ n) ⊎ List·Memᴰ y (h .entries) → y .primary ≡ primaryMark
         set-at y m f (inl q) = set-is y q f
         set-at y m f (inr k) = set-old y m k f (f .1)
 
-        unset-at : (y : Entry) → (y ≡ n) ⊎ List·Memᴰ y (h .entries) → (y .primary ≡ redundantMark) ⊎ First More y
-        unset-at y (inl q) = subst (λ (z : Entry). (z .primary ≡ redundantMark) ⊎ First More z) (sym q) unset-new
-        unset-at y (inr k) = ⊎-elim (λ z. inl z) (λ (f : First P y). inr (more-first y f)) (K .unset y k)
+        unset-at : (y : Entry) → (y ≡ n) ⊎ List·Memᴰ y (h .entries) → (y .primary ≡ redundantMark) ⊎ FirstHand More y
+        unset-at y (inl q) = subst (λ (z : Entry). (z .primary ≡ redundantMark) ⊎ FirstHand More z) (sym q) unset-new
+        unset-at y (inr k) = ⊎-elim (λ z. inl z) (λ (f : FirstHand P y). inr (more-first y f)) (K .unset y k)
 
   -- the mark of a first copy, and of one that joins an entry held
-  module _ (l : x .primary < 2) (n : Entry) (own : Of n (x .copy)) where
-    first-copy : n .primary ≡ x .primary → (n .primary ≡ redundantMark) ⊎ First More n
+  module _ (l : x .primary < 2) (n : Entry) (own : PairOf n (x .copy)) where
+    first-copy : n .primary ≡ x .primary → (n .primary ≡ redundantMark) ⊎ FirstHand More n
     first-copy q = ⊎-elim (λ (z : x .primary ≡ redundantMark). inl (q ∙ z)) (λ z. inr (x, inl refl, own, z)) (mark-cases (x .primary) l)
 
-    set-first : findPair (x .copy) (h .entries) ≡ none → n .primary ≡ x .primary → First More n → n .primary ≡ primaryMark
+    set-first : findPair (x .copy) (h .entries) ≡ none → n .primary ≡ x .primary → FirstHand More n → n .primary ≡ primaryMark
     set-first w q f = go (f .1)
       where
         go : More (f .0) → n .primary ≡ primaryMark
         go (inl e) = q ∙ sym (ap (λ (z : Received). z .primary) e) ∙ f .3
         go (inr p) =
             let k = K .held (f .0) p in
-            let o : Of (k .0) (x .copy) = (k .2 .0 ∙ sym (f .2 .0) ∙ own .0, k .2 .1 ∙ sym (f .2 .1) ∙ own .1) in
+            let o : PairOf (k .0) (x .copy) = (k .2 .0 ∙ sym (f .2 .0) ∙ own .0, k .2 .1 ∙ sym (f .2 .1) ∙ own .1) in
             absurd (none≢some (k .0) (sym w ∙ found-member h s S (x .copy) (k .0) (k .1) o))
 
-    module _ (e : Entry) (m : List·Memᴰ e (h .entries)) (same : Of e (x .copy)) where
-      alike : (c : Copy) → Of n c → Of e c
+    module _ (e : Entry) (m : List·Memᴰ e (h .entries)) (same : PairOf e (x .copy)) where
+      alike : (c : Copy) → PairOf n c → PairOf e c
       alike c p = (same .0 ∙ sym (own .0) ∙ p .0, same .1 ∙ sym (own .1) ∙ p .1)
 
-      alike-back : (c : Copy) → Of e c → Of n c
+      alike-back : (c : Copy) → PairOf e c → PairOf n c
       alike-back c p = (own .0 ∙ sym (same .0) ∙ p .0, own .1 ∙ sym (same .1) ∙ p .1)
 
-      joined : (n .primary ≡ e .primary) ⊎ (n .primary ≡ x .primary) → (n .primary ≡ redundantMark) ⊎ First More n
-      joined (inl q) = ⊎-elim (λ (z : e .primary ≡ redundantMark). inl (q ∙ z)) (λ (f : First P e). inr (f .0, inr (f .1), alike-back (f .0 .copy) (f .2), f .3)) (K .unset e m)
+      joined : (n .primary ≡ e .primary) ⊎ (n .primary ≡ x .primary) → (n .primary ≡ redundantMark) ⊎ FirstHand More n
+      joined (inl q) = ⊎-elim (λ (z : e .primary ≡ redundantMark). inl (q ∙ z)) (λ (f : FirstHand P e). inr (f .0, inr (f .1), alike-back (f .0 .copy) (f .2), f .3)) (K .unset e m)
       joined (inr q) = first-copy q
 
-      set-joined : ((e .primary ≡ primaryMark) ⊎ (x .primary ≡ primaryMark) → n .primary ≡ primaryMark) → First More n → n .primary ≡ primaryMark
+      set-joined : ((e .primary ≡ primaryMark) ⊎ (x .primary ≡ primaryMark) → n .primary ≡ primaryMark) → FirstHand More n → n .primary ≡ primaryMark
       set-joined up f = up (go (f .1))
         where
           go : More (f .0) → (e .primary ≡ primaryMark) ⊎ (x .primary ≡ primaryMark)
@@ -166,13 +168,13 @@ module _ (P : Received → Type 0) (h : Held) (s : List ℕ) (S : HeldFacts h s)
       in-held : (e : Entry) → findPair (x .copy) (h .entries) ≡ some e → List·Memᴰ e (h .entries)
       in-held e w = find-mem (sideOfEntry (entryOf (x .copy) 0 0)) (h .entries) e w
 
-      same : (e : Entry) → findPair (x .copy) (h .entries) ≡ some e → Of e (x .copy)
+      same : (e : Entry) → findPair (x .copy) (h .entries) ≡ some e → PairOf e (x .copy)
       same e w = let p = found-pair (x .copy) (h .entries) e w in (sym (p .0), sym (p .1))
 
       repeated : (e : Entry) → findPair (x .copy) (h .entries) ≡ some e → (let n = remarked (eitherMark (e .primary) (x .primary)) e in HeldFacts (holding n h) s → Marked More (placed n (h .entries)))
       repeated e w N =
           let n = remarked (eitherMark (e .primary) (x .primary)) e in
-          let own : Of n (x .copy) = unfold remarked in same e w in
+          let own : PairOf n (x .copy) = unfold remarked in same e w in
           let m = in-held e w in
           placed-marked n own s N
           (set-joined l n own e m (same e w) (λ o. unfold remarked in either-set (e .primary) (x .primary) (S .each e m .mark) o))
@@ -181,7 +183,7 @@ module _ (P : Received → Type 0) (h : Held) (s : List ℕ) (S : HeldFacts h s)
       replaced : (e : Entry) → findPair (x .copy) (h .entries) ≡ some e → (t : List ℕ) → (let n = entryOf (x .copy) (eitherMark (x .primary) (e .primary)) (e .slot) in HeldFacts (holding n h) t → Marked More (placed n (h .entries)))
       replaced e w t N =
           let n = entryOf (x .copy) (eitherMark (x .primary) (e .primary)) (e .slot) in
-          let own : Of n (x .copy) = unfold entryOf in (refl, refl) in
+          let own : PairOf n (x .copy) = unfold entryOf in (refl, refl) in
           let m = in-held e w in
           placed-marked n own t N
           (set-joined l n own e m (same e w) (λ o. unfold entryOf in either-set (x .primary) (e .primary) l (turned o)))
@@ -190,7 +192,7 @@ module _ (P : Received → Type 0) (h : Held) (s : List ℕ) (S : HeldFacts h s)
       inserted : findPair (x .copy) (h .entries) ≡ none → (t : List ℕ) → (let n = entryOf (x .copy) (x .primary) (freeSlot (h .entries)) in HeldFacts (holding n h) t → Marked More (placed n (h .entries)))
       inserted w t N =
           let n = entryOf (x .copy) (x .primary) (freeSlot (h .entries)) in
-          let own : Of n (x .copy) = unfold entryOf in (refl, refl) in
+          let own : PairOf n (x .copy) = unfold entryOf in (refl, refl) in
           let q : n .primary ≡ x .primary = unfold entryOf in refl in
           placed-marked n own t N (set-first l n own w q) (first-copy l n own q)
 
@@ -227,7 +229,7 @@ marked-playout xs s es D K = record {
   unset = λ d m.
       let k = map-mem (markedView s) es d m in
       subst (λ (y : Received). (y .primary ≡ redundantMark) ⊎ HeardFirst xs (y .copy)) (sym (k .2))
-      (⊎-elim (λ z. inl z) (λ (f : First (λ y. List·Memᴰ y xs) (k .0)). inr (record { one = f .0; among = f .1; pair = f .2; primary = f .3 })) (K .unset (k .0) (k .1)));
+      (⊎-elim (λ z. inl z) (λ (f : FirstHand (λ y. List·Memᴰ y xs) (k .0)). inr (record { one = f .0; among = f .1; pair = f .2; primary = f .3 })) (K .unset (k .0) (k .1)));
 }
 
 -- what is gathered from nothing held
