@@ -27,7 +27,7 @@ use Rattle.layout.specs.declared.buffer.Buffer.{Buffer}
 use Rattle.layout.specs.Arrays.{Machine}
 use Rattle.layout.specs.Layout.{encode, entriesFrom, decode}
 use Rattle.layout.specs.WellFormed.{wellFormed}
-use Rattle.reorder.specs.Rows.{copiesOf}
+use Rattle.reorder.specs.Rows.{receivedIn}
 use Rattle.reorder.specs.Calls.{OfferOutcome, offerRefused, offerCall}
 use Rattle.drawing.specs.Calls.{DrawOutcome, drawRefused, drawCall}
 use Rattle.reorder.proofs.CallLaws.{offerRead, offer-out, offer-malformed, offer-rows, offer-store, offer-reads}
@@ -89,7 +89,7 @@ module _ (b : Buffer) (m : Machine b) (packet rows store : List ℕ) where
   read-leaves : wellFormed b ≡ true → (o : Outcome) → LeftByOffer b store (offerRead b packet rows store o)
   read-leaves w (unread q) x y = (refl, refl)
   read-leaves w (readAs head rs request) x y =
-      let k = judgeAll-kept (copiesOf packet rs) (decode b) store noCounts x y in
+      let k = judgeAll-kept (receivedIn packet rs) (decode b) store noCounts x y in
       (ap (encode (b .settings)) (k .0) ∙ encode-decode b m w, k .1)
 
   offer-leaves : LeftByOffer b store (offerCall b packet rows store)

@@ -28,7 +28,7 @@ use Rattle.playout.specs.Verdicts.{noCounts, tally, judgeAll}
 use Rattle.playout.proofs.HeldLaws.{fresh, drawnFirst, judgeAll-length}
 use Rattle.layout.specs.declared.buffer.Buffer.{Buffer}
 use Rattle.layout.specs.Layout.{encode, model}
-use Rattle.reorder.specs.Rows.{copiesOf}
+use Rattle.reorder.specs.Rows.{receivedIn}
 use Rattle.reorder.specs.ModelCalls.{Result, refused, Offered, judgeRead, offerTo}
 use Rattle.reorder.specs.Calls.{NewOutcome, faultNumbers, countNumbers, OfferOutcome, offerDone, offerCall}
 use Rattle.drawing.specs.Calls.{DrawNumbers, noFrame, DrawOutcome, drawRefused, drawCall}
@@ -88,7 +88,7 @@ module _ (st : Settings) (h : Held) (s l : List ℕ) where
 
   abbrev pub judgedOffer : List ℕ → List Row → Step
   judgedOffer packet rs =
-      let g = judgeAll h s (copiesOf packet rs) in
+      let g = judgeAll h s (receivedIn packet rs) in
       record { yield = offered (countNumbers (tally noCounts (g .judgements))) (g .judgements); state = at st (g .held) (g .store) (over (words rs) l) }
 
   -- what an offer yields, by what it does to the model
@@ -114,15 +114,15 @@ module _ (st : Settings) (h : Held) (s l : List ℕ) where
       good : Good st h s
       good = with-room st h (spare .0) s g (r .room)
 
-      pub judged-fine : Fine st (judgeAll h s (copiesOf packet rs) .held)
+      pub judged-fine : Fine st (judgeAll h s (receivedIn packet rs) .held)
       judged-fine =
           with-room st _ _ (spare .0)
-          (judgeAll-good st (copiesOf packet rs) h s good (read-fit st range (length l) packet (readAs (r .head) rs (r .request)) (r .same))) (spare .1)
+          (judgeAll-good st (receivedIn packet rs) h s good (read-fit st range (length l) packet (readAs (r .head) rs (r .request)) (r .same))) (spare .1)
 
-      pub store-length : length (judgeAll h s (copiesOf packet rs) .store) ≡ length s
+      pub store-length : length (judgeAll h s (receivedIn packet rs) .store) ≡ length s
       store-length =
-          judgeAll-length h s (copiesOf packet rs) (good-facts st h s good)
-          (fits-frames st (copiesOf packet rs) (read-fit st range (length l) packet (readAs (r .head) rs (r .request)) (r .same)))
+          judgeAll-length h s (receivedIn packet rs) (good-facts st h s good)
+          (fits-frames st (receivedIn packet rs) (read-fit st range (length l) packet (readAs (r .head) rs (r .request)) (r .same)))
 
       pub rows-length : length (over (words rs) l) ≡ length l
       unfolding over
