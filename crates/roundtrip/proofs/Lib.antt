@@ -21,4 +21,5 @@ pub mod PacketTheorem
 pub mod UnfoldingTheorems
 pub mod MeasureTheorem
 pub mod MarkTheorems
+pub mod BitAboveTheorems
 pub mod ZeroBitsTheorem

@@ -12,12 +12,12 @@ use Rattle.payload.proofs.RowLaws.{length-marked}
 use Rattle.plans.specs.Lists.{firstTime, outside}
 use Rattle.plans.specs.Plans.{planFrom, plan, stepBefore}
 use Rattle.encoder.specs.Bytes.{requestBytes, tableBytes, frameIn, frames}
-use Rattle.encoder.specs.Writings.{Encoded, bytesOf, plannedBytes, encoded, writing, measured}
-use Rattle.sender.specs.Parts.{primaryTime, Parts, primaryPart, redundantPart, parts}
+use Rattle.encoder.specs.Writings.{bytesOf, plannedBytes, encoded, writing, measured}
+use Rattle.sender.specs.Parts.{primaryTime, primaryPart, parts}
 use Rattle.sender.specs.Packets.{Heading, assembled, sending}
 use Rattle.roundtrip.specs.Marks.{clearedTag, cleared}
-use Rattle.roundtrip.specs.PayloadClaims.{MarksIgnored}
-use Rattle.roundtrip.specs.PacketClaims.{PacketMarksIgnored}
+use Rattle.roundtrip.specs.PayloadClaims.{MarkIgnored}
+use Rattle.roundtrip.specs.PacketClaims.{PacketMarkIgnored}
 use Rattle.roundtrip.proofs.MarkLaws.{plains-marked}
 use Rattle.roundtrip.proofs.PlanBlockLaws.{plan-like, plan-plain}
 
@@ -124,16 +124,16 @@ module _ (mark : ℕ) where
 
 -- Writing, measuring and sending
 
-pub marks-ignored : MarksIgnored
+pub mark-ignored : MarkIgnored
 unfolding writing measured
-marks-ignored st request ws bytes area =
+mark-ignored st request ws bytes area =
     let rs = rowsIn ws in (
       rw (rows-cleared ws, length-cleared ws, outside-marked redundantMark (length bytes) rs, encoded-marked redundantMark st request bytes rs),
       rw (rows-cleared ws, length-cleared ws, plan-marked redundantMark (st .format) (st .channels) rs),
     )
 
-pub packet-marks-ignored : PacketMarksIgnored
+pub packet-mark-ignored : PacketMarkIgnored
 unfolding sending
-packet-marks-ignored st request h counts ws bytes area =
+packet-mark-ignored st request h counts ws bytes area =
     let rs = rowsIn ws in
     rw (rows-cleared ws, length-cleared ws, outside-marked redundantMark (length bytes) rs, assembled-marked redundantMark st request h counts bytes rs)

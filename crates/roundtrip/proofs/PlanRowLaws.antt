@@ -71,11 +71,11 @@ begun format ch p r rs gs h =
     go (groups table) e i j k m = record { code = i; steps = j; channel = k; table = table; rest = e; put = attached format r _ table gs m }
 
 -- a frame-block that goes on with the row r
-record Gone-on (format ch c : ℕ) (p r : Row) (rs : List Row) (gs : List Group) : Type 0 where
-  same : Alike r (record { time = p .time; class = p .class; channel = c; start = 0; length = p .length; primary = 0 })
-  rest : planFrom format ch (standing ch (c + 1)) r rs ≡ groups gs
+pub record Gone-on (format ch c : ℕ) (p r : Row) (rs : List Row) (gs : List Group) : Type 0 where
+  pub same : Alike r (record { time = p .time; class = p .class; channel = c; start = 0; length = p .length; primary = 0 })
+  pub rest : planFrom format ch (standing ch (c + 1)) r rs ≡ groups gs
 
-gone-on : (format ch c : ℕ) (p r : Row) (rs : List Row) (gs : List Group) → (c ≡ 0 → ⊥) → planFrom format ch c p (r ∷ rs) ≡ groups gs → Gone-on format ch c p r rs gs
+pub gone-on : (format ch c : ℕ) (p r : Row) (rs : List Row) (gs : List Group) → (c ≡ 0 → ⊥) → planFrom format ch c p (r ∷ rs) ≡ groups gs → Gone-on format ch c p r rs gs
 unfolding planFrom
 gone-on format ch c p r rs gs n h =
     let a = passed (follows format c p r) _ gs h in

@@ -1,8 +1,9 @@
 -- Document 02, P6: which rows were heard first-hand, and the words of rows but for that mark.
-use Prim.Native.Nat.{ℕ, _-_, _*_}
+use Prim.Native.Nat.{ℕ, _-_, _*_, _%_, _^_, _≤_}
 use mathlib.Core.Path.{_≡_}
-use mathlib.Core.List.{List, [], _∷_}
-use lib.ListN.{take, drop}
+use mathlib.Core.List.{List, [], _∷_, _++_}
+use lib.ListN.{length, take, drop}
+use Rattle.rtp.specs.Sizes.{rowWidth}
 use Rattle.formats.specs.Tags.{primaryMark, redundantMark, tagMark}
 use Rattle.payload.specs.Rows.{Row}
 
@@ -29,3 +30,15 @@ cleared (a ∷ []) = a ∷ []
 cleared (a ∷ b ∷ []) = a ∷ b ∷ []
 cleared (a ∷ b ∷ c ∷ []) = a ∷ b ∷ c ∷ []
 cleared (a ∷ b ∷ c ∷ d ∷ ws) = a ∷ clearedTag b ∷ c ∷ d ∷ cleared ws
+
+-- some row's second word has a bit above bit 16
+pub record BitAbove (ws : List ℕ) : Type 0 where
+  pub before : List ℕ
+  pub time : ℕ
+  pub tag : ℕ
+  pub start : ℕ
+  pub size : ℕ
+  pub after : List ℕ
+  pub is : ws ≡ before ++ time ∷ tag ∷ start ∷ size ∷ after
+  pub rows : length before % rowWidth ≡ 0
+  pub above : 2 ^ 17 ≤ tag
