@@ -21,7 +21,7 @@ fn print_frame(frame: DrawnFrame, area: &[u8]) {
     }
 }
 
-fn draw(buffer: Buffer, store: &[u8]) -> Buffer {
+pub(crate) fn draw(buffer: Buffer, store: &[u8]) -> Buffer {
     let mut area = example::zero_frame();
     io::write_all(1, b"draw");
     let drawn = draws::draw(buffer, store, &mut area);

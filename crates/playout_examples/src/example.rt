@@ -9,6 +9,7 @@ use reorder::calls;
 use reorder::calls::OfferAnswer;
 use reorder::tally::Tally;
 use rtp::refusal;
+use rtp::refusal::Fault;
 use rtp::settings::Settings;
 use rtp::sizes::ROW_AREA;
 
@@ -73,6 +74,14 @@ fn print_tally(tally: Tally) {
     io::write_all(1, b"\n");
 }
 
+fn print_fault(fault: Fault) {
+    let why = fault.refusal;
+    print(b" refusal ", refusal::refusal_number(why));
+    io::write_all(1, b" offset ");
+    io::print_decimal(1, fault.offset as u64);
+    io::write_all(1, b"\n");
+}
+
 fn zero_rows() -> [u32; ROW_AREA] {
     [0; ROW_AREA]
 }
@@ -84,7 +93,7 @@ pub(crate) fn offer(label: &[u8], buffer: Buffer, store: &mut [u8], packet: &[u8
     let offered = calls::offer(buffer, packet, &mut rows, store);
     let answer = offered.answer;
     match answer {
-        OfferAnswer::Refused(why) => print(b" refusal ", refusal::refusal_number(why)),
+        OfferAnswer::Refused(fault) => print_fault(fault),
         OfferAnswer::Judged(tally) => print_tally(tally),
     }
     offered.buffer

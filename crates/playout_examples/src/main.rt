@@ -1,9 +1,10 @@
 // Document 001's six interleaved packets, each of four frame-blocks five apart, offered to a fresh buffer in several orders, then drawn
-// until the buffer is empty; then packets of AMR and AMR-WB. Prints for each offer how often each verdict was given, and the frame-blocks
-// drawn.
+// until the buffer is empty; then packets of AMR and AMR-WB, and some that are refused. Prints for each offer how often each verdict was
+// given, or the refusal and its offset in the packet, and the frame-blocks drawn.
 mod amr;
 mod example;
 mod orders;
+mod refused;
 
 fn main() {
     orders::in_order();
@@ -16,4 +17,5 @@ fn main() {
     amr::as_before();
     amr::times();
     amr::redundancy();
+    refused::with_places();
 }

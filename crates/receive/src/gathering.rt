@@ -19,6 +19,7 @@ use layout::buffer::SLOTS;
 use layout::buffer::STORE_SIZE;
 use reorder::calls;
 use reorder::calls::NewAnswer;
+use reorder::calls::OfferAnswer;
 use rtp::settings::Settings;
 use rtp::sizes::MAX_ROWS;
 use rtp::sizes::ROW_AREA;
@@ -143,14 +144,27 @@ fn hear(state: State, was_read: bool, packet: &[u8]) -> Sources {
     heard
 }
 
-// A packet offered, and counted.
+// The line of the last packet, if it was refused.
+fn print_answer(state: State, answer: OfferAnswer) -> State {
+    match answer {
+        OfferAnswer::Judged(_) => state,
+        OfferAnswer::Refused(fault) => {
+            if printing::print_fault(state.totals.packets, fault) {
+                return state;
+            }
+            stop_writing(state)
+        }
+    }
+}
+
+// A packet offered, counted, and printed if it is refused.
 fn offer(state: State, packet: &[u8], store: &mut [u8]) -> State {
     let mut rows = zero_rows();
     let offered = calls::offer(state.buffer, packet, &mut rows, store);
     let answer = offered.answer;
     let buffer = offered.buffer;
     let gaps = state.gaps;
-    State {
+    let next = State {
         buffer,
         step: state.step,
         totals: totals::add_packet(state.totals, answer),
@@ -158,7 +172,8 @@ fn offer(state: State, packet: &[u8], store: &mut [u8]) -> State {
         sources: hear(state, totals::was_read(answer), packet),
         more: state.more,
         written: state.written,
-    }
+    };
+    print_answer(next, answer)
 }
 
 // The packet in the first n bytes of the area offered, and room made for the next. n is never more than the area has.

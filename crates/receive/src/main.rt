@@ -1,5 +1,5 @@
 // Receives a stream: reads packets from standard input, in the framing of RFC 4571, and prints every frame once, in time order, as soon
-// as the reorder buffer has to make room, and every gap between frames; then a summary. The arguments are the settings.
+// as the reorder buffer has to make room, every gap between frames, and every packet refused; then a summary. The arguments are the settings.
 mod gaps;
 mod gathering;
 mod printing;
@@ -12,7 +12,7 @@ use console::arguments::Asked;
 fn main() {
     match arguments::read(
         b"receive",
-        b"Prints each frame once, in time order: time, channel, class, length and bytes; each gap; then a summary.\n",
+        b"Prints each frame once, in time order: time, channel, class, length and bytes; each gap; each packet refused; then a summary.\n",
     ) {
         Asked::Agreed(settings) => gathering::open(settings),
         Asked::Nothing => {}

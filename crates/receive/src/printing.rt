@@ -1,4 +1,4 @@
-// Frames, gaps and the summary on standard output, each line written once; each function answers whether that succeeded. Warnings and
+// Frames, gaps, refused packets and the summary on standard output, each line written once; each function answers whether that succeeded. Warnings and
 // progress go to standard error.
 use crate::gaps::Gaps;
 use crate::sources::Sources;
@@ -19,6 +19,8 @@ use reception::calls::ReportAnswer;
 use reception::calls::ReportBlock;
 use reception::record::Reception;
 use reception::signed;
+use rtp::refusal;
+use rtp::refusal::Fault;
 
 // Progress is said after each so many packets.
 const PROGRESS: u64 = 100000;
@@ -83,6 +85,27 @@ pub(crate) fn print_gap(from: u32, to: u32, missing: u32) -> bool {
         b" frame-block missing",
         b" frame-blocks missing",
     );
+    print(&mut line, at)
+}
+
+// The place of a fault in its packet, if it has one.
+fn put_offset(line: &mut [u8; LINE], at: usize, offset: usize) -> usize {
+    if offset == 0 {
+        return at;
+    }
+    lines::put_number(line, at, b" at offset ", offset as u64)
+}
+
+// A line: the number of a packet that was refused, the refusal's, the place at fault, and the reason.
+pub(crate) fn print_fault(packet: u64, fault: Fault) -> bool {
+    let why = fault.refusal;
+    let number = refusal::refusal_number(why);
+    let mut line = lines::blank();
+    let mut at = lines::put_number(&mut line, 0, b"packet ", packet);
+    at = lines::put_number(&mut line, at, b": refusal ", number as u64);
+    at = put_offset(&mut line, at, fault.offset);
+    at = lines::put(&mut line, at, b": ");
+    at = refusals::put_reason(&mut line, at, number);
     print(&mut line, at)
 }
 

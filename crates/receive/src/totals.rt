@@ -67,7 +67,10 @@ pub(crate) fn add_packet(totals: Totals, answer: OfferAnswer) -> Totals {
     next.packets = plus(totals.packets, 1);
     match answer {
         OfferAnswer::Judged(tally) => add_tally(next, tally),
-        OfferAnswer::Refused(why) => add_refusal(next, why),
+        OfferAnswer::Refused(fault) => {
+            let why = fault.refusal;
+            add_refusal(next, why)
+        }
     }
 }
 

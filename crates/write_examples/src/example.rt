@@ -137,7 +137,8 @@ fn print_rows(rows: &[u32], count: u32, packet: &[u8]) {
 fn read_back(settings: Settings, packet: &[u8]) {
     let mut rows = row_area();
     match reading::read(settings, packet, &mut rows) {
-        Reading::Refused(why) => {
+        Reading::Refused(fault) => {
+            let why = fault.refusal;
             print(b"read back: refusal ", refusal::refusal_number(why));
             io::write_all(1, b"\n");
         }
