@@ -78,12 +78,14 @@ rows-offer at occupied sum e b' packet rs t store store' k =
 -- the tags of rows that were read hold all of their parts
 tags-fit : (format ch n : ℕ) (rs : List Row) → ch ≤ 2 → AllRows (RowFine format ch n) rs → TagsFit rs
 tags-fit format ch n [] few f = tt
-tags-fit format ch n (r ∷ rs) few f =
-    (record {
-      mark = f .0 .mark;
-      class = omega (arith, code-small format (r .class) (r .length) (f .0 .coded) .classes);
-      channel = omega (arith, f .0 .channel);
-    }, tags-fit format ch n rs few (f .1))
+tags-fit format ch n (r ∷ rs) few f = (
+  record {
+    mark = f .0 .mark;
+    class = omega (arith, code-small format (r .class) (r .length) (f .0 .coded) .classes);
+    channel = omega (arith, f .0 .channel);
+  },
+  tags-fit format ch n rs few (f .1),
+)
 
 module _ (b : Buffer) (packet rows store : List ℕ) (h : inRange (b .settings) ≡ true) (w : wellFormed b ≡ true) (area : rowArea ≤ length rows) (room : storeSize ≤ length store)
     (p : Packet) (e : readingNumbers (Reading.Read p) ≡ outcomeNumbers (reading (b .settings) (length rows) packet))
