@@ -1,5 +1,5 @@
 -- Laws of the packets that offers accept, and of the copies that packets bring.
-use mathlib.Core.Path.{_≡_, refl, ap, sym, _∙_, subst}
+use mathlib.Core.Path.{_≡_, refl, ap, _∙_, subst}
 use mathlib.Core.Logic.{_⊎_, inl, inr}
 use mathlib.Core.List.{List, [], _∷_, _++_, List·Memᴰ, List·Memᴰ·head as here, List·Memᴰ·tail as there, List·Memᴰ·not-nil as nowhere, List·Memᴰ·append-cases as append-cases}
 use mathlib.Core.Bool.{true}
@@ -14,9 +14,7 @@ use Rattle.rtp.proofs.TestLaws.{by-test}
 use Rattle.payload.specs.Rows.{Row}
 use Rattle.packet.specs.Readings.{Outcome, reading}
 use Rattle.playout.specs.Sizes.{storeSize}
-use Rattle.playout.specs.Copies.{Copy, Received}
-use Rattle.playout.specs.Lists.{copiesOf}
-use Rattle.playout.proofs.PlayoutLaws.{map-mem}
+use Rattle.playout.specs.Copies.{Received}
 use Rattle.playout.specs.Entries.{Held}
 use Rattle.playout.specs.Verdicts.{judgeAll}
 use Rattle.playout.proofs.JudgeLaws.{judgeAll-append}
@@ -99,13 +97,3 @@ copies-among st (p ∷ ps) qs f x m = go (append-cases (readReceived p (reading 
     go : List·Memᴰ x (readReceived p (reading st rowArea p)) ⊎ List·Memᴰ x (receivedFrom st ps) → (List·Memᴰ x (receivedFrom st ps) → List·Memᴰ x (receivedFrom st qs)) → List·Memᴰ x (receivedFrom st qs)
     go (inl a) rest = copy-in st qs p x (f p (here refl)) a
     go (inr a) rest = rest a
-
--- and so with their copies, marks aside
-pub copied-among : (xs ys : List Received) → ((x : Received) → List·Memᴰ x xs → List·Memᴰ x ys) → (c : Copy) → List·Memᴰ c (copiesOf xs) → List·Memᴰ c (copiesOf ys)
-copied-among xs ys f c m =
-    let r = map-mem (λ (x : Received). x .copy) xs c m in
-    subst (λ (d : Copy). List·Memᴰ d (copiesOf ys)) (sym (r .2)) (mem-copy ys (r .0) (f (r .0) (r .1)))
-  where
-    mem-copy : (ys : List Received) (x : Received) → List·Memᴰ x ys → List·Memᴰ (x .copy) (copiesOf ys)
-    mem-copy (y ∷ ys) x (here e) = here (ap (λ (z : Received). z .copy) e)
-    mem-copy (y ∷ ys) x (there n) = there (mem-copy ys x n)

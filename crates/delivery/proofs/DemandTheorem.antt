@@ -15,12 +15,12 @@ use Rattle.playout.specs.Verdicts.{judgeAll}
 use Rattle.playout.specs.Lists.{WithinStretch, AtMost, MarkedPlayout}
 use Rattle.playout.proofs.HeldLaws.{fresh}
 use Rattle.playout.proofs.PlayoutLaws.{gathered}
-use Rattle.playout.proofs.MarkLaws.{markedViews, marked-playout-of, marked-unique}
+use Rattle.playout.proofs.MarkLaws.{markedViews, copies-in, marked-playout-of, marked-unique}
 use Rattle.delivery.specs.Runs.{State, Offer, offer, draw, run, refusalOf, served}
 use Rattle.delivery.specs.Claims.{accepted, receivedFrom, copiesIn, SamePackets, inTurn, delivery, Demand, OnePlayout}
 use Rattle.delivery.proofs.StepLaws.{spare, at, fresh-fine, begun-at}
 use Rattle.delivery.proofs.RunLaws.{run-refusals}
-use Rattle.delivery.proofs.AcceptedLaws.{accepted-none, copies-frames, copies-marks, copies-among, copied-among}
+use Rattle.delivery.proofs.AcceptedLaws.{accepted-none, copies-frames, copies-marks, copies-among}
 use Rattle.delivery.proofs.DrawLaws.{InTurn, offers-turn}
 
 -- the premises speak of the copies alone
@@ -57,7 +57,7 @@ module _ (st : Settings) (range : inRange st ≡ true) where
       back = copies-among st theirs packets (λ p. same p .1)
 
       back-copy : (c : Copy) → List·Memᴰ c (copiesIn st theirs) → List·Memᴰ c (copiesIn st packets)
-      back-copy = copied-among (receivedFrom st theirs) (receivedFrom st packets) back
+      back-copy = copies-in (receivedFrom st theirs) (receivedFrom st packets) back
 
       -- what is held is their playout list; with a store under its size nothing is accepted, and nothing is held
       held-is : MarkedPlayout (receivedFrom st theirs) (left s theirs)

@@ -37,7 +37,7 @@ use Rattle.reorder.proofs.CallLaws.{new-in}
 use Rattle.drawing.proofs.CallLaws.{drawFirst, draw-store, draw-area, draw-goes}
 use Rattle.reorder.proofs.StateLaws.{Good, good-facts, judgeAll-good, draw-good}
 use Rattle.reorder.proofs.BufferLaws.{good-fine, good-back}
-use Rattle.reorder.proofs.CopyLaws.{read-fit, fits-frames}
+use Rattle.reorder.proofs.CopyLaws.{read-fit, fits-frames, fits-marks}
 use Rattle.delivery.specs.Runs.{State, lent, Offer, offer, draw, offered, drew, Step, judgementsOf, judgedBy, step, begun}
 use Rattle.delivery.specs.Claims.{readRefusal, offerRefusal, drawRefusal}
 
@@ -123,6 +123,7 @@ module _ (st : Settings) (h : Held) (s l : List ℕ) where
       store-length =
           judgeAll-length h s (receivedIn packet rs) (good-facts st h s good)
           (fits-frames st (receivedIn packet rs) (read-fit st range (length l) packet (readAs (r .head) rs (r .request)) (r .same)))
+          (fits-marks st (receivedIn packet rs) (read-fit st range (length l) packet (readAs (r .head) rs (r .request)) (r .same)))
 
       pub rows-length : length (over (words rs) l) ≡ length l
       unfolding over
@@ -182,7 +183,7 @@ module _ (st : Settings) (range : inRange st ≡ true) (h : Held) (g : Fine st h
   -- Draws
 
   abbrev frameNumbers : Entry → DrawNumbers
-  frameNumbers e = record { refusal = 0; empty = 0; time = e .time; channel = e .channel; class = e .class; length = e .length }
+  frameNumbers e = record { refusal = 0; empty = 0; time = e .time; channel = e .channel; class = e .class; length = e .length; primary = e .primary }
 
   abbrev drawOf : DrawOutcome → Step
   drawOf r = record { yield = drew (r .answer) (r .area); state = record { buffer = r .buffer; store = s; rows = rows } }

@@ -81,13 +81,13 @@ module _ (st : Settings) (h : Held) (H : Holds st h) where
       rising-sorted base lb (h .entries) (λ e i. record { word = H .words e i; octet = held-facts .each e i .octet; near = near e i }) (held-facts .rising)
 
   module _ (c : Copy) (e : Entry) where
-    found : findBy (sideOfEntry (entryOf c 0)) (h .entries) ≡ some e → List·Memᴰ e (h .entries) × OfPair c e
+    found : findBy (sideOfEntry (entryOf c 0 0)) (h .entries) ≡ some e → List·Memᴰ e (h .entries) × OfPair c e
     unfolding entryOf
     found q =
-        let o = order-same (c .time) (c .channel) (e .time) (e .channel) (find-same (sideOfEntry (entryOf c 0)) (h .entries) e q) in
-        (find-mem (sideOfEntry (entryOf c 0)) (h .entries) e q, (sym (o .0), sym (o .1)))
+        let o = order-same (c .time) (c .channel) (e .time) (e .channel) (find-same (sideOfEntry (entryOf c 0 0)) (h .entries) e q) in
+        (find-mem (sideOfEntry (entryOf c 0 0)) (h .entries) e q, (sym (o .0), sym (o .1)))
 
-    finds : List·Memᴰ e (h .entries) × OfPair c e → findBy (sideOfEntry (entryOf c 0)) (h .entries) ≡ some e
+    finds : List·Memᴰ e (h .entries) × OfPair c e → findBy (sideOfEntry (entryOf c 0 0)) (h .entries) ≡ some e
     unfolding entryOf
     finds p =
         let s = to-stretch (h .entries) (H .words) (held-facts .stretch) in

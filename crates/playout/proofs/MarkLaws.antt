@@ -239,13 +239,14 @@ marked-playout-of s xs l F M W few =
     (marked-like (λ y. List·Memᴰ y xs ⊎ ⊥) (λ y. List·Memᴰ y xs) (gathered s xs .held .entries) (λ y o. ⊎-elim (λ m. m) (λ p. absurd p) o) (λ y m. inl m)
     (judgeAll-marked (λ y. ⊥) xs fresh s (fresh-facts s l) F M (all-settled s xs l F M W few) (marked-none (λ y. ⊥) (λ y p. p))))
 
+-- copies received that are all among others
+pub copies-in : (a b : List Received) → ((x : Received) → List·Memᴰ x a → List·Memᴰ x b) → (c : Copy) → List·Memᴰ c (copiesOf a) → List·Memᴰ c (copiesOf b)
+copies-in a b f c m =
+    let k = map-mem (λ (x : Received). x .copy) a c m in
+    subst (λ (y : Copy). List·Memᴰ y (copiesOf b)) (sym (k .2)) (mem-map (λ (x : Received). x .copy) b (k .0) (f (k .0) (k .1)))
+
 -- the same copies received, in whatever order and however often, have one marked playout list
 module _ (a b : List Received) (f : (x : Received) → List·Memᴰ x a → List·Memᴰ x b) (g : (x : Received) → List·Memᴰ x b → List·Memᴰ x a) where
-  copies-in : (a b : List Received) → ((x : Received) → List·Memᴰ x a → List·Memᴰ x b) → (c : Copy) → List·Memᴰ c (copiesOf a) → List·Memᴰ c (copiesOf b)
-  copies-in a b f c m =
-      let k = map-mem (λ (x : Received). x .copy) a c m in
-      subst (λ (y : Copy). List·Memᴰ y (copiesOf b)) (sym (k .2)) (mem-map (λ (x : Received). x .copy) b (k .0) (f (k .0) (k .1)))
-
   -- items of one copy have one mark
   same-mark : (d e : Received) → d .copy ≡ e .copy → (HeardFirst a (d .copy) → d .primary ≡ primaryMark) → (HeardFirst b (e .copy) → e .primary ≡ primaryMark)
       → (d .primary ≡ redundantMark) ⊎ HeardFirst a (d .copy) → (e .primary ≡ redundantMark) ⊎ HeardFirst b (e .copy) → d .primary ≡ e .primary

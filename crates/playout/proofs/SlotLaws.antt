@@ -163,15 +163,16 @@ pub remarked-view : (s : List ℕ) (mark : ℕ) (e : Entry) → view s (remarked
 unfolding view remarked
 remarked-view s mark e = refl
 
-put-alike : (f : Entry → Copy) (e k : Entry) (es : List Entry) → findBy (sideOfEntry e) es ≡ some k → f e ≡ f k → map f (put sideOfEntry always e es) ≡ map f es
+-- what does not see how an entry differs from the one of its pair sees no difference when it takes its place
+pub put-alike : {A : Type 0} (f : Entry → A) (e k : Entry) (es : List Entry) → findBy (sideOfEntry e) es ≡ some k → f e ≡ f k → map f (put sideOfEntry always e es) ≡ map f es
 unfolding put findBy
 put-alike f e k [] w q = absurd (none≢some k w)
 put-alike f e k (h ∷ t) w q = go (sideOfEntry e h) (λ w. put-alike f e k t w q) w
   where
     go : (o : Ordering) → (findBy (sideOfEntry e) t ≡ some k → map f (put sideOfEntry always e t) ≡ map f t) → findAt o h (findBy (sideOfEntry e) t) ≡ some k → map f (putAt sideOfEntry always o e h t (put sideOfEntry always e t)) ≡ f h ∷ map f t
     go Ordering·lt ih w = absurd (none≢some k w)
-    go Ordering·eq ih w = ap (λ (x : Copy). x ∷ map f t) (q ∙ sym (ap f (Option·some-injective h k w)))
-    go Ordering·gt ih w = ap (λ (l : List Copy). f h ∷ l) (ih w)
+    go Ordering·eq ih w = ap (λ x. x ∷ map f t) (q ∙ sym (ap f (Option·some-injective h k w)))
+    go Ordering·gt ih w = ap (λ l. f h ∷ l) (ih w)
 
 pub remarked-views : (s : List ℕ) (mark : ℕ) (e : Entry) (es : List Entry) → findBy (sideOfEntry (remarked mark e)) es ≡ some e → views s (placed (remarked mark e) es) ≡ views s es
 unfolding placed
