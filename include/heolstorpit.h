@@ -44,9 +44,9 @@
  *
  * ROWS. A frame row is four words:
  *    0  timestamp of the frame
- *    1  65536 * primary + 256 * class + channel; class 0 is no data, 1 is sound, 2 is SID (comfort noise), 5 is damaged sound and
- *       6 damaged SID (formats 4 and 5, where the quality bit is 0); channels count from 0; primary is 1 in the rows of a plain
- *       payload and of the last block of a redundancy payload, 0 in those of redundant blocks, and is ignored in rows to be written
+ *    1  65536 * primary + 256 * class + channel; class 0 is no data, 1 is sound, 2 is SID (comfort noise), 5 is damaged sound
+ *       and 6 damaged SID (formats 4 and 5, where the quality bit is 0); channels count from 0; primary is 1 in rows of a plain
+ *       payload and of the last block of a redundancy payload, 0 in those of redundant blocks, and ignored in rows to be written
  *    2  start: the place of the frame's first byte, in the packet (reading) or in `bytes` (writing)
  *    3  length of the frame in bytes
  * A row of no data has length 0; reading gives it as start the place where its bytes would lie. A frame of formats 4 and 5 is

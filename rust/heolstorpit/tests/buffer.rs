@@ -381,7 +381,7 @@ fn marks_of_copies() {
     let mut p = Pair::new(&mut r);
     for format in 1..=5u8 {
         let s = Settings { format, channels: 1, payload_type: 97, redundancy_type: 98 };
-        // of one frame each, worst first: SID or shorter, damaged, sound, sound with a greater byte
+        // of one frame each, worst first: shorter, damaged or SID; sound; sound of greater bytes
         let copies: [Vec<u8>; 3] = match format {
             1 => [(vec![0x20, 1], 80, 1), (vec![0x24, 1], 90, 1), (vec![0x24, 1], 90, 2)],
             2 => [(vec![0x20, 1, 0], 80, 1), (vec![0x24, 1, 0], 90, 1), (vec![0x24, 1, 0], 90, 2)],

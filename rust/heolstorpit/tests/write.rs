@@ -254,8 +254,8 @@ fn packets() {
     );
 }
 
-/// P6: lists that can be written, their rows marked in every way tried: the same bytes, in every row's bits; a bit above the mark in any
-/// row is 13, whatever the mark. What is written reads back with the marks of its lists.
+/// P6: lists that can be written, with other marks: the same bytes, which read back with the marks of their lists. A bit above the mark, in
+/// any row, is 13.
 #[test]
 fn marks() {
     let mut r = Random::new(17);
@@ -272,21 +272,17 @@ fn marks() {
         let first = |list: &List| List { words: list.words[..alone].to_vec(), bytes: list.bytes.clone() };
         let payload = c.payload(s, head.mode_request, &first(&list), MOST).expect("a list of a packet can be written alone");
         let Head { mode_request, marker, sequence, source } = head;
-        let mut bytes = vec![None; 3];
-        for out in &mut bytes {
+        let mut written = vec![vec![0; length as usize]; 3];
+        for out in &mut written {
             cases::remark(&mut r, &mut list);
             assert_eq!(c.packet(s, head, &counts, &list, MOST), Ok(length));
             assert_eq!(c.payload(s, mode_request, &first(&list), MOST), Ok(payload));
-            let mut written = vec![0; length as usize];
-            let answer =
-                raw::write_packet(settings(s), mode_request, marker, sequence, source, &counts, &list.words, &list.bytes, &mut written);
+            let answer = raw::write_packet(settings(s), mode_request, marker, sequence, source, &counts, &list.words, &list.bytes, out);
             assert_eq!((answer.refusal, answer.length), (0, length));
-            *out = Some(written);
         }
-        assert!(bytes.windows(2).all(|two| two[0] == two[1]));
+        assert!(written[0] == written[1] && written[0] == written[2]);
         c.marks(Ok(length), &list);
-        let written = bytes.pop().flatten().unwrap();
-        let reading = reference::read(s, &written, &mut area).expect("what is written reads");
+        let reading = reference::read(s, &written[0], &mut area).expect("what is written reads");
         let second_hand = reading.rows - counts[counts.len() - 1];
         for (i, row) in area.chunks_exact(ROW_WORDS).take(reading.rows as usize).enumerate() {
             assert_eq!(row[1] & PRIMARY == 0, i < second_hand as usize);
