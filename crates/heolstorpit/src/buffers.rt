@@ -36,7 +36,8 @@ pub struct HspOffered {
     pub buffer: Buffer,
 }
 
-// hsp_drawn: the refusal number or 0, 1 if no frame is held, and the frame and whether it was heard first-hand, or zeros.
+// hsp_drawn: the refusal number or 0, 1 if no frame is held, and the frame and whether it was heard first-hand, or zeros. C has four
+// bytes of padding before the buffer; named, they spare two copies of it (docs/PERFORMANCE.md).
 #[repr(C)]
 pub struct HspDrawn {
     pub refusal: u32,
@@ -46,6 +47,7 @@ pub struct HspDrawn {
     pub frame_class: u32,
     pub length: u32,
     pub primary: u32,
+    pub padding: u32,
     pub buffer: Buffer,
 }
 
@@ -197,6 +199,7 @@ pub extern "C" fn hsp_draw(buffer: Buffer, store: &[u8], area: &mut [u8]) -> Hsp
         frame_class: fields.frame_class,
         length: fields.length,
         primary: fields.primary,
+        padding: 0,
         buffer: left,
     }
 }
