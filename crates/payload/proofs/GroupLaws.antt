@@ -32,12 +32,12 @@ module _ (k n ch class start len area : ℕ) (r : GroupRoom k n ch class start l
   group-frames = omega (arith, one-more-frames n ch len h)
 
   pub group-block : BlockRoom ch 0 class start len area
-  group-block = record { area-fits = group-area; classes = r .classes; channels = omega arith; frames-fit = group-frames }
+  group-block = record { area-fits = group-area; kinds = r .kinds; channels = omega arith; frames-fit = group-frames }
 
   pub group-next : GroupRoom (k + 1) (n - 1) ch class (start + ch * len) len (area - rowWidth * ch)
   group-next = record {
     area-fits = omega (arith, one-more n ch h);
-    classes = r .classes;
+    kinds = r .kinds;
     channels = r .channels;
     frames-fit = omega (arith, one-more-frames n ch len h);
     few = omega arith;

@@ -46,10 +46,10 @@ one-more (suc n) k h = rw (sub-one, suc-mul)
 
 module _ (n c class start len area : ℕ) (r : BlockRoom n c class start len area) (h : n ≡ 0 → ⊥) where
   pub block-row : RowRoom c class start len area
-  block-row = record { area-fits = omega arith; classes = r .classes; channels = omega arith; frames-fit = omega (arith, one-more n len h) }
+  block-row = record { area-fits = omega arith; kinds = r .kinds; channels = omega arith; frames-fit = omega (arith, one-more n len h) }
 
   pub block-rest : BlockRoom (n - 1) (c + 1) class (start + len) len (area - rowWidth)
-  block-rest = record { area-fits = omega arith; classes = r .classes; channels = omega arith; frames-fit = omega (arith, one-more n len h) }
+  block-rest = record { area-fits = omega arith; kinds = r .kinds; channels = omega arith; frames-fit = omega (arith, one-more n len h) }
 
 block-more : (mark n c time class start len : ℕ) → (n ≡ 0 → ⊥)
     → words (marked mark (blockRows n c time class start len))

@@ -2,7 +2,7 @@
 use mathlib.Core.Path.{_≡_, ap, sym, _∙_, subst}
 use mathlib.Core.List.{List, [], _∷_, _++_, append-nil}
 use mathlib.Core.Bool.{true, false}
-use Prim.Native.Nat.{ℕ, _+_, _-_, _*_, _^_, _≤_, _<_}
+use Prim.Native.Nat.{ℕ, _+_, _-_, _*_, _/_, _%_, _^_, _≤_, _<_}
 use native.Mathlib.Omega.{arith}
 use native.Mathlib.Nat.{zero-add}
 use lib.ListN.{length, take, drop}
@@ -18,7 +18,7 @@ use Rattle.rtp.proofs.AreaLaws.{over-none, over-part, part-to-end}
 use Rattle.contents.specs.declared.entries.Entry.{Entry}
 use Rattle.contents.specs.declared.entries.EntryRead.{EntryRead}
 use Rattle.contents.specs.declared.entries.ContentsRead.{ContentsRead}
-use Rattle.formats.specs.Frames.{stepOf}
+use Rattle.formats.specs.Frames.{stepOf, maxClass}
 use Rattle.contents.specs.Contents.{entryOf, gapsFrom, Contents, refused, groups, meaning, prepend, contents, sizesAnswer}
 use Rattle.payload.specs.Rows.{words, timeAfter, groupRows, tableRows, marked}
 use Rattle.payload.specs.Room.{GroupRoom, TableRoom, contentsWords}
@@ -61,12 +61,12 @@ module _ (format ch rows start area : ℕ) (s : List ℕ) (e : Entry) (h : entry
       ch-of (ContentsRead.Refused n) z = absurd z
       ch-of (ContentsRead.Contents t) z = z .2
 
-  pub room-group : Bytes s → GroupRoom 0 (e .blocks) ch (e .class) start (e .length) area
-  room-group bs =
+  pub room-group : (mark : ℕ) → mark < 256 → Bytes s → GroupRoom 0 (e .blocks) ch (256 * mark + e .class) start (e .length) area
+  room-group mark l bs =
       let f = fair format s e h in
       record {
         area-fits = room-here .0;
-        classes = f .classes;
+        kinds = omega (arith, f .classes);
         channels = room-channels;
         frames-fit = room-here .1;
         few = omega (arith, f .few bs);
@@ -74,6 +74,13 @@ module _ (format ch rows start area : ℕ) (s : List ℕ) (e : Entry) (h : entry
 
   pub room-rest : (e .more ≡ true) → TableRoom ch (start + e .blocks * ch * e .length) (area - rowWidth * (e .blocks * ch)) (sizesAnswer format ch (contents format ch (rows + e .blocks * ch) (drop (e .size) s)))
   room-rest m = room-both m .2
+
+-- mark and class in one number
+pub kind-mark : (mark class : ℕ) → class ≤ maxClass → (256 * mark + class) / 256 ≡ mark
+kind-mark mark class h = omega arith
+
+pub kind-class : (mark class : ℕ) → class ≤ maxClass → (256 * mark + class) % 256 ≡ class
+kind-class mark class h = omega arith
 
 -- the words of an entry that was read
 abbrev pub firstWords : ℕ → ℕ → ℕ → ℕ → ℕ → List ℕ → Entry → List ℕ

@@ -4,26 +4,27 @@ use mathlib.Core.List.{List, []}
 use lib.ListN.{length}
 use Rattle.rtp.specs.Sizes.{rowWidth}
 use Rattle.contents.specs.declared.entries.ContentsRead.{ContentsRead}
-use Rattle.formats.specs.Frames.{stepOf, maxClass}
+use Rattle.formats.specs.Frames.{stepOf}
 use Rattle.rtp.specs.Time.{difference}
 use Rattle.contents.specs.Contents.{entrySize, gapAt, Contents, refused, groups}
 use Rattle.payload.specs.Rows.{words, tableRows, marked}
 
-pub record RowRoom (channel class start size area : ℕ) : Type 0 where
+-- a row's kind is 256 × mark + class
+pub record RowRoom (channel kind start size area : ℕ) : Type 0 where
   pub area-fits : rowWidth ≤ area
-  pub classes : class ≤ maxClass
+  pub kinds : kind < 65536
   pub channels : channel < 256
   pub frames-fit : start + size < 2 ^ 32
 
-pub record BlockRoom (count channel class start size area : ℕ) : Type 0 where
+pub record BlockRoom (count channel kind start size area : ℕ) : Type 0 where
   pub area-fits : rowWidth * count ≤ area
-  pub classes : class ≤ maxClass
+  pub kinds : kind < 65536
   pub channels : channel + count ≤ 256
   pub frames-fit : start + count * size < 2 ^ 32
 
-pub record GroupRoom (k count ch class start size area : ℕ) : Type 0 where
+pub record GroupRoom (k count ch kind start size area : ℕ) : Type 0 where
   pub area-fits : rowWidth * (count * ch) ≤ area
-  pub classes : class ≤ maxClass
+  pub kinds : kind < 65536
   pub channels : ch ≤ 256
   pub frames-fit : start + count * ch * size < 2 ^ 32
   pub few : k + count < 256

@@ -6,7 +6,7 @@ use formats::tagging;
 use rtp::sizes::ROW_WIDTH;
 use rtp::time;
 ghost use mathlib.Core.Path.{_≡_};
-ghost use Prim.Native.Nat.{_*_, _≤_, _<_};
+ghost use Prim.Native.Nat.{_*_, _/_, _%_, _≤_, _<_};
 ghost use lib.ListN.{length};
 ghost use Rattle.rtp.specs.Areas.{over};
 ghost use Rattle.formats.specs.Frames.{stepOf};
@@ -14,22 +14,14 @@ ghost use Rattle.contents.specs.Contents.{entrySize, gapAt, gapsFrom, contents,
 ghost use Rattle.payload.specs.Rows.{rowWords, words, blockRows, groupRows, timeAfter, marked};
 ghost use Rattle.payload.specs.Room.{RowRoom, BlockRoom, GroupRoom, TableRoom, contentsWords, originOf};
 
-// A row at the front of the area, heard with this mark.
-fn put_row(
-    rows: &mut [u32],
-    mark: u8,
-    time: u32,
-    class: usize,
-    channel: usize,
-    start: usize,
-    size: usize,
-)
-    requires { ⌜ RowRoom channel class start size (length (now rows)) ⌝ }
+// A row at the front of the area. Its kind is 256 * mark + class: whether it was heard first-hand, and its class, in one number.
+fn put_row(rows: &mut [u32], time: u32, kind: usize, channel: usize, start: usize, size: usize)
+    requires { ⌜ RowRoom channel kind start size (length (now rows)) ⌝ }
     ensures { λ _. ⌜ now (rows .exit) ≡
-        over (rowWords (record { time = time; class = class; channel = channel; start = start; length = size; primary = mark })) (now (rows .entry)) ⌝ }
+        over (rowWords (record { time = time; class = kind % 256; channel = channel; start = start; length = size; primary = kind / 256 })) (now (rows .entry)) ⌝ }
 {
     rows[0] = time;
-    rows[1] = tagging::pack_tag(mark, class as u8, channel as u8);
+    rows[1] = tagging::pack_tag((kind / 256) as u8, (kind % 256) as u8, channel as u8);
     rows[2] = start as u32;
     rows[3] = size as u32;
 }
@@ -37,28 +29,26 @@ fn put_row(
 // The rows of `count` channels of a frame-block, from `channel` on.
 fn put_block(
     rows: &mut [u32],
-    mark: u8,
     count: usize,
     channel: usize,
     time: u32,
-    class: usize,
+    kind: usize,
     start: usize,
     size: usize,
 )
-    requires { ⌜ BlockRoom count channel class start size (length (now rows)) ⌝ }
-    ensures { λ _. ⌜ now (rows .exit) ≡ over (words (marked mark (blockRows count channel time class start size))) (now (rows .entry)) ⌝ }
+    requires { ⌜ BlockRoom count channel kind start size (length (now rows)) ⌝ }
+    ensures { λ _. ⌜ now (rows .exit) ≡ over (words (marked (kind / 256) (blockRows count channel time (kind % 256) start size))) (now (rows .entry)) ⌝ }
 {
     if count == 0 {
         return;
     }
-    put_row(rows, mark, time, class, channel, start, size);
+    put_row(rows, time, kind, channel, start, size);
     put_block(
         &mut rows[ROW_WIDTH..],
-        mark,
         count - 1,
         channel + 1,
         time,
-        class,
+        kind,
         start + size,
         size,
     );
@@ -67,21 +57,20 @@ fn put_block(
 // The rows of `count` frame-blocks from the k-th on of the entry at the front of s; answers the time of the place after them.
 fn put_group(
     rows: &mut [u32],
-    mark: u8,
     s: &[u8],
     format: u8,
     channels: usize,
     k: usize,
     count: usize,
     time: u32,
-    class: usize,
+    kind: usize,
     start: usize,
     size: usize,
 ) -> u32
-    requires { ⌜ GroupRoom k count channels class start size (length (now rows)) ⌝ }
+    requires { ⌜ GroupRoom k count channels kind start size (length (now rows)) ⌝ }
     ensures { λ r. ⌜ (r ≡ timeAfter (stepOf format) time (gapsFrom format (now (s .entry)) k count))
         × (now (rows .exit) ≡
-        over (words (marked mark (groupRows (stepOf format) channels time class start size (gapsFrom format (now (s .entry)) k count)))) (now (rows .entry))) ⌝ }
+        over (words (marked (kind / 256) (groupRows (stepOf format) channels time (kind % 256) start size (gapsFrom format (now (s .entry)) k count)))) (now (rows .entry))) ⌝ }
 {
     if count == 0 {
         return time;
@@ -89,19 +78,18 @@ fn put_group(
     let step = frames::step_of(format);
     let skipped = entries::gap(format, s, k) * step;
     let here = std::num::wrapping_add_u32(time, skipped);
-    put_block(rows, mark, channels, 0, here, class, start, size);
+    put_block(rows, channels, 0, here, kind, start, size);
     let next = std::num::wrapping_add_u32(here, step);
     let width = ROW_WIDTH * channels;
     put_group(
         &mut rows[width..],
-        mark,
         s,
         format,
         channels,
         k + 1,
         count - 1,
         next,
-        class,
+        kind,
         start + channels * size,
         size,
     )
@@ -133,16 +121,16 @@ pub(crate) fn put_contents(
     match entries::read_entry(format, &s[0..]) {
         EntryRead::Refused(_) => {}
         EntryRead::Entry(entry) => {
+            let kind = 256 * (mark as usize) + entry.class;
             let next = put_group(
                 rows,
-                mark,
                 &s[0..],
                 format,
                 channels,
                 0,
                 entry.blocks,
                 time,
-                entry.class,
+                kind,
                 start,
                 entry.length,
             );
