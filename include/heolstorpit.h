@@ -44,8 +44,9 @@
  *
  * ROWS. A frame row is four words:
  *    0  timestamp of the frame
- *    1  256 * class + channel; class 0 is no data, 1 is sound, 2 is SID (comfort noise), 5 is damaged sound and 6 damaged SID
- *       (formats 4 and 5, where the quality bit is 0); channels count from 0
+ *    1  65536 * primary + 256 * class + channel; class 0 is no data, 1 is sound, 2 is SID (comfort noise), 5 is damaged sound
+ *       and 6 damaged SID (formats 4 and 5, where the quality bit is 0); channels count from 0; primary is 1 in rows of a plain
+ *       payload and of the last block of a redundancy payload, 0 in those of redundant blocks, and ignored in rows to be written
  *    2  start: the place of the frame's first byte, in the packet (reading) or in `bytes` (writing)
  *    3  length of the frame in bytes
  * A row of no data has length 0; reading gives it as start the place where its bytes would lie. A frame of formats 4 and 5 is
@@ -70,6 +71,7 @@ extern "C" {
 #define HSP_SLOT_BYTES 320     /* bytes of a slot of the store: the longest frame */
 #define HSP_STORE_BYTES 61440  /* bytes of a store, at least: 192 slots */
 #define HSP_DRAW_AREA 320      /* bytes of the area that a frame is drawn to, at least */
+#define HSP_PRIMARY 65536      /* bit of a row's second word and of a tag: primary */
 #define HSP_MAX_REDUNDANT 4    /* redundant lists of a packet written, at most */
 #define HSP_NO_REDUNDANCY 128  /* redundancy_type: none */
 #define HSP_NO_MODE_REQUEST 15 /* mode_request: none; the greatest there is */
@@ -108,7 +110,8 @@ typedef struct {
  * well-formed buffer. The test cannot tell a buffer of yours from another that keeps the rules, nor look at the store.
  * The frames' bytes are in the store: the frame of slot s is at 320 * s. To look inside:
  *   times, tags, lengths, slots   the frames held, earliest first, in the first n elements, n being the number of ones in
- *                                 `occupied`; a tag is 256 * class + channel; the elements after the first n are 0
+ *                                 `occupied`; a tag is 65536 * primary + 256 * class + channel, its primary 0 or 1 as hsp_draw
+ *                                 answers it; the elements after the first n are 0
  *   occupied                      slot s is in use if bit s % 64 of occupied[s / 64] is set
  *   drawn                         1 once a frame was drawn; then last_time and last_channel are those of the last one drawn.
  *                                 Before that all three are 0
@@ -131,7 +134,7 @@ typedef struct {
  * hsp_offer's answer: where the fault is (see OFFSETS above), and how many rows of the packet (those with no data left out)
  *   late      came too late: a frame was drawn, and this one is not after it
  *   far       lie 2^31 ticks or more from frames held, before any frame was drawn
- *   repeated  are held already, and this copy is no better
+ *   repeated  are held already, and this copy is no better; it may set the frame's primary
  *   better    are held already, and this better copy replaced the one held: good before damaged, then sound before SID, then
  *             the longer, then the one with the greater byte where they first differ
  *   no_room   found 192 frames held
@@ -142,9 +145,12 @@ typedef struct {
     hsp_buffer buffer;
 } hsp_offered;
 
-/* hsp_draw's answer: the frame drawn; or, with `empty` 1 and zeros, that no frame is held. */
+/*
+ * hsp_draw's answer: the frame drawn; or, with `empty` 1 and zeros, that no frame is held. `primary` is 1 if the frame was heard
+ * first-hand: if any copy of it that was inserted, better or repeated came in a plain payload or as primary block; else 0.
+ */
 typedef struct {
-    uint32_t refusal, empty, time, channel, frame_class, length;
+    uint32_t refusal, empty, time, channel, frame_class, length, primary;
     hsp_buffer buffer;
 } hsp_drawn;
 
@@ -201,14 +207,14 @@ hsp_reading hsp_read(hsp_settings settings, const uint8_t *packet, size_t packet
 /*
  * Writes one payload for a list of rows, with no RTP header, at the front of `out`; the bytes of `out` after it stay.
  * Read at the first row's time, it gives the rows' times, channels, classes, lengths and frame bytes again, and in formats 4
- * and 5 the mode request.
+ * and 5 the mode request. The rows' primary bit is ignored.
  *   mode_request  0 to 15, or 15 for none (over 15 is refused with 11 in every format); formats 1 to 3 do not write it
  *   rows          four words a row. No row, or a part of a row at the end, is refused with 13
  *   bytes         what the rows' starts and lengths point into (a row outside it, also one of no data, is refused with 14)
  *   out           at least the bytes to be written (else 12); never more than 2,036
- * 13 also says that no payload of at most 2,036 bytes reads to these rows: a class or length that the format does not have,
- * channels of a frame-block that are missing, out of order or of different lengths, times that the format cannot step to,
- * more than 128 rows, or too many bytes.
+ * 13 also says that no payload of at most 2,036 bytes reads to these rows: a class or length that the format does not have (a
+ * bit above the primary one is of such a class), channels of a frame-block that are missing, out of order or of different
+ * lengths, times that the format cannot step to, more than 128 rows, or too many bytes.
  */
 hsp_written hsp_write_payload(hsp_settings settings, uint8_t mode_request, const uint32_t *rows, size_t rows_length, const uint8_t *bytes,
                               size_t bytes_length, uint8_t *out, size_t out_length);

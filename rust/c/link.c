@@ -21,7 +21,8 @@ HOLDS(buffer_drawn, offsetof(hsp_buffer, drawn) == 3104 && offsetof(hsp_buffer, 
 HOLDS(fresh_size, sizeof(hsp_fresh) == 3120 && offsetof(hsp_fresh, buffer) == 8);
 HOLDS(offered_size, sizeof(hsp_offered) == 3144 && offsetof(hsp_offered, buffer) == 32);
 HOLDS(offered_offset, offsetof(hsp_offered, offset) == 4 && offsetof(hsp_offered, late) == 8 && offsetof(hsp_offered, inserted) == 28);
-HOLDS(drawn_size, sizeof(hsp_drawn) == 3136 && offsetof(hsp_drawn, buffer) == 24);
+HOLDS(drawn_size, sizeof(hsp_drawn) == 3144 && offsetof(hsp_drawn, buffer) == 32);
+HOLDS(drawn_primary, offsetof(hsp_drawn, length) == 20 && offsetof(hsp_drawn, primary) == 24);
 HOLDS(reception_size, sizeof(hsp_reception) == 56 && offsetof(hsp_reception, jitter) == 0);
 HOLDS(reception_first, offsetof(hsp_reception, probation) == 8 && offsetof(hsp_reception, started) == 12);
 HOLDS(reception_sequence, offsetof(hsp_reception, base) == 16 && offsetof(hsp_reception, highest) == 20);
@@ -49,24 +50,31 @@ static uint8_t packet[12 + 284] = {0x80, 0x80 | 97, 0x12, 0x34, 0, 0, 0x10, 0, 0
 /* RFC 4867: mode request 7; AMR frames of 12 bytes damaged, of no data, and SID of 5 bytes. */
 static uint8_t amr[12 + 4 + 17] = {0x80, 97, 0, 1, 0, 0, 0x10, 0, 0, 0, 0, 9, 0x70, 0x80, 0xFC, 0x44};
 
+/* RFC 2198: GSM-HR, sound 160 ticks before (offset 160, length 15), then as primary block sound and no data. */
+static uint8_t redundancy[12 + 5 + 15 + 16] = {0x80, 98, 0, 2, 0, 0, 0x10, 0, 0, 0, 0, 9, 0xE1, 2, 0x80, 15, 97, [32] = 0x80, 0x70};
+
 int main(void) {
     hsp_settings settings = {1, 1, 97, HSP_NO_REDUNDANCY};
+    hsp_settings gsm_settings = {3, 1, 97, 98};
     hsp_settings amr_settings = {4, 1, 97, HSP_NO_REDUNDANCY};
     uint32_t rows[HSP_ROW_AREA];
     size_t i;
     for (i = 16; i < sizeof packet; i++) packet[i] = (uint8_t)i;
     for (i = 16; i < sizeof amr; i++) amr[i] = (uint8_t)(3 * i);
     memset(rows, 0xEE, sizeof rows);
+    for (i = 18; i < 32; i++) redundancy[i] = redundancy[i + 16] = 5;
     (void)settings;
+    (void)amr_settings;
+    (void)gsm_settings;
 
 #ifdef HAVE_READ
     {
         hsp_reading r = hsp_read(settings, packet, sizeof packet, rows, HSP_ROW_AREA);
         EXPECT(r.refusal == 0 && r.rows == 3 && r.marker == 1 && r.sequence == 0x1234 && r.timestamp == 4096 && r.source == 9);
         EXPECT(r.mode_request == HSP_NO_MODE_REQUEST && r.offset == 0);
-        EXPECT(rows[0] == 4096 && rows[1] == 256 && rows[2] == 16 && rows[3] == 80);
-        EXPECT(rows[4] == 5056 && rows[5] == 256 && rows[6] == 96 && rows[7] == 80);
-        EXPECT(rows[8] == 6016 && rows[9] == 256 && rows[10] == 176 && rows[11] == 120 && rows[12] == 0xEEEEEEEE);
+        EXPECT(rows[0] == 4096 && rows[1] == HSP_PRIMARY + 256 && rows[2] == 16 && rows[3] == 80);
+        EXPECT(rows[4] == 5056 && rows[5] == HSP_PRIMARY + 256 && rows[6] == 96 && rows[7] == 80);
+        EXPECT(rows[8] == 6016 && rows[9] == HSP_PRIMARY + 256 && rows[10] == 176 && rows[11] == 120 && rows[12] == 0xEEEEEEEE);
         r = hsp_read(settings, packet, sizeof packet - 1, rows, HSP_ROW_AREA);
         EXPECT(r.refusal == 10 && r.rows == 0 && r.marker == 0 && r.sequence == 0 && r.timestamp == 0 && r.source == 0);
         /* the first byte after the two entries; then the second entry cut short, and missing */
@@ -81,9 +89,12 @@ int main(void) {
         settings.channels = 1;
         r = hsp_read(amr_settings, amr, sizeof amr, rows, HSP_ROW_AREA);
         EXPECT(r.refusal == 0 && r.rows == 3 && r.mode_request == 7);
-        EXPECT(rows[0] == 4096 && rows[1] == 5 * 256 && rows[2] == 16 && rows[3] == 12);
-        EXPECT(rows[4] == 4256 && rows[5] == 0 && rows[6] == 28 && rows[7] == 0);
-        EXPECT(rows[8] == 4416 && rows[9] == 2 * 256 && rows[10] == 28 && rows[11] == 5);
+        EXPECT(rows[0] == 4096 && rows[1] == HSP_PRIMARY + 5 * 256 && rows[2] == 16 && rows[3] == 12);
+        EXPECT(rows[4] == 4256 && rows[5] == HSP_PRIMARY && rows[6] == 28 && rows[7] == 0);
+        EXPECT(rows[8] == 4416 && rows[9] == HSP_PRIMARY + 2 * 256 && rows[10] == 28 && rows[11] == 5);
+        r = hsp_read(gsm_settings, redundancy, sizeof redundancy, rows, HSP_ROW_AREA);
+        EXPECT(r.refusal == 0 && r.rows == 3 && rows[0] == 3936 && rows[1] == 256);
+        EXPECT(rows[4] == 4096 && rows[5] == HSP_PRIMARY + 256 && rows[8] == 4256 && rows[9] == HSP_PRIMARY);
         puts("hsp_read works from C");
     }
 #endif
@@ -105,6 +116,15 @@ int main(void) {
         EXPECT(w.refusal == 0 && w.length == 21 && memcmp(out, amr + 12, 21) == 0);
         w = hsp_write_packet(amr_settings, 7, 0, 1, 9, counts, 1, amr_list, 12, amr, sizeof amr, out, sizeof out);
         EXPECT(w.refusal == 0 && w.length == 33 && memcmp(out, amr, 33) == 0);
+        {
+            /* the primary bit is ignored; the bits above it are of no class */
+            uint32_t marked[12];
+            for (i = 0; i < 12; i++) marked[i] = list[i] + (i % 8 == 1 ? HSP_PRIMARY : 0);
+            w = hsp_write_payload(settings, 3, marked, 12, packet, sizeof packet, out, sizeof out);
+            EXPECT(w.refusal == 0 && w.length == 284 && memcmp(out, packet + 12, 284) == 0);
+            marked[5] += 2 * HSP_PRIMARY;
+            EXPECT(hsp_write_payload(settings, 3, marked, 12, packet, sizeof packet, out, sizeof out).refusal == 13);
+        }
         puts("hsp_write_payload and hsp_write_packet work from C");
     }
 #endif
@@ -126,12 +146,13 @@ int main(void) {
         EXPECT(o.refusal == 10 && o.offset == 16 && o.repeated == 0 && memcmp(&first, &o.buffer, sizeof first) == 0);
         d = hsp_draw(o.buffer, store, sizeof store, area, sizeof area);
         EXPECT(d.refusal == 0 && d.empty == 0 && d.time == 4096 && d.channel == 0 && d.frame_class == 1 && d.length == 80);
+        EXPECT(d.primary == 1);
         EXPECT(memcmp(area, packet + 16, 80) == 0 && d.buffer.drawn == 1 && d.buffer.last_time == 4096);
         d = hsp_draw(d.buffer, store, sizeof store, area, sizeof area);
         d = hsp_draw(d.buffer, store, sizeof store, area, sizeof area);
         EXPECT(d.time == 6016 && d.length == 120 && memcmp(area, packet + 176, 120) == 0);
         d = hsp_draw(d.buffer, store, sizeof store, area, sizeof area);
-        EXPECT(d.refusal == 0 && d.empty == 1 && d.time == 0 && d.length == 0);
+        EXPECT(d.refusal == 0 && d.empty == 1 && d.time == 0 && d.length == 0 && d.primary == 0);
         /* the first frame damaged, then good: better, and drawn as such */
         f = hsp_new(amr_settings);
         o = hsp_offer(f.buffer, amr, sizeof amr, rows, HSP_ROW_AREA, store, sizeof store);
@@ -143,6 +164,25 @@ int main(void) {
         EXPECT(d.refusal == 0 && d.time == 4096 && d.frame_class == 1 && d.length == 12 && memcmp(area, amr + 16, 12) == 0);
         d.buffer.drawn = 2;
         EXPECT(hsp_draw(d.buffer, store, sizeof store, area, sizeof area).refusal == 15);
+        /* one frame of a redundant block, one of the primary block; then the first one again, first-hand */
+        f = hsp_new(gsm_settings);
+        o = hsp_offer(f.buffer, redundancy, sizeof redundancy, rows, HSP_ROW_AREA, store, sizeof store);
+        EXPECT(o.refusal == 0 && o.inserted == 2 && o.buffer.tags[0] == 256 && o.buffer.tags[1] == HSP_PRIMARY + 256);
+        d = hsp_draw(o.buffer, store, sizeof store, area, sizeof area);
+        EXPECT(d.refusal == 0 && d.time == 3936 && d.primary == 0);
+        d = hsp_draw(d.buffer, store, sizeof store, area, sizeof area);
+        EXPECT(d.refusal == 0 && d.time == 4096 && d.primary == 1);
+        o.buffer.tags[0] += 2 * HSP_PRIMARY;
+        EXPECT(hsp_draw(o.buffer, store, sizeof store, area, sizeof area).refusal == 15);
+        o.buffer.tags[0] -= HSP_PRIMARY;
+        d = hsp_draw(o.buffer, store, sizeof store, area, sizeof area);
+        EXPECT(d.refusal == 0 && d.time == 3936 && d.primary == 1 && d.frame_class == 1 && d.length == 14);
+        o = hsp_offer(f.buffer, redundancy, sizeof redundancy, rows, HSP_ROW_AREA, store, sizeof store);
+        redundancy[6] = 0x0F;
+        redundancy[7] = 0x60;
+        o = hsp_offer(o.buffer, redundancy, sizeof redundancy, rows, HSP_ROW_AREA, store, sizeof store);
+        EXPECT(o.refusal == 0 && o.repeated == 1 && o.inserted == 1);
+        EXPECT(o.buffer.tags[0] == 256 && o.buffer.tags[1] == HSP_PRIMARY + 256 && o.buffer.tags[2] == HSP_PRIMARY + 256);
         puts("hsp_new, hsp_offer and hsp_draw work from C");
     }
 #endif

@@ -14,16 +14,16 @@ use Rattle.rtp.proofs.TestLaws.{by-test}
 use Rattle.payload.specs.Rows.{Row}
 use Rattle.packet.specs.Readings.{Outcome, reading}
 use Rattle.playout.specs.Sizes.{storeSize}
-use Rattle.playout.specs.Copies.{Copy}
+use Rattle.playout.specs.Copies.{Received}
 use Rattle.playout.specs.Entries.{Held}
 use Rattle.playout.specs.Verdicts.{judgeAll}
 use Rattle.playout.proofs.JudgeLaws.{judgeAll-append}
-use Rattle.playout.proofs.HeldLaws.{Frames}
-use Rattle.reorder.specs.Rows.{copiesOf, readCopies}
+use Rattle.playout.proofs.HeldLaws.{Frames, Marks}
+use Rattle.reorder.specs.Rows.{receivedIn, readReceived}
 use Rattle.reorder.proofs.StateLaws.{Fits}
-use Rattle.reorder.proofs.CopyLaws.{read-fit, fits-append, fits-frames}
+use Rattle.reorder.proofs.CopyLaws.{read-fit, fits-append, fits-frames, fits-marks}
 use Rattle.delivery.specs.Runs.{lent, Offer}
-use Rattle.delivery.specs.Claims.{offerRefusal, accepted, copiesIn}
+use Rattle.delivery.specs.Claims.{offerRefusal, accepted, receivedFrom, copiesIn}
 use Rattle.delivery.proofs.StepLaws.{IsRead}
 use Rattle.delivery.proofs.RunLaws.{lent-length, refusal-length}
 
@@ -34,12 +34,12 @@ reads-alike st n packet l = rw (le-ltb n rowArea l)
 
 -- judging the copies of one more packet
 pub judge-more : (st : Settings) (h : Held) (s l packet : List ℕ) (rs : List Row) → IsRead st h s l packet rs → (ps : List (List ℕ))
-    → let g = judgeAll h s (copiesOf packet rs) in let k = judgeAll (g .held) (g .store) (copiesIn st ps) in
-    judgeAll h s (copiesIn st (packet ∷ ps)) ≡ record { held = k .held; store = k .store; judgements = g .judgements ++ k .judgements }
-unfolding copiesIn
+    → let g = judgeAll h s (receivedIn packet rs) in let k = judgeAll (g .held) (g .store) (receivedFrom st ps) in
+    judgeAll h s (receivedFrom st (packet ∷ ps)) ≡ record { held = k .held; store = k .store; judgements = g .judgements ++ k .judgements }
+unfolding receivedFrom
 judge-more st h s l packet rs r ps =
-    ap (λ (x : Outcome). judgeAll h s (readCopies packet x ++ copiesIn st ps)) (reads-alike st (length l) packet (r .area) ∙ r .same)
-    ∙ judgeAll-append h s (copiesOf packet rs) (copiesIn st ps)
+    ap (λ (x : Outcome). judgeAll h s (readReceived packet x ++ receivedFrom st ps)) (reads-alike st (length l) packet (r .area) ∙ r .same)
+    ∙ judgeAll-append h s (receivedIn packet rs) (receivedFrom st ps)
 
 -- what is accepted goes by the lengths of the areas alone
 pub accepted-length : (st : Settings) (s t : List ℕ) → length s ≡ length t → (os : List Offer) (rows others : List ℕ) → length rows ≡ length others
@@ -61,14 +61,17 @@ accepted-none st s l (o ∷ os) rows =
 
 -- The copies of packets
 
-copies-fit : (st : Settings) → inRange st ≡ true → (ps : List (List ℕ)) → Fits st (copiesIn st ps)
-unfolding copiesIn Fits
+copies-fit : (st : Settings) → inRange st ≡ true → (ps : List (List ℕ)) → Fits st (receivedFrom st ps)
+unfolding receivedFrom Fits
 copies-fit st range [] = tt
 copies-fit st range (p ∷ ps) =
-    fits-append st (readCopies p (reading st rowArea p)) (copiesIn st ps) (read-fit st range rowArea p (reading st rowArea p) refl) (copies-fit st range ps)
+    fits-append st (readReceived p (reading st rowArea p)) (receivedFrom st ps) (read-fit st range rowArea p (reading st rowArea p) refl) (copies-fit st range ps)
 
 pub copies-frames : (st : Settings) → inRange st ≡ true → (ps : List (List ℕ)) → Frames (copiesIn st ps)
-copies-frames st range ps = fits-frames st (copiesIn st ps) (copies-fit st range ps)
+copies-frames st range ps = fits-frames st (receivedFrom st ps) (copies-fit st range ps)
+
+pub copies-marks : (st : Settings) → inRange st ≡ true → (ps : List (List ℕ)) → Marks (receivedFrom st ps)
+copies-marks st range ps = fits-marks st (receivedFrom st ps) (copies-fit st range ps)
 
 left : {A : Type 0} (x : A) (xs ys : List A) → List·Memᴰ x xs → List·Memᴰ x (xs ++ ys)
 left x (a ∷ xs) ys (here e) = here e
@@ -79,18 +82,18 @@ right x [] ys m = m
 right x (a ∷ xs) ys m = there (right x xs ys m)
 
 -- of a packet among others
-copy-in : (st : Settings) (ps : List (List ℕ)) (p : List ℕ) (x : Copy) → List·Memᴰ p ps → List·Memᴰ x (readCopies p (reading st rowArea p)) → List·Memᴰ x (copiesIn st ps)
-unfolding copiesIn
+copy-in : (st : Settings) (ps : List (List ℕ)) (p : List ℕ) (x : Received) → List·Memᴰ p ps → List·Memᴰ x (readReceived p (reading st rowArea p)) → List·Memᴰ x (receivedFrom st ps)
+unfolding receivedFrom
 copy-in st (q ∷ ps) p x (here e) m =
-    left x (readCopies q (reading st rowArea q)) (copiesIn st ps) (subst (λ (r : List ℕ). List·Memᴰ x (readCopies r (reading st rowArea r))) e m)
-copy-in st (q ∷ ps) p x (there n) m = right x (readCopies q (reading st rowArea q)) (copiesIn st ps) (copy-in st ps p x n m)
+    left x (readReceived q (reading st rowArea q)) (receivedFrom st ps) (subst (λ (r : List ℕ). List·Memᴰ x (readReceived r (reading st rowArea r))) e m)
+copy-in st (q ∷ ps) p x (there n) m = right x (readReceived q (reading st rowArea q)) (receivedFrom st ps) (copy-in st ps p x n m)
 
 -- packets that are all among others bring no other copies
-pub copies-among : (st : Settings) (ps qs : List (List ℕ)) → ((p : List ℕ) → List·Memᴰ p ps → List·Memᴰ p qs) → (x : Copy) → List·Memᴰ x (copiesIn st ps) → List·Memᴰ x (copiesIn st qs)
-unfolding copiesIn
+pub copies-among : (st : Settings) (ps qs : List (List ℕ)) → ((p : List ℕ) → List·Memᴰ p ps → List·Memᴰ p qs) → (x : Received) → List·Memᴰ x (receivedFrom st ps) → List·Memᴰ x (receivedFrom st qs)
+unfolding receivedFrom
 copies-among st [] qs f x m = absurd (nowhere m)
-copies-among st (p ∷ ps) qs f x m = go (append-cases (readCopies p (reading st rowArea p)) m) (copies-among st ps qs (λ q n. f q (there n)) x)
+copies-among st (p ∷ ps) qs f x m = go (append-cases (readReceived p (reading st rowArea p)) m) (copies-among st ps qs (λ q n. f q (there n)) x)
   where
-    go : List·Memᴰ x (readCopies p (reading st rowArea p)) ⊎ List·Memᴰ x (copiesIn st ps) → (List·Memᴰ x (copiesIn st ps) → List·Memᴰ x (copiesIn st qs)) → List·Memᴰ x (copiesIn st qs)
+    go : List·Memᴰ x (readReceived p (reading st rowArea p)) ⊎ List·Memᴰ x (receivedFrom st ps) → (List·Memᴰ x (receivedFrom st ps) → List·Memᴰ x (receivedFrom st qs)) → List·Memᴰ x (receivedFrom st qs)
     go (inl a) rest = copy-in st qs p x (f p (here refl)) a
     go (inr a) rest = rest a

@@ -24,7 +24,7 @@ use Rattle.playout.proofs.HeldLaws.{fresh, drawnFirst}
 use Rattle.layout.specs.declared.buffer.Buffer.{Buffer}
 use Rattle.layout.specs.Layout.{encode, model}
 use Rattle.layout.specs.WellFormed.{wellFormed}
-use Rattle.reorder.specs.Rows.{copiesOf}
+use Rattle.reorder.specs.Rows.{receivedIn}
 use Rattle.reorder.specs.ModelCalls.{Result, refused, done, Offered, offerTo}
 use Rattle.reorder.specs.Calls.{OfferOutcome, offerRefused, offerDone, offerCall}
 use Rattle.reorder.proofs.BufferLaws.{good-back}
@@ -49,12 +49,12 @@ module _ (st : Settings) (range : inRange st ≡ true) where
       offer-cases st range h g s rows o (λ (d : Step). Even n (length (h .entries)) (d .yield ∷ run (d .state) cs .yields) (run (d .state) cs .state))
       (λ q e. counts cs h g s l n)
       (λ rs r e.
-      let j = judgeAll h s (copiesOf (o .packet) rs) in
+      let j = judgeAll h s (receivedIn (o .packet) rs) in
       let m = tally n (j .judgements) in
       let R = run (at st (j .held) (j .store) (over (words rs) l)) cs in
       let c = counts cs (j .held) (judged-fine st h s l range g (o .packet) rs r) (j .store) (over (words rs) l) m in
       let a : tally n (j .judgements ++ judged (R .yields)) .inserted ≡ tally m (judged (R .yields)) .inserted = ap (λ (x : Counts). x .inserted) (tally-append n (j .judgements) (judged (R .yields))) in
-      omega (arith, a, c, judgeAll-count h s n (copiesOf (o .packet) rs)))
+      omega (arith, a, c, judgeAll-count h s n (receivedIn (o .packet) rs)))
   counts (draw area ∷ cs) h g s rows n =
       draw-cases st range h g s rows area (λ (d : Step). Even n (length (h .entries)) (d .yield ∷ run (d .state) cs .yields) (run (d .state) cs .state))
       (λ e. counts cs h g s rows n)

@@ -10,17 +10,17 @@ use Rattle.rtp.specs.Ranges.{inRange}
 use Rattle.rtp.specs.declared.settings.Settings.{Settings}
 use Rattle.rtp.proofs.TestLaws.{by-test}
 use Rattle.playout.specs.Sizes.{slots, storeSize}
-use Rattle.playout.specs.Copies.{Copy}
-use Rattle.playout.specs.Entries.{views}
+use Rattle.playout.specs.Copies.{Copy, Received}
 use Rattle.playout.specs.Verdicts.{judgeAll}
-use Rattle.playout.specs.Lists.{Playout, WithinStretch, AtMost}
+use Rattle.playout.specs.Lists.{WithinStretch, AtMost, MarkedPlayout}
 use Rattle.playout.proofs.HeldLaws.{fresh}
-use Rattle.playout.proofs.PlayoutLaws.{gathered, playout-of, playout-unique}
+use Rattle.playout.proofs.PlayoutLaws.{gathered}
+use Rattle.playout.proofs.MarkLaws.{markedViews, copies-in, marked-playout-of, marked-unique}
 use Rattle.delivery.specs.Runs.{State, Offer, offer, draw, run, refusalOf, served}
-use Rattle.delivery.specs.Claims.{accepted, copiesIn, SamePackets, inTurn, delivery, Demand, OnePlayout}
+use Rattle.delivery.specs.Claims.{accepted, receivedFrom, copiesIn, SamePackets, inTurn, delivery, Demand, OnePlayout}
 use Rattle.delivery.proofs.StepLaws.{spare, at, fresh-fine, begun-at}
 use Rattle.delivery.proofs.RunLaws.{run-refusals}
-use Rattle.delivery.proofs.AcceptedLaws.{accepted-none, copies-frames, copies-among}
+use Rattle.delivery.proofs.AcceptedLaws.{accepted-none, copies-frames, copies-marks, copies-among}
 use Rattle.delivery.proofs.DrawLaws.{InTurn, offers-turn}
 
 -- the premises speak of the copies alone
@@ -30,52 +30,59 @@ within-among a b f W = record { base = W .base; word = W .word; within = λ x m.
 few-among : (n : ℕ) (a b : List Copy) → ((x : Copy) → List·Memᴰ x b → List·Memᴰ x a) → AtMost n a → AtMost n b
 few-among n a b f few ds own d = few ds (λ x m. f x (own x m)) d
 
-none-played : Playout [] []
-none-played = record { once = tt; ascending = tt; copies = λ d m. m; all = λ x m. absurd (nowhere m); best = λ d x m n. absurd (nowhere m) }
+none-played : MarkedPlayout [] []
+none-played = record {
+  playout = record { once = tt; ascending = tt; copies = λ d m. m; all = λ x m. absurd (nowhere m); best = λ d x m n. absurd (nowhere m) };
+  set = λ d m. absurd (nowhere m);
+  unset = λ d m. absurd (nowhere m);
+}
 
 module _ (st : Settings) (range : inRange st ≡ true) where
-  -- the copies held after packets, with a store
-  abbrev left : List ℕ → List (List ℕ) → List Copy
-  left s ps = let g = gathered s (copiesIn st ps) in views (g .store) (g .held .entries)
+  -- the copies held after packets, with their marks and with a store
+  abbrev left : List ℕ → List (List ℕ) → List Received
+  left s ps = let g = gathered s (receivedFrom st ps) in markedViews (g .store) (g .held .entries)
 
   module _ (packets : List (List ℕ)) (W : WithinStretch (copiesIn st packets)) (few : AtMost slots (copiesIn st packets)) where
-    list-is : Playout (copiesIn st packets) (left (spare .0) packets)
-    list-is = playout-of (spare .0) (copiesIn st packets) (spare .1) (copies-frames st range packets) W few
+    list-is : MarkedPlayout (receivedFrom st packets) (left (spare .0) packets)
+    list-is = marked-playout-of (spare .0) (receivedFrom st packets) (spare .1) (copies-frames st range packets) (copies-marks st range packets) W few
 
     module _ (s rows : List ℕ) (os : List Offer) (same : SamePackets packets (accepted st s rows os)) where
       abbrev theirs : List (List ℕ)
       theirs = accepted st s rows os
 
-      to : (x : Copy) → List·Memᴰ x (copiesIn st packets) → List·Memᴰ x (copiesIn st theirs)
+      to : (x : Received) → List·Memᴰ x (receivedFrom st packets) → List·Memᴰ x (receivedFrom st theirs)
       to = copies-among st packets theirs (λ p. same p .0)
 
-      back : (x : Copy) → List·Memᴰ x (copiesIn st theirs) → List·Memᴰ x (copiesIn st packets)
+      back : (x : Received) → List·Memᴰ x (receivedFrom st theirs) → List·Memᴰ x (receivedFrom st packets)
       back = copies-among st theirs packets (λ p. same p .1)
 
+      back-copy : (c : Copy) → List·Memᴰ c (copiesIn st theirs) → List·Memᴰ c (copiesIn st packets)
+      back-copy = copies-in (receivedFrom st theirs) (receivedFrom st packets) back
+
       -- what is held is their playout list; with a store under its size nothing is accepted, and nothing is held
-      held-is : Playout (copiesIn st theirs) (left s theirs)
-      unfolding copiesIn judgeAll
+      held-is : MarkedPlayout (receivedFrom st theirs) (left s theirs)
+      unfolding receivedFrom judgeAll
       held-is =
           by-test (ltb (length s) storeSize)
-          (λ a. subst (λ (ps : List (List ℕ)). Playout (copiesIn st ps) (left s ps)) (sym (accepted-none st s (ltb-true _ _ a) os rows)) none-played)
+          (λ a. subst (λ (ps : List (List ℕ)). MarkedPlayout (receivedFrom st ps) (left s ps)) (sym (accepted-none st s (ltb-true _ _ a) os rows)) none-played)
           (λ a.
-          playout-of s (copiesIn st theirs) (ltb-false _ _ a) (copies-frames st range theirs)
-          (within-among (copiesIn st packets) (copiesIn st theirs) back W) (few-among slots (copiesIn st packets) (copiesIn st theirs) back few))
+          marked-playout-of s (receivedFrom st theirs) (ltb-false _ _ a) (copies-frames st range theirs) (copies-marks st range theirs)
+          (within-among (copiesIn st packets) (copiesIn st theirs) back-copy W) (few-among slots (copiesIn st packets) (copiesIn st theirs) back-copy few))
 
       one-list : left s theirs ≡ left (spare .0) packets
       one-list =
-          sym (playout-unique (copiesIn st packets) (copiesIn st theirs) (left (spare .0) packets) (left s theirs)
-          (copies-frames st range packets) W to back list-is held-is)
+          sym (marked-unique (receivedFrom st packets) (receivedFrom st theirs) to back (left (spare .0) packets) (left s theirs)
+          (copies-frames st range packets) W list-is held-is)
 
       turns : (areas : List (List ℕ)) → InTurn (served (delivery st s rows os areas .yields)) (left (spare .0) packets)
       turns areas =
           subst (λ (x : State). InTurn (served (run x (map offer os ++ map draw areas) .yields)) (left (spare .0) packets)) (sym (begun-at st range s rows))
           (offers-turn st range areas os fresh (fresh-fine st) s rows
-          ∙ ap (λ (l : List Copy). inTurn (length (served (run (at st fresh s rows) (map offer os ++ map draw areas) .yields))) l) one-list)
+          ∙ ap (λ (l : List Received). inTurn (length (served (run (at st fresh s rows) (map offer os ++ map draw areas) .yields))) l) one-list)
 
 pub one-playout : OnePlayout
 one-playout st range packets W l m p q =
-    playout-unique (copiesIn st packets) (copiesIn st packets) l m (copies-frames st range packets) W (λ x i. i) (λ x i. i) p q
+    marked-unique (receivedFrom st packets) (receivedFrom st packets) (λ x i. i) (λ x i. i) l m (copies-frames st range packets) W p q
 
 pub demand : Demand
 demand st range = record {

@@ -21,42 +21,42 @@ use Rattle.playout.specs.Verdicts.{noCounts, Judgement, tally, Gathered, judgeA
 use Rattle.playout.specs.Lists.{WithinStretch, AtMost}
 use Rattle.playout.proofs.HeldLaws.{fresh}
 use Rattle.playout.proofs.PremiseLaws.{premises-exact}
-use Rattle.reorder.specs.Rows.{copiesOf}
+use Rattle.reorder.specs.Rows.{receivedIn}
 use Rattle.delivery.specs.Runs.{State, lent, Offer, offer, Step, run, judged}
-use Rattle.delivery.specs.Claims.{accepted, copiesIn, PremisesExact}
+use Rattle.delivery.specs.Claims.{accepted, receivedFrom, copiesIn, PremisesExact}
 use Rattle.delivery.proofs.StepLaws.{spare, Fine, at, fresh-fine, begun-at, offer-cases, judged-fine, store-length, rows-length}
-use Rattle.delivery.proofs.AcceptedLaws.{accepted-length, accepted-none, copies-frames, judge-more}
+use Rattle.delivery.proofs.AcceptedLaws.{accepted-length, accepted-none, copies-frames, copies-marks, judge-more}
 
 module _ (st : Settings) (range : inRange st ≡ true) where
   -- offers judge the copies accepted
-  offers-judge : (os : List Offer) (h : Held) → Fine st h → (s rows : List ℕ) → judged (run (at st h s rows) (map offer os) .yields) ≡ judgeAll h s (copiesIn st (accepted st s rows os)) .judgements
-  unfolding run judged accepted copiesIn judgeAll
+  offers-judge : (os : List Offer) (h : Held) → Fine st h → (s rows : List ℕ) → judged (run (at st h s rows) (map offer os) .yields) ≡ judgeAll h s (receivedFrom st (accepted st s rows os)) .judgements
+  unfolding run judged accepted receivedFrom judgeAll
   offers-judge [] h g s rows = refl
   offers-judge (o ∷ os) h g s rows =
       let l = lent rows (o .area) in
       offer-cases st range h g s rows o
-      (λ (d : Step). judged (d .yield ∷ run (d .state) (map offer os) .yields) ≡ judgeAll h s (copiesIn st (accepted st s rows (o ∷ os))) .judgements)
+      (λ (d : Step). judged (d .yield ∷ run (d .state) (map offer os) .yields) ≡ judgeAll h s (receivedFrom st (accepted st s rows (o ∷ os))) .judgements)
       (λ q e. rw (e, ne-eqb (number (q .refusal)) 0 (omega (arith, number-positive (q .refusal)))) (offers-judge os h g s l))
       (λ rs r e.
-      let j = judgeAll h s (copiesOf (o .packet) rs) in
+      let j = judgeAll h s (receivedIn (o .packet) rs) in
       let k = offers-judge os (j .held) (judged-fine st h s l range g (o .packet) rs r) (j .store) (over (words rs) l) in
       let same : accepted st (j .store) (over (words rs) l) os ≡ accepted st s l os =
       accepted-length st (j .store) s (store-length st h s l range g (o .packet) rs r) os (over (words rs) l) l (rows-length st h s l range g (o .packet) rs r) in
       rw e
-      (ap (λ (x : List Judgement). j .judgements ++ x) (k ∙ ap (λ (ps : List (List ℕ)). judgeAll (j .held) (j .store) (copiesIn st ps) .judgements) same)
+      (ap (λ (x : List Judgement). j .judgements ++ x) (k ∙ ap (λ (ps : List (List ℕ)). judgeAll (j .held) (j .store) (receivedFrom st ps) .judgements) same)
       ∙ sym (ap (λ (x : Gathered). x .judgements) (judge-more st h s l (o .packet) rs r (accepted st s l os)))))
 
   abbrev Exact : List (List ℕ) → List Judgement → Type 0
   Exact ps js = (WithinStretch (copiesIn st ps) × AtMost slots (copiesIn st ps)) ↔ ((tally noCounts js .far ≡ 0) × (tally noCounts js .noRoom ≡ 0))
 
   -- with a store under its size nothing is accepted
-  exact : (s rows : List ℕ) (os : List Offer) → Exact (accepted st s rows os) (judgeAll fresh s (copiesIn st (accepted st s rows os)) .judgements)
-  unfolding copiesIn judgeAll
+  exact : (s rows : List ℕ) (os : List Offer) → Exact (accepted st s rows os) (judgeAll fresh s (receivedFrom st (accepted st s rows os)) .judgements)
+  unfolding receivedFrom judgeAll
   exact s rows os =
       let ps = accepted st s rows os in
       by-test (ltb (length s) storeSize)
-      (λ a. subst (λ (qs : List (List ℕ)). Exact qs (judgeAll fresh s (copiesIn st qs) .judgements)) (sym (accepted-none st s (ltb-true _ _ a) os rows)) (premises-exact (spare .0) [] (spare .1) (copies-frames st range [])))
-      (λ a. premises-exact s (copiesIn st ps) (ltb-false _ _ a) (copies-frames st range ps))
+      (λ a. subst (λ (qs : List (List ℕ)). Exact qs (judgeAll fresh s (receivedFrom st qs) .judgements)) (sym (accepted-none st s (ltb-true _ _ a) os rows)) (premises-exact (spare .0) [] (spare .1) (copies-frames st range []) (copies-marks st range [])))
+      (λ a. premises-exact s (receivedFrom st ps) (ltb-false _ _ a) (copies-frames st range ps) (copies-marks st range ps))
 
 pub exact-premises : PremisesExact
 exact-premises st store rows os range =

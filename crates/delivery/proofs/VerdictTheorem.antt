@@ -1,10 +1,10 @@
 -- Far, held and better are what they say: the proofs of the claims.
-use Prim.Native.Nat.{ℕ, _^_, _<_, compare, Ordering, Ordering·lt, Ordering·eq, Ordering·gt}
+use Prim.Native.Nat.{ℕ, _^_, _<_}
 use mathlib.Core.Path.{_≡_, refl, sym, ap, ap₂, _∙_, subst}
 use mathlib.Core.Logic.{inl, inr}
-use mathlib.Core.List.{List, [], _∷_, _++_, List·Memᴰ, List·Memᴰ·head as here, List·Memᴰ·tail as there}
+use mathlib.Core.List.{List, [], _∷_, _++_, List·Memᴰ}
 use mathlib.Core.Bool.{Bool, true, false, cond, not}
-use mathlib.Core.Option.{some, Option·none-ne-some as none≢some, Option·some-injective}
+use mathlib.Core.Option.{some}
 use native.Mathlib.Omega.{arith}
 use borrow.Author.Tests.{eqb-true}
 use lib.Dec.{eqb}
@@ -13,63 +13,20 @@ use Rattle.rtp.specs.declared.settings.Settings.{Settings}
 use Rattle.rtp.proofs.RangeLaws.{few-channels}
 use Rattle.rtp.proofs.TestLaws.{by-test, not-both}
 use Rattle.formats.specs.Frames.{sound, sid, damagedSound, damagedSid}
-use Rattle.playout.specs.Pairs.{half, ahead, after, order}
+use Rattle.playout.specs.Pairs.{half, ahead, order}
 use Rattle.playout.specs.Copies.{Copy, quality, soundness, greater, rank, betterFrame, better}
-use Rattle.playout.specs.Entries.{Entry, Held, entryOf, sideOfEntry, findAt, findBy}
+use Rattle.playout.specs.Entries.{Entry, Held, entryOf, sideOfEntry, findBy}
 use Rattle.playout.specs.Verdicts.{fits, isFar}
-use Rattle.playout.proofs.InsertionLaws.{Cmp, cmp, compare-is, Asc, find-mem}
+use Rattle.playout.proofs.InsertionLaws.{find-mem, find-same}
 use Rattle.playout.proofs.RankLaws.{Alike, greater-self, greater-turn, head-greater, head-same, quality-greater, soundness-greater, length-greater, length-same}
-use Rattle.playout.proofs.WrapLaws.{Near, order-place, order-after}
-use Rattle.playout.proofs.HeldLaws.{Sorted, rising-sorted, entryPlace, fits-base}
+use Rattle.playout.proofs.WrapLaws.{order-same}
+use Rattle.playout.proofs.HeldLaws.{Sorted, rising-sorted, find-member, fits-base}
 use Rattle.playout.proofs.PlayoutLaws.{fits-stretch}
 use Rattle.layout.proofs.ModelLaws.{Facts, fine-exactly}
 use Rattle.delivery.specs.VerdictClaims.{StretchWith, Holds, FarExactly, OfPair, HeldExactly, Beats, IsGood, IsDamaged, BetterOrder}
 use Rattle.delivery.proofs.WellFormedFactsTheorem.{to-stretch}
 
 -- Held
-
--- what is found compares as the same
-find-same : {A : Type 0} (to : A → Ordering) (l : List A) (h : A) → findBy to l ≡ some h → to h ≡ Ordering·eq
-unfolding findBy
-find-same to [] h e = absurd (none≢some h e)
-find-same {A} to (x ∷ t) h e = go (to x) refl (find-same to t h) e
-  where
-    go : (o : Ordering) → to x ≡ o → (findBy to t ≡ some h → to h ≡ Ordering·eq) → findAt o x (findBy to t) ≡ some h → to h ≡ Ordering·eq
-    go Ordering·lt q ih e = absurd (none≢some h e)
-    go Ordering·eq q ih e = ap to (sym (Option·some-injective x h e)) ∙ q
-    go Ordering·gt q ih e = ih e
-
--- pairs that compare as the same are the same
-order-same : (t c h d : ℕ) → order t c h d ≡ Ordering·eq → (t ≡ h) × (c ≡ d)
-unfolding order
-order-same t c h d e =
-    by-test (eqb t h)
-    (λ a. (eqb-true t h a, channels (rw a at e)))
-    (λ a. other (after t h) (rw a at e))
-  where
-    channels : compare c d ≡ Ordering·eq → c ≡ d
-    channels q = subst (λ (o : Ordering). Cmp o c d) q (cmp c d)
-
-    gt≢eq : Ordering·gt ≡ Ordering·eq → ⊥
-    gt≢eq z = let w : _≡_ {A = ℕ} 0 1 = cc in omega arith
-
-    lt≢eq : Ordering·lt ≡ Ordering·eq → ⊥
-    lt≢eq z = let w : _≡_ {A = ℕ} 0 1 = cc in omega arith
-
-    other : (p : Bool) → cond p Ordering·gt Ordering·lt ≡ Ordering·eq → (t ≡ h) × (c ≡ d)
-    other true q = absurd (gt≢eq q)
-    other false q = absurd (lt≢eq q)
-
--- in a sorted list each entry is found by its pair
-find-member : (b : ℕ) (lb : b < 2 ^ 32) (es : List Entry) → ((x : Entry) → List·Memᴰ x es → Near b (x .time) (x .channel)) → Asc (entryPlace b) es
-    → (e : Entry) → Near b (e .time) (e .channel) → List·Memᴰ e es → findBy (sideOfEntry e) es ≡ some e
-unfolding findBy
-find-member b lb (x ∷ es) near asc e u (here q) =
-    let o : sideOfEntry e x ≡ Ordering·eq = order-place b lb u (near x (here refl)) ∙ sym (compare-is Ordering·eq (entryPlace b e) (entryPlace b x) (ap (entryPlace b) q)) in
-    rw o (ap some (sym q))
-find-member b lb (x ∷ es) near asc e u (there m) =
-    let o : sideOfEntry e x ≡ Ordering·gt = order-after b lb u (near x (here refl)) (asc .0 e m) in
-    rw o (find-member b lb es (λ y n. near y (there n)) (asc .1) e u m)
 
 module _ (st : Settings) (h : Held) (H : Holds st h) where
   held-facts : Facts st h
@@ -81,20 +38,20 @@ module _ (st : Settings) (h : Held) (H : Holds st h) where
       rising-sorted base lb (h .entries) (λ e i. record { word = H .words e i; octet = held-facts .each e i .octet; near = near e i }) (held-facts .rising)
 
   module _ (c : Copy) (e : Entry) where
-    found : findBy (sideOfEntry (entryOf c 0)) (h .entries) ≡ some e → List·Memᴰ e (h .entries) × OfPair c e
+    found : findBy (sideOfEntry (entryOf c 0 0)) (h .entries) ≡ some e → List·Memᴰ e (h .entries) × OfPair c e
     unfolding entryOf
     found q =
-        let o = order-same (c .time) (c .channel) (e .time) (e .channel) (find-same (sideOfEntry (entryOf c 0)) (h .entries) e q) in
-        (find-mem (sideOfEntry (entryOf c 0)) (h .entries) e q, (sym (o .0), sym (o .1)))
+        let o = order-same (c .time) (c .channel) (e .time) (e .channel) (find-same (sideOfEntry (entryOf c 0 0)) (h .entries) e q) in
+        (find-mem (sideOfEntry (entryOf c 0 0)) (h .entries) e q, (sym (o .0), sym (o .1)))
 
-    finds : List·Memᴰ e (h .entries) × OfPair c e → findBy (sideOfEntry (entryOf c 0)) (h .entries) ≡ some e
+    finds : List·Memᴰ e (h .entries) × OfPair c e → findBy (sideOfEntry (entryOf c 0 0)) (h .entries) ≡ some e
     unfolding entryOf
     finds p =
         let s = to-stretch (h .entries) (H .words) (held-facts .stretch) in
         let T = sorted (s .base) (s .word) (s .within) in
         subst (λ (x : ℕ). findBy (λ (y : Entry). order x (c .channel) (y .time) (y .channel)) (h .entries) ≡ some e) (p .1 .0)
         (subst (λ (x : ℕ). findBy (λ (y : Entry). order (e .time) x (y .time) (y .channel)) (h .entries) ≡ some e) (p .1 .1)
-        (find-member (s .base) (s .word) (h .entries) (T .near) (T .asc) e (T .near e (p .0)) (p .0)))
+        (find-member (s .base) (h .entries) T e (p .0)))
 
   -- Far
 

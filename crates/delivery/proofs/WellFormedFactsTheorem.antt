@@ -26,10 +26,11 @@ use Rattle.layout.specs.Layout.{entryAt, entriesFrom, decode, isFlag, unusedZer
 use Rattle.layout.specs.Model.{allowed}
 use Rattle.layout.specs.WellFormed.{wellFormed}
 use Rattle.layout.proofs.WordLaws.{slotOf, SlotFacts, own-distinct, own-few}
-use Rattle.layout.proofs.LayoutLaws.{by-flag, Octets, decode-encode}
+use Rattle.layout.proofs.LayoutLaws.{by-flag, Octets}
+use Rattle.formats.proofs.TagLaws.{mark-small}
 use Rattle.layout.proofs.AllowedLaws.{allowed-frame}
 use Rattle.layout.proofs.ModelLaws.{both, and, Facts, facts-fine, fine-exactly}
-use Rattle.layout.proofs.WellFormedLaws.{facts, words-held, times-word, encode-decode, well-formed}
+use Rattle.layout.proofs.WellFormedLaws.{facts, words-held, times-word, encode-decode, back, well-formed}
 use Rattle.delivery.specs.WellFormedClaims.{Typed, AscendingEntries, EntriesWithinStretch, SlotsDistinct, HasSlot, FrameAllowed, WellFormedFacts, WellFormedExactly, UndoEachOther}
 use Rattle.delivery.proofs.MarkLaws.{words-exactly, marks-same}
 
@@ -122,6 +123,12 @@ module _ (b : Buffer) (t : Typed b) where
   octets (suc k) i e (here q) = rw q (let z : entryAt b i .channel < 256 = omega arith in z)
   octets (suc k) i e (there x) = octets k (suc i) e x
 
+  marks : (k i : ℕ) (e : Entry) → List·Memᴰ e (entriesFrom b k i) → e .primary < 2
+  unfolding entriesFrom
+  marks zero i e x = absurd (nowhere x)
+  marks (suc k) i e (here q) = rw q (mark-small (getD (b .tags) i 0))
+  marks (suc k) i e (there x) = marks k (suc i) e x
+
   words : (k i : ℕ) (e : Entry) → List·Memᴰ e (entriesFrom b k i) → e .time < 2 ^ 32
   unfolding entriesFrom
   words zero i e x = absurd (nowhere x)
@@ -152,6 +159,7 @@ module _ (b : Buffer) (t : Typed b) where
           marked = λ s l. subst (λ (ws : List ℕ). markOf ws s ≡ 1 ↔ HasSlot es s) (words-held b m w) (words-exactly es (own-distinct es (F .slot-facts)) s l);
           frames = λ e i. to-frame (b .settings .format) (e .class) (e .length) (F .each e i .frame);
           channels = λ e i. F .each e i .channel;
+          marks = λ e i. F .each e i .mark;
           last-channel = λ d. F .last-channel (eq-eqb (b .drawn) 1 d);
           unused = λ i l h. (zeros-at (heldIn (b .occupied)) (b .times) (p .0) i (omega arith), zeros-at (heldIn (b .occupied)) (b .tags) (p .1) i (omega arith), zeros-at (heldIn (b .occupied)) (b .lengths) (q .1) i (omega arith), zeros-at (heldIn (b .occupied)) (b .slots) (r .1) i (omega arith));
           after-last = λ d e i. F .after-last (eq-eqb (b .drawn) 1 d) e i;
@@ -168,7 +176,7 @@ module _ (b : Buffer) (t : Typed b) where
     of-facts = record {
       rising = of-ascending es (S .ascending);
       stretch = of-stretch es (words (heldIn (b .occupied)) 0) (octets (heldIn (b .occupied)) 0) (of-ascending es (S .ascending)) (S .stretch);
-      each = λ e i. record { frame = of-frame (b .settings .format) (e .class) (e .length) (S .frames e i); channel = S .channels e i; octet = octets (heldIn (b .occupied)) 0 e i };
+      each = λ e i. record { frame = of-frame (b .settings .format) (e .class) (e .length) (S .frames e i); channel = S .channels e i; octet = octets (heldIn (b .occupied)) 0 e i; mark = marks (heldIn (b .occupied)) 0 e i };
       slot-facts = own;
       room = own-few es own;
       after-last = λ d e i. S .after-last (eqb-true (b .drawn) 1 d) e i;
@@ -199,5 +207,5 @@ undo-each-other = record {
   decode-encode = λ st r h f.
       let few = few-channels st r in
       let F = fine-exactly st h (omega arith) .0 f in
-      (well-formed st h F, decode-encode st h (F .room) (λ e m. F .each e m .octet) (F .slot-facts));
+      (well-formed st h F, back st h F);
 }

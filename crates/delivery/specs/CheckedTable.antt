@@ -1,5 +1,5 @@
--- Document 01, "Checked table", lines 1 to 10: one claim over the definitions that the contracts cite.
-use Prim.Native.Nat.{ℕ, _≤_}
+-- Document 01, "Checked table", lines 1 to 10, with the marks of document 02, P6: one claim over the definitions that the contracts cite.
+use Prim.Native.Nat.{ℕ, _≤_, _<_}
 use mathlib.Core.Path.{_≡_}
 use mathlib.Core.List.{List, [], _∷_, _++_}
 use mathlib.Core.Bool.{true, false}
@@ -9,6 +9,7 @@ use Rattle.rtp.specs.Ranges.{g719}
 use Rattle.rtp.specs.Areas.{over}
 use Rattle.rtp.specs.declared.settings.Settings.{Settings}
 use Rattle.formats.specs.Frames.{sound}
+use Rattle.formats.specs.Tags.{primaryMark}
 use Rattle.payload.specs.Rows.{Row, words}
 use Rattle.packet.specs.CheckedTable.{CheckedTable, plainType, settingsOf, packetOf, row}
 use Rattle.playout.specs.declared.verdict.Verdict.the-variants.{Late, Far, Repeated, Better, Inserted}
@@ -40,9 +41,12 @@ holding st es = encode st (record { entries = es; drawn = false; lastTime = 0; l
 abbrev pub afterZero : Settings → List Entry → Buffer
 afterZero st es = encode st (record { entries = es; drawn = true; lastTime = 0; lastChannel = 0 })
 
--- sound at a time and channel, so many bytes in a slot
+-- sound at a time and channel, so many bytes in a slot, with a mark; and heard first-hand
+abbrev pub entryWith : ℕ → ℕ → ℕ → ℕ → ℕ → Entry
+entryWith mark time channel length slot = record { time = time; channel = channel; class = sound; length = length; slot = slot; primary = mark }
+
 abbrev pub entry : ℕ → ℕ → ℕ → ℕ → Entry
-entry time channel length slot = record { time = time; channel = channel; class = sound; length = length; slot = slot }
+entry time channel length slot = entryWith primaryMark time channel length slot
 
 -- an offer that is not refused: how often each verdict was given, the buffer and the store left, and the rows read
 abbrev pub comesTo : List ℕ → Counts → Buffer → List Row → List ℕ → OfferOutcome
@@ -69,10 +73,11 @@ pub record OfferLines (rows store : List ℕ) : Type 0 where
       ≡ comesTo rows (counted (counted noCounts Late) Inserted) (afterZero stereo (entry 0 1 80 0 ∷ [])) (row 0 sound 0 14 80 ∷ row 0 sound 1 94 80 ∷ []) (over g store)))
   pub half-late : Bytes 80 (λ f. Bytes 80 (λ g. offerCall (afterZero stereo []) (packet80 2147483648 (f ++ g)) rows store
       ≡ comesTo rows (counted (counted noCounts Late) Late) (afterZero stereo []) (row 2147483648 sound 0 14 80 ∷ row 2147483648 sound 1 94 80 ∷ []) store))
-  -- 10. Held 80 bytes, offered 120 for the same pair: better, and the new frame lies in the entry's own slot. Held 120, offered 80: repeat, and nothing changes.
-  pub longer-better : Bytes 80 (λ f. Bytes 120 (λ g. offerCall (holding mono (entry 0 0 80 0 ∷ [])) (packet120 0 g) rows (over f store)
+  -- 10. Held 80 bytes, offered 120 for the same pair: better, and the new frame lies in the entry's own slot. Held 120, offered 80: repeat, and nothing changes
+  -- but, perhaps, the mark: whether the entry was marked or not, it is marked then, since these packets are heard first-hand.
+  pub longer-better : (mark : ℕ) → mark < 2 → Bytes 80 (λ f. Bytes 120 (λ g. offerCall (holding mono (entryWith mark 0 0 80 0 ∷ [])) (packet120 0 g) rows (over f store)
       ≡ comesTo rows (counted noCounts Better) (holding mono (entry 0 0 120 0 ∷ [])) (row 0 sound 0 14 120 ∷ []) (over g (over f store))))
-  pub shorter-repeated : Bytes 120 (λ g. Bytes 80 (λ f. offerCall (holding mono (entry 0 0 120 0 ∷ [])) (packet80 0 f) rows (over g store)
+  pub shorter-repeated : (mark : ℕ) → mark < 2 → Bytes 120 (λ g. Bytes 80 (λ f. offerCall (holding mono (entryWith mark 0 0 120 0 ∷ [])) (packet80 0 f) rows (over g store)
       ≡ comesTo rows (counted noCounts Repeated) (holding mono (entry 0 0 120 0 ∷ [])) (row 0 sound 0 14 80 ∷ []) (over g store)))
 
 pub record WholeTable : Type 0 where

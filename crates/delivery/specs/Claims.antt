@@ -13,14 +13,14 @@ use Rattle.rtp.specs.declared.settings.Settings.{Settings}
 use Rattle.rtp.specs.declared.refusal.Refusal.the-variants.{AreaTooShort}
 use Rattle.packet.specs.Readings.{Outcome, refused, readAs, reading}
 use Rattle.playout.specs.Sizes.{slots, slotSize, storeSize}
-use Rattle.playout.specs.Copies.{Copy}
+use Rattle.playout.specs.Copies.{Copy, Received}
 use Rattle.playout.specs.Verdicts.{Counts, noCounts, tally}
-use Rattle.playout.specs.Lists.{Playout, WithinStretch, AtMost}
+use Rattle.playout.specs.Lists.{WithinStretch, AtMost, copiesOf, MarkedPlayout}
 use Rattle.layout.specs.declared.buffer.Buffer.{Buffer}
 use Rattle.layout.specs.Arrays.{Machine}
 use Rattle.layout.specs.Layout.{decode}
 use Rattle.layout.specs.WellFormed.{wellFormed}
-use Rattle.reorder.specs.Rows.{readCopies}
+use Rattle.reorder.specs.Rows.{readReceived}
 use Rattle.reorder.specs.Calls.{newCall, OfferNumbers}
 use Rattle.drawing.specs.Calls.{noFrame}
 use Rattle.delivery.specs.Runs.{State, lent, Offer, Call, offer, draw, Yield, offered, drew, step, Run, run, begun, refusalOf, judged, Served, served, frames}
@@ -56,10 +56,13 @@ accepted st store rows (o ∷ os) =
     let rest = accepted st store (lent rows (o .area)) os in
     cond (eqb (offerRefusal st store (lent rows (o .area)) (o .packet)) 0) (o .packet ∷ rest) rest
 
--- the copies that packets bring: their rows of a class other than no data
-unfoldable pub copiesIn : Settings → List (List ℕ) → List Copy
-copiesIn st [] = []
-copiesIn st (p ∷ ps) = readCopies p (reading st rowArea p) ++ copiesIn st ps
+-- what packets bring: the copies of their rows of a class other than no data, with their marks
+unfoldable pub receivedFrom : Settings → List (List ℕ) → List Received
+receivedFrom st [] = []
+receivedFrom st (p ∷ ps) = readReceived p (reading st rowArea p) ++ receivedFrom st ps
+
+abbrev pub copiesIn : Settings → List (List ℕ) → List Copy
+copiesIn st ps = copiesOf (receivedFrom st ps)
 
 -- the same packets, in whatever order and however often
 abbrev pub SamePackets : List (List ℕ) → List (List ℕ) → Type 0
@@ -67,18 +70,20 @@ SamePackets ps qs = (p : List ℕ) → List·Memᴰ p ps ↔ List·Memᴰ p qs
 
 -- What is drawn
 
--- a copy handed out: its time, channel, class and length, and its bytes
-abbrev pub handed : Copy → Served
-handed c = record {
-  answer = record { refusal = 0; empty = 0; time = c .time; channel = c .channel; class = c .class; length = length (c .bytes) };
-  bytes = c .bytes;
-}
+-- a copy handed out with a mark: its time, channel, class and length, the mark, and its bytes
+abbrev pub handed : Received → Served
+handed x =
+    let c = x .copy in
+    record {
+      answer = record { refusal = 0; empty = 0; time = c .time; channel = c .channel; class = c .class; length = length (c .bytes); primary = x .primary };
+      bytes = c .bytes;
+    }
 
 abbrev pub nothing : Served
 nothing = record { answer = noFrame 0 1; bytes = [] }
 
 -- n draws that hand out a list in turn, from its start, and after its end answer that the buffer is empty
-unfoldable pub inTurn : ℕ → List Copy → List Served
+unfoldable pub inTurn : ℕ → List Received → List Served
 inTurn zero l = []
 inTurn (suc n) [] = nothing ∷ inTurn n []
 inTurn (suc n) (c ∷ cs) = handed c ∷ inTurn n cs
@@ -92,10 +97,10 @@ delivery st store rows os areas = run (begun st store rows) (map offer os ++ map
 pub record Demand3 (st : Settings) : Type 0 where
   -- a call is refused exactly if an area lent to it is under its size or reading refuses its packet: in every run from a fresh buffer
   pub refused-exactly : (store rows : List ℕ) (cs : List Call) → map refusalOf (run (begun st store rows) cs .yields) ≡ refusals st store rows cs
-  -- packets whose copies lie within a stretch and have at most 192 pairs have a playout list; and if just these packets are accepted, in whatever order and however often
+  -- packets whose copies lie within a stretch and have at most 192 pairs have a playout list, each item marked if any copy of its pair was heard first-hand; and if just these packets are accepted, in whatever order and however often
   -- and whatever the areas held, then the draws not refused hand it out in turn, and after its end answer empty
   pub in-turn : (packets : List (List ℕ)) → WithinStretch (copiesIn st packets) → AtMost slots (copiesIn st packets)
-      → (l : List Copy) × Playout (copiesIn st packets) l
+      → (l : List Received) × MarkedPlayout (receivedFrom st packets) l
       × ((store rows : List ℕ) (os : List Offer) → SamePackets packets (accepted st store rows os)
       → (areas : List (List ℕ)) → let answers = served (delivery st store rows os areas .yields) in answers ≡ inTurn (length answers) l)
 
@@ -105,7 +110,7 @@ Demand = (st : Settings) → inRange st ≡ true → Demand3 st
 -- copies within a stretch have one playout list at most
 abbrev pub OnePlayout : Type 0
 OnePlayout = (st : Settings) → inRange st ≡ true → (packets : List (List ℕ)) → WithinStretch (copiesIn st packets)
-    → (l m : List Copy) → Playout (copiesIn st packets) l → Playout (copiesIn st packets) m → l ≡ m
+    → (l m : List Received) → MarkedPlayout (receivedFrom st packets) l → MarkedPlayout (receivedFrom st packets) m → l ≡ m
 
 -- its premises hold exactly if no copy accepted is far or finds no room
 abbrev pub PremisesExact : Type 0

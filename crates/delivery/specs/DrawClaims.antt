@@ -17,8 +17,8 @@ use Rattle.drawing.specs.Calls.{DrawOutcome, drawCall}
 
 -- the buffer b holds the frame of e, the earliest, and then es; r is what a draw comes to
 pub record DrawsEarliest (b : Buffer) (store area : List ℕ) (e : Entry) (es : List Entry) (r : DrawOutcome) : Type 0 where
-  -- its time, channel, class and length, and its frame over the front of the area
-  pub answers : r .answer ≡ record { refusal = 0; empty = 0; time = e .time; channel = e .channel; class = e .class; length = e .length }
+  -- its time, channel, class, length and mark, and its frame over the front of the area
+  pub answers : r .answer ≡ record { refusal = 0; empty = 0; time = e .time; channel = e .channel; class = e .class; length = e .length; primary = e .primary }
   pub frame : r .area ≡ over (frameOf store e) area
   -- the others are held as they were
   pub rest : decode (r .buffer) .entries ≡ es

@@ -40,7 +40,7 @@ OfPair c e = (e .time ≡ c .time) × (e .channel ≡ c .channel)
 -- held: the search for a copy's pair finds just the entry of that pair, if it is among the entries
 abbrev pub HeldExactly : Type 0
 HeldExactly = (st : Settings) (h : Held) → Holds st h → (c : Copy) (e : Entry)
-    → findBy (sideOfEntry (entryOf c 0)) (h .entries) ≡ some e ↔ (List·Memᴰ e (h .entries) × OfPair c e)
+    → findBy (sideOfEntry (entryOf c 0 0)) (h .entries) ≡ some e ↔ (List·Memᴰ e (h .entries) × OfPair c e)
 
 -- a is the better copy, and b is not
 abbrev pub Beats : Copy → Copy → Type 0

@@ -3,17 +3,18 @@
 use Prim.Native.Nat.{ℕ, _^_, _≤_, _<_, Ordering·gt}
 use mathlib.Core.Path.{_≡_}
 use mathlib.Core.Logic.{_↔_, _⊎_}
-use mathlib.Core.List.{List, [], _∷_, List·Memᴰ}
+use mathlib.Core.List.{List, [], _∷_, map, List·Memᴰ}
 use mathlib.Core.Bool.{true}
 use lib.ListN.{getD}
 use Rattle.rtp.specs.Ranges.{inRange}
 use Rattle.rtp.specs.declared.settings.Settings.{Settings}
 use Rattle.formats.specs.Formats.{formatOf}
+use Rattle.formats.specs.Tags.{redundantMark}
 use Rattle.formats.specs.Frames.{frame, frameOf}
 use Rattle.playout.specs.Sizes.{slots}
 use Rattle.playout.specs.Pairs.{half, ahead, order}
 use Rattle.playout.specs.Copies.{FrameClass}
-use Rattle.playout.specs.Entries.{Entry, Held, sideOfEntry}
+use Rattle.playout.specs.Entries.{Entry, Held, remarked, sideOfEntry}
 use Rattle.layout.specs.declared.buffer.Buffer.{Buffer}
 use Rattle.layout.specs.Bits.{markOf, heldIn}
 use Rattle.layout.specs.Arrays.{Machine}
@@ -74,6 +75,8 @@ pub record WellFormedFacts (b : Buffer) : Type 0 where
   pub frames : (e : Entry) → List·Memᴰ e (entriesHeld b) → FrameAllowed (b .settings .format) (e .class) (e .length)
   -- channels in range, the last pair's too
   pub channels : (e : Entry) → List·Memᴰ e (entriesHeld b) → e .channel < b .settings .channels
+  -- a mark of 0 or 1 in each tag: what is not 65,536 × mark + 256 × class + channel has no class that the format allows
+  pub marks : (e : Entry) → List·Memᴰ e (entriesHeld b) → e .primary < 2
   pub last-channel : b .drawn ≡ 1 → b .«last_channel» < b .settings .channels
   -- unused entries zero
   pub unused : (i : ℕ) → heldIn (b .occupied) ≤ i → i < slots
@@ -98,9 +101,16 @@ pub record UndoEachOther : Type 0 where
 
 -- Calls that change nothing
 
--- an offer that answers no copy as better or new leaves the buffer and the store as they stood
-abbrev pub LeftByOffer : Buffer → List ℕ → OfferOutcome → Type 0
-LeftByOffer b store r = r .answer .better ≡ 0 → r .answer .inserted ≡ 0 → (r .buffer ≡ b) × (r .store ≡ store)
+-- what is held, marks aside
+abbrev pub unmarked : Held → Held
+unmarked h = record { entries = map (remarked redundantMark) (h .entries); drawn = h .drawn; lastTime = h .lastTime; lastChannel = h .lastChannel }
+
+-- an offer that answers no copy as better or new leaves what is held, marks aside, and the store as they stood; if it answers none as repeated either, the buffer
+pub record LeftByOffer (b : Buffer) (store : List ℕ) (r : OfferOutcome) : Type 0 where
+  pub held : unmarked (decode (r .buffer)) ≡ unmarked (decode b)
+  pub settings : r .buffer .settings ≡ b .settings
+  pub store-left : r .store ≡ store
+  pub buffer : r .answer .repeated ≡ 0 → r .buffer ≡ b
 
 -- no slot is marked
 abbrev pub Empty : Buffer → Type 0
@@ -111,6 +121,7 @@ abbrev pub LeftByDraw : Buffer → List ℕ → DrawOutcome → Type 0
 LeftByDraw b area r = (r .buffer ≡ b) × (r .area ≡ area) × (r .answer .refusal ≡ 0 → r .answer ≡ noFrame 0 1)
 
 pub record ChangesNothing : Type 0 where
-  -- so if each copy of a packet is late, far, repeated or without room, or the offer is refused, nothing changes
-  pub offer-leaves : (b : Buffer) → Machine b → (packet rows store : List ℕ) → LeftByOffer b store (offerCall b packet rows store)
+  -- so if each copy of a packet is late, far, repeated or without room, or the offer is refused, nothing changes but, perhaps, marks (document 02, P6)
+  pub offer-leaves : (b : Buffer) → Machine b → (packet rows store : List ℕ)
+      → let r = offerCall b packet rows store in r .answer .better ≡ 0 → r .answer .inserted ≡ 0 → LeftByOffer b store r
   pub draw-leaves : (b : Buffer) → Empty b → (store area : List ℕ) → LeftByDraw b area (drawCall b store area)

@@ -68,11 +68,11 @@ module _ (b : Buffer) (n : ℕ) (store area : List ℕ) (d : Drawable b n store 
       ∙ sym (column-rest f first rest (omega (arith, size, few))
       ∙ ap₂ removeFirst (ap (column f) (sym entries-are) ∙ q) size)
 
-  pub left : (channel class : ℕ) → channel ≡ first .channel → class ≡ first .class → (times tags lengths slots' occupied area' : List ℕ) → times ≡ removal (b .times) n → tags ≡ removal (b .tags) n → lengths ≡ removal (b .lengths) n
+  pub left : (channel class mark : ℕ) → channel ≡ first .channel → class ≡ first .class → mark ≡ first .primary → (times tags lengths slots' occupied area' : List ℕ) → times ≡ removal (b .times) n → tags ≡ removal (b .tags) n → lengths ≡ removal (b .lengths) n
       → slots' ≡ removal (b .slots) n → occupied ≡ unmarked (b .occupied) (getD (b .slots) 0 0) → (frame : List ℕ) → frame ≡ frameOf store first
       → area' ≡ paste area 0 frame (length frame)
       → record {
-        answer = record { refusal = 0; empty = 0; time = first .time; channel = channel; class = class; length = first .length };
+        answer = record { refusal = 0; empty = 0; time = first .time; channel = channel; class = class; length = first .length; primary = mark };
         buffer = record {
           times = times;
           tags = tags;
@@ -86,7 +86,7 @@ module _ (b : Buffer) (n : ℕ) (store area : List ℕ) (d : Drawable b n store 
         };
         area = area';
       } ≡ drawFirst b store area (decode b .entries)
-  left channel class ch cl times tags lengths slots' occupied area' p q r s u frame f v =
+  left channel class mark ch cl ma times tags lengths slots' occupied area' p q r s u frame f v =
       let E = encode-decode b (d .machine) (d .fine) in
       let ti : times ≡ column (λ e. e .time) rest = p ∙ column-left (λ e. e .time) (b .times) (ap (λ (x : Buffer). x .times) E) in
       let ta : tags ≡ column entryTag rest = q ∙ column-left entryTag (b .tags) (ap (λ (x : Buffer). x .tags) E) in
@@ -95,7 +95,7 @@ module _ (b : Buffer) (n : ℕ) (store area : List ℕ) (d : Drawable b n store 
       let oc : occupied ≡ wordsOf (slotsOf rest) = u ∙ ap (λ (w : List ℕ). unmarked w (getD (b .slots) 0 0)) (sym words-are) ∙ sym (words-remove first rest first-slot) in
       let ar : area' ≡ over (frameOf store first) area = v ∙ paste-front area frame ∙ ap (λ (x : List ℕ). over x area) f in
       let z : record {
-        answer = record { refusal = 0; empty = 0; time = first .time; channel = channel; class = class; length = first .length };
+        answer = record { refusal = 0; empty = 0; time = first .time; channel = channel; class = class; length = first .length; primary = mark };
         buffer = record {
           times = times;
           tags = tags;
@@ -109,7 +109,7 @@ module _ (b : Buffer) (n : ℕ) (store area : List ℕ) (d : Drawable b n store 
         };
         area = area';
       } ≡ drawFirst b store area (first ∷ rest) = λ j. record {
-        answer = record { refusal = 0; empty = 0; time = first .time; channel = ch j; class = cl j; length = first .length };
+        answer = record { refusal = 0; empty = 0; time = first .time; channel = ch j; class = cl j; length = first .length; primary = ma j };
         buffer = record {
           times = ti j;
           tags = ta j;

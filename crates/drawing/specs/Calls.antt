@@ -15,7 +15,7 @@ use Rattle.layout.specs.WellFormed.{wellFormed}
 use Rattle.drawing.specs.declared.draws.DrawAnswer.{DrawAnswer}
 use Rattle.drawing.specs.ModelCalls.{Result, refused, done, drawFrom}
 
--- the answer in numbers: the refusal number or 0, 1 if the buffer is empty, and the frame's time, channel, class and length, or zeros
+-- the answer in numbers: the refusal number or 0, 1 if the buffer is empty, and the frame's time, channel, class, length and mark, or zeros
 pub record DrawNumbers : Type 0 where
   pub refusal : ℕ
   pub empty : ℕ
@@ -23,15 +23,16 @@ pub record DrawNumbers : Type 0 where
   pub channel : ℕ
   pub class : ℕ
   pub length : ℕ
+  pub primary : ℕ
 
 abbrev pub noFrame : ℕ → ℕ → DrawNumbers
-noFrame r empty = record { refusal = r; empty = empty; time = 0; channel = 0; class = 0; length = 0 }
+noFrame r empty = record { refusal = r; empty = empty; time = 0; channel = 0; class = 0; length = 0; primary = 0 }
 
 -- of the code's answer, case by case
 abbrev pub drawNumbers : DrawAnswer → DrawNumbers
 drawNumbers (DrawAnswer.Refused r) = noFrame (number r) 0
 drawNumbers DrawAnswer.Empty = noFrame 0 1
-drawNumbers (DrawAnswer.Frame f) = record { refusal = 0; empty = 0; time = f .time; channel = f .channel; class = f .class; length = f .length }
+drawNumbers (DrawAnswer.Frame f) = record { refusal = 0; empty = 0; time = f .time; channel = f .channel; class = f .class; length = f .length; primary = f .primary }
 
 pub record DrawOutcome : Type 0 where
   pub answer : DrawNumbers
@@ -46,7 +47,7 @@ abbrev pub drawDone : Buffer → List ℕ → Result → DrawOutcome
 drawDone b area (refused r) = drawRefused r b area
 drawDone b area (done none) = record { answer = noFrame 0 1; buffer = b; area = area }
 drawDone b area (done (some d)) = record {
-  answer = record { refusal = 0; empty = 0; time = d .entry .time; channel = d .entry .channel; class = d .entry .class; length = d .entry .length };
+  answer = record { refusal = 0; empty = 0; time = d .entry .time; channel = d .entry .channel; class = d .entry .class; length = d .entry .length; primary = d .entry .primary };
   buffer = encode (b .settings) (d .held);
   area = over (d .bytes) area;
 }

@@ -18,12 +18,13 @@ ghost use Rattle.drawing.specs.ModelCalls.{done, earliest};
 ghost use Rattle.drawing.specs.Calls.{drawNumbers, drawDone, drawCall};
 ghost use Rattle.drawing.specs.Drawable.{Drawable};
 
-// A frame that is handed out; its bytes are at the front of the draw area.
+// A frame that is handed out, and whether it was heard first-hand; its bytes are at the front of the draw area.
 pub struct DrawnFrame {
     pub time: u32,
     pub channel: u32,
     pub class: u32,
     pub length: u32,
+    pub primary: u32,
 }
 
 pub enum DrawAnswer {
@@ -55,6 +56,7 @@ fn draw_first(mut buffer: Buffer, n: usize, store: &[u8], area: &mut [u8]) -> Dr
     let time = buffer.times[0];
     let channel = tagging::tag_channel(buffer.tags[0]);
     let class = tagging::tag_class(buffer.tags[0]);
+    let primary = tagging::tag_mark(buffer.tags[0]);
     let length = buffer.lengths[0];
     let slot = buffer.slots[0] as usize;
     let occupied = buffer.occupied;
@@ -76,6 +78,7 @@ fn draw_first(mut buffer: Buffer, n: usize, store: &[u8], area: &mut [u8]) -> Dr
             channel,
             class,
             length,
+            primary,
         }),
         buffer,
     }

@@ -26,7 +26,7 @@ pub record FramesRoom (bytes : ℕ) (rs : List Row) (area : ℕ) : Type 0 where
 
 -- a row of which only the time counts: the last one of a frame-block that another follows
 abbrev pub timed : ℕ → Row
-timed time = record { time = time; class = 0; channel = 0; start = 0; length = 0 }
+timed time = record { time = time; class = 0; channel = 0; start = 0; length = 0; primary = 0 }
 
 -- the frame-blocks of a table's first run, where a frame-block before the table joins it
 abbrev pub joined : ℕ → Row → Contents → ℕ

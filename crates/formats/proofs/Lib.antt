@@ -1,4 +1,5 @@
 pub mod TableRule
+pub mod TagLaws
 pub mod FormatLaws
 pub mod CodeLaws
 pub mod AmrLaws

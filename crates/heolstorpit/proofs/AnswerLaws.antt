@@ -71,13 +71,13 @@ pub draws-same : (n k : DrawNumbers) (b : Buffer) (area : List ℕ) (o : DrawOut
 draws-same n k b area o h e = ap (λ (m : DrawNumbers). record { answer = m; buffer = b; area = area }) h ∙ e
 
 pub draw-refused : (x : DrawAnswer) (r : Refusal) (n : ℕ) → x ≡ DrawAnswer.Refused r → n ≡ number r
-    → _≡_ {A = DrawNumbers} (record { refusal = n; empty = 0; time = 0; channel = 0; class = 0; length = 0 }) (drawNumbers x)
+    → _≡_ {A = DrawNumbers} (record { refusal = n; empty = 0; time = 0; channel = 0; class = 0; length = 0; primary = 0 }) (drawNumbers x)
 draw-refused x r n h k = rw (h, k)
 
 pub draw-empty : (x : DrawAnswer) → x ≡ DrawAnswer.Empty
-    → _≡_ {A = DrawNumbers} (record { refusal = 0; empty = 1; time = 0; channel = 0; class = 0; length = 0 }) (drawNumbers x)
+    → _≡_ {A = DrawNumbers} (record { refusal = 0; empty = 1; time = 0; channel = 0; class = 0; length = 0; primary = 0 }) (drawNumbers x)
 draw-empty x h = rw h
 
 pub draw-frame : (x : DrawAnswer) (f : DrawnFrame) → x ≡ DrawAnswer.Frame f
-    → _≡_ {A = DrawNumbers} (record { refusal = 0; empty = 0; time = f .time; channel = f .channel; class = f .class; length = f .length }) (drawNumbers x)
+    → _≡_ {A = DrawNumbers} (record { refusal = 0; empty = 0; time = f .time; channel = f .channel; class = f .class; length = f .length; primary = f .primary }) (drawNumbers x)
 draw-frame x f h = rw h

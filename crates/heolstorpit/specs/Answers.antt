@@ -51,7 +51,7 @@ offeredAnswer r = record {
 
 -- hsp_drawn but for the buffer, likewise
 abbrev pub drawFields : DrawFields → DrawNumbers
-drawFields r = record { refusal = r .refusal; empty = r .empty; time = r .time; channel = r .channel; class = r .«frame_class»; length = r .length }
+drawFields r = record { refusal = r .refusal; empty = r .empty; time = r .time; channel = r .channel; class = r .«frame_class»; length = r .length; primary = r .primary }
 
 abbrev pub drawnAnswer : HspDrawn → DrawNumbers
-drawnAnswer r = record { refusal = r .refusal; empty = r .empty; time = r .time; channel = r .channel; class = r .«frame_class»; length = r .length }
+drawnAnswer r = record { refusal = r .refusal; empty = r .empty; time = r .time; channel = r .channel; class = r .«frame_class»; length = r .length; primary = r .primary }

@@ -36,7 +36,8 @@ pub struct HspOffered {
     pub buffer: Buffer,
 }
 
-// hsp_drawn: the refusal number or 0, 1 if no frame is held, and the frame, or zeros.
+// hsp_drawn: the refusal number or 0, 1 if no frame is held, and the frame and whether it was heard first-hand, or zeros. C has four
+// bytes of padding before the buffer; named, they spare two copies of it (docs/PERFORMANCE.md).
 #[repr(C)]
 pub struct HspDrawn {
     pub refusal: u32,
@@ -45,6 +46,8 @@ pub struct HspDrawn {
     pub channel: u32,
     pub frame_class: u32,
     pub length: u32,
+    pub primary: u32,
+    pub padding: u32,
     pub buffer: Buffer,
 }
 
@@ -142,6 +145,7 @@ pub struct DrawFields {
     pub channel: u32,
     pub frame_class: u32,
     pub length: u32,
+    pub primary: u32,
 }
 
 fn draw_fields(answer: DrawAnswer) -> DrawFields
@@ -155,6 +159,7 @@ fn draw_fields(answer: DrawAnswer) -> DrawFields
             channel: frame.channel,
             frame_class: frame.class,
             length: frame.length,
+            primary: frame.primary,
         },
         DrawAnswer::Empty => DrawFields {
             refusal: 0,
@@ -163,6 +168,7 @@ fn draw_fields(answer: DrawAnswer) -> DrawFields
             channel: 0,
             frame_class: 0,
             length: 0,
+            primary: 0,
         },
         DrawAnswer::Refused(reason) => DrawFields {
             refusal: refusal::refusal_number(reason),
@@ -171,6 +177,7 @@ fn draw_fields(answer: DrawAnswer) -> DrawFields
             channel: 0,
             frame_class: 0,
             length: 0,
+            primary: 0,
         },
     }
 }
@@ -191,6 +198,8 @@ pub extern "C" fn hsp_draw(buffer: Buffer, store: &[u8], area: &mut [u8]) -> Hsp
         channel: fields.channel,
         frame_class: fields.frame_class,
         length: fields.length,
+        primary: fields.primary,
+        padding: 0,
         buffer: left,
     }
 }

@@ -1,7 +1,7 @@
 -- The columns of a list of entries: what they hold, and what insertion, replacement and removal make of them. Decoding an encoded model gives it back.
 use Prim.Native.Nat.{ℕ, zero, suc, _+_, _-_, _≤_, _<_, zero-le, suc-le-suc}
-use mathlib.Core.Path.{_≡_, refl, sym, ap, _∙_}
-use mathlib.Core.List.{List, [], _∷_, _++_, map, List·Memᴰ, List·Memᴰ·head as here, List·Memᴰ·tail as there}
+use mathlib.Core.Path.{_≡_, refl, sym, ap, subst, _∙_}
+use mathlib.Core.List.{List, [], _∷_, _++_, map, List·Memᴰ, List·Memᴰ·head as here, List·Memᴰ·tail as there, List·Memᴰ·not-nil as nowhere}
 use mathlib.Core.Bool.{Bool, true, false}
 use native.Mathlib.Nat.{not-suc-le-zero, le-of-suc-le-suc, add-zero, add-suc, suc-add, zero-add}
 use native.Mathlib.Omega.{arith}
@@ -11,7 +11,8 @@ use lib.ListN.{length, getD, take, drop, set, length-map, List·getD-map}
 use lib.Seq.{map-set-same}
 use Rattle.rtp.specs.declared.settings.Settings.{Settings}
 use Rattle.rtp.proofs.TestLaws.{not-both}
-use Rattle.formats.specs.Tags.{tagOf, tagClass, tagChannel}
+use Rattle.formats.specs.Tags.{tagOf, tagMark, tagClass, tagChannel}
+use Rattle.formats.proofs.TagLaws.{of-parts, mark-of, class-of}
 use Rattle.playout.specs.Sizes.{slots}
 use Rattle.playout.specs.Entries.{Entry, Held}
 use Rattle.layout.specs.declared.buffer.Buffer.{Buffer}
@@ -22,7 +23,7 @@ use Rattle.layout.proofs.ColumnLaws.{inserting, insert-start, inserted,
 use Rattle.layout.proofs.WordLaws.{slotOf, slotsOf, SlotFacts, held-slots, words-inserted, words-rest}
 
 abbrev pub noEntry : Entry
-noEntry = record { time = 0; channel = 0; class = 0; length = 0; slot = 0 }
+noEntry = record { time = 0; channel = 0; class = 0; length = 0; slot = 0; primary = 0 }
 
 -- Padded lists
 
@@ -135,14 +136,23 @@ at-member [] i h = absurd (not-suc-le-zero h)
 at-member (e ∷ es) zero h = here refl
 at-member (e ∷ es) (suc i) h = there (at-member es i (le-of-suc-le-suc h))
 
-pub tag-back : (g : ℕ) → tagOf (tagClass g) (tagChannel g) ≡ g
-tag-back g = omega arith
+pub tag-back : (g : ℕ) → tagOf (tagMark g) (tagClass g) (tagChannel g) ≡ g
+tag-back g = of-parts g
 
 pub tag-channel : (e : Entry) → e .channel < 256 → tagChannel (entryTag e) ≡ e .channel
 tag-channel e h = omega arith
 
-tag-class : (e : Entry) → e .channel < 256 → tagClass (entryTag e) ≡ e .class
-tag-class e h = omega arith
+-- all that a tag can hold
+pub record InTag (e : Entry) : Type 0 where
+  pub mark : e .primary < 2
+  pub class : e .class < 256
+  pub octet : e .channel < 256
+
+tag-mark : (e : Entry) → InTag e → tagMark (entryTag e) ≡ e .primary
+tag-mark e t = mark-of (e .primary) (e .class) (e .channel) (t .mark) (t .class) (t .octet)
+
+tag-class : (e : Entry) → InTag e → tagClass (entryTag e) ≡ e .class
+tag-class e t = class-of (e .primary) (e .class) (e .channel) (t .mark) (t .class) (t .octet)
 
 -- entries read one by one
 pub entries-list : (b : Buffer) (es : List Entry) (i : ℕ) → ((j : ℕ) → j < length es → entryAt b (i + j) ≡ getD es j noEntry) → entriesFrom b (length es) i ≡ es
@@ -151,6 +161,13 @@ entries-list b [] i p = refl
 entries-list b (e ∷ es) i p =
     λ k. (ap (entryAt b) (sym (add-zero i)) ∙ p 0 (suc-le-suc zero-le)) k
     ∷ entries-list b es (suc i) (λ j h. ap (entryAt b) (suc-add i j ∙ sym (add-suc i j)) ∙ p (suc j) (suc-le-suc h)) k
+
+-- what holds of the entry at each place
+pub entries-each : (b : Buffer) (P : Entry → Type 0) → ((i : ℕ) → P (entryAt b i)) → (k i : ℕ) (e : Entry) → List·Memᴰ e (entriesFrom b k i) → P e
+unfolding entriesFrom
+entries-each b P p zero i e m = absurd (nowhere m)
+entries-each b P p (suc k) i e (here q) = subst P (sym q) (p i)
+entries-each b P p (suc k) i e (there m) = entries-each b P p k (suc i) e m
 
 -- a flag is 0 or 1
 pub by-flag : (P : ℕ → Type 0) → P 0 → P 1 → (d : ℕ) → isFlag d ≡ true → P d
@@ -162,14 +179,15 @@ flag-back : (d : Bool) → eqb (flagOf d) 1 ≡ d
 flag-back true = refl
 flag-back false = refl
 
-module _ (st : Settings) (h : Held) (room : length (h .entries) ≤ slots) (octets : Octets (h .entries)) where
+module _ (st : Settings) (h : Held) (room : length (h .entries) ≤ slots) (tagged : (e : Entry) → List·Memᴰ e (h .entries) → InTag e) where
   entry-back : (i : ℕ) → i < length (h .entries) → entryAt (encode st h) i ≡ getD (h .entries) i noEntry
   entry-back i l = λ j. record {
     time = column-at (λ e. e .time) (h .entries) i refl (omega arith) j;
-    channel = (ap tagChannel (column-at entryTag (h .entries) i refl (omega arith)) ∙ tag-channel (getD (h .entries) i noEntry) (octets _ (at-member (h .entries) i l))) j;
-    class = (ap tagClass (column-at entryTag (h .entries) i refl (omega arith)) ∙ tag-class (getD (h .entries) i noEntry) (octets _ (at-member (h .entries) i l))) j;
+    channel = (ap tagChannel (column-at entryTag (h .entries) i refl (omega arith)) ∙ tag-channel (getD (h .entries) i noEntry) (tagged _ (at-member (h .entries) i l) .octet)) j;
+    class = (ap tagClass (column-at entryTag (h .entries) i refl (omega arith)) ∙ tag-class (getD (h .entries) i noEntry) (tagged _ (at-member (h .entries) i l))) j;
     length = column-at (λ e. e .length) (h .entries) i refl (omega arith) j;
     slot = column-at slotOf (h .entries) i refl (omega arith) j;
+    primary = (ap tagMark (column-at entryTag (h .entries) i refl (omega arith)) ∙ tag-mark (getD (h .entries) i noEntry) (tagged _ (at-member (h .entries) i l))) j;
   }
 
   pub entries-back : entriesFrom (encode st h) (length (h .entries)) 0 ≡ h .entries

@@ -12,20 +12,31 @@ use Rattle.rtp.specs.declared.settings.Settings.{Settings}
 use Rattle.playout.specs.Sizes.{slots}
 use Rattle.playout.specs.Pairs.{order, isAfter}
 use Rattle.playout.specs.Entries.{Entry, Held, sideOfEntry, slotUsed}
+use Rattle.playout.proofs.RankLaws.{frame-class}
 use Rattle.playout.proofs.HeldLaws.{Rising, Stretch, all-within}
 use Rattle.playout.proofs.PlayoutLaws.{within-all}
 use Rattle.layout.specs.Model.{Model, ascending, inStretch, slotsApart, allowed, afterLast, entryFine, entriesFine, lastFine, fine}
 use Rattle.layout.proofs.PositionLaws.{after-gt}
 use Rattle.layout.proofs.WordLaws.{slotsOf, SlotFacts, own-few, own-distinct, distinct-own, Distinct, countIn, count-here, distinct-none, distinct-tail, distinct-cons, used-count}
-use Rattle.layout.proofs.LayoutLaws.{Octets}
+use Rattle.layout.proofs.LayoutLaws.{Octets, InTag}
+use Rattle.layout.proofs.AllowedLaws.{allowed-frame}
 
 -- The facts
 
--- class and length allowed, and the channel in range
+-- class and length allowed, the channel in range, and a mark of 0 or 1
 pub record EntryFacts (st : Settings) (e : Entry) : Type 0 where
   pub frame : allowed (st .format) (e .class) (e .length) ≡ true
   pub channel : e .channel < st .channels
   pub octet : e .channel < 256
+  pub mark : e .primary < 2
+
+-- so a tag can hold all of it
+pub in-tag : (st : Settings) (e : Entry) → EntryFacts st e → InTag e
+in-tag st e f = record {
+  mark = f .mark;
+  class = omega (arith, frame-class (e .class) (allowed-frame (st .format) (e .class) (e .length) (f .frame) .0) .1);
+  octet = f .octet;
+}
 
 pub record Facts (st : Settings) (h : Held) : Type 0 where
   pub rising : Rising (h .entries)
@@ -100,14 +111,15 @@ module _ (m : Model) where
   fine-each [] f = refl
   fine-each (x ∷ es) f = and (f x (here refl)) (fine-each es (λ e i. f e (there i)))
 
--- the three tests of an entry
+-- the four tests of an entry
 pub record EntryTests (m : Model) (e : Entry) : Type 0 where
   pub frame : allowed (m .settings .format) (e .class) (e .length) ≡ true
   pub channel : ltb (e .channel) (m .settings .channels) ≡ true
+  pub mark : ltb (e .primary) 2 ≡ true
   pub after : afterLast (m .held) e ≡ true
 
 pub entry-tests : (m : Model) (e : Entry) → entryFine m e ≡ true → EntryTests m e
-entry-tests m e h = let b = both h in let a = both (b .0) in record { frame = a .0; channel = a .1; after = b .1 }
+entry-tests m e h = let c = both h in let b = both (c .0) in let a = both (b .0) in record { frame = a .0; channel = a .1; mark = b .1; after = c .1 }
 
 -- The clauses of a model
 
@@ -144,7 +156,7 @@ module _ (st : Settings) (h : Held) where
       record {
         rising = ascending-rising (h .entries) (c .ascends);
         stretch = in-stretch (h .entries) (c .stretch);
-        each = λ e i. let t = entry-tests m e (c .each e i) in record { frame = t .frame; channel = ltb-true (e .channel) (st .channels) (t .channel); octet = octets e i };
+        each = λ e i. let t = entry-tests m e (c .each e i) in record { frame = t .frame; channel = ltb-true (e .channel) (st .channels) (t .channel); octet = octets e i; mark = ltb-true (e .primary) 2 (t .mark) };
         slot-facts = own;
         room = own-few (h .entries) own;
         after-last = λ d e i. after-gt _ (sym (ap (λ (v : Bool). cond v (isAfter (order (e .time) (e .channel) (h .lastTime) (h .lastChannel))) true) d) ∙ entry-tests m e (c .each e i) .after);
@@ -169,7 +181,7 @@ module _ (st : Settings) (h : Held) where
       ascends = rising-ascending (h .entries) (F .rising);
       stretch = stretch-in (h .entries) (F .stretch);
       apart = distinct-apart (h .entries) (own-distinct (h .entries) (F .slot-facts));
-      each = λ e i. and (and (F .each e i .frame) (lt-ltb (e .channel) (st .channels) (F .each e i .channel))) (after e i (h .drawn) refl);
+      each = λ e i. and (and (and (F .each e i .frame) (lt-ltb (e .channel) (st .channels) (F .each e i .channel))) (lt-ltb (e .primary) 2 (F .each e i .mark))) (after e i (h .drawn) refl);
       last = last (h .drawn) refl;
     })
 

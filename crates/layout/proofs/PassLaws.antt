@@ -9,6 +9,7 @@ use native.Mathlib.Omega.{arith}
 use borrow.Author.Tests.{ltb-true, eq-eqb, lt-ltb}
 use lib.Dec.{ltb, eqb}
 use lib.ListN.{getD}
+use Rattle.formats.proofs.TagLaws.{mark-small}
 use Rattle.playout.specs.Sizes.{slots}
 use Rattle.playout.specs.Pairs.{half, ahead, order, isAfter}
 use Rattle.playout.specs.Entries.{Entry}
@@ -24,7 +25,7 @@ use Rattle.layout.specs.Checks.{lastKept, sinceLast, ascends, passes, al
 use Rattle.rtp.proofs.TestLaws.{both as in-turn, and-then}
 use Rattle.layout.proofs.CheckLaws.{free-parts}
 use Rattle.layout.proofs.WordLaws.{slotsOf, countIn, Distinct, count-none, count-here, distinct-none, distinct-cons, mark-count, words-cons}
-use Rattle.layout.proofs.LayoutLaws.{by-flag}
+use Rattle.layout.proofs.LayoutLaws.{by-flag, entries-each}
 use Rattle.layout.proofs.ModelLaws.{both, and, entry-tests, clauses, from-clauses, apart-distinct, distinct-apart}
 
 -- The slots of entries on top of others
@@ -202,7 +203,7 @@ module _ (ts gs ls ss ws : List ℕ) (f : Fixed) where
         ascends = from-ascending es (r .from);
         stretch = near-in whole (heldIn ws) (λ e m. r .each e m .near);
         apart = distinct-apart es (distinct-onto es (r .distinct));
-        each = λ e m. and (and (r .each e m .frame) (r .each e m .channel)) (sym (since-is whole (l .0) e) ∙ r .each e m .since);
+        each = λ e m. and (and (and (r .each e m .frame) (r .each e m .channel)) (entries-each whole (λ x. ltb (x .primary) 2 ≡ true) (λ i. lt-ltb _ 2 (mark-small (getD gs i 0))) (heldIn ws) 0 e m)) (sym (since-is whole (l .0) e) ∙ r .each e m .since);
         last = l .1;
       }))
 

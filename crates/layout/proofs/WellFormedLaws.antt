@@ -1,7 +1,7 @@
 -- A well-formed buffer has the facts of its model and is the encoding of it; and the encoding of a model with these facts is well-formed.
 use Prim.Native.Nat.{ℕ, zero, suc, _+_, _^_, _≤_, _<_}
 use mathlib.Core.Path.{_≡_, refl, sym, ap, _∙_}
-use mathlib.Core.List.{List, [], _∷_, map, List·Memᴰ, List·Memᴰ·head as here, List·Memᴰ·tail as there, List·Memᴰ·not-nil as nowhere}
+use mathlib.Core.List.{List, [], _∷_, map, List·Memᴰ}
 use mathlib.Core.Bool.{Bool, true, false}
 use native.Mathlib.Omega.{arith}
 use borrow.Author.Tests.{eqb-true, eq-eqb}
@@ -22,8 +22,8 @@ use Rattle.layout.specs.WellFormed.{wellFormed}
 use Rattle.layout.specs.Arrays.{Machine}
 use Rattle.rtp.proofs.TestLaws.{both as in-turn, and-then}
 use Rattle.layout.proofs.WordLaws.{slotOf, slotsOf, held-slots}
-use Rattle.layout.proofs.LayoutLaws.{by-flag, tag-back, Octets, decode-encode}
-use Rattle.layout.proofs.ModelLaws.{both, and, Facts, fine-facts, facts-fine}
+use Rattle.layout.proofs.LayoutLaws.{by-flag, tag-back, Octets, entries-each, decode-encode}
+use Rattle.layout.proofs.ModelLaws.{both, and, in-tag, Facts, fine-facts, facts-fine}
 
 -- Columns with zeros after the first n values
 
@@ -91,16 +91,10 @@ is-flag false = refl
 
 module _ (b : Buffer) where
   entries-octets : (k i : ℕ) → Octets (entriesFrom b k i)
-  unfolding entriesFrom
-  entries-octets zero i e m = absurd (nowhere m)
-  entries-octets (suc k) i e (here q) = rw q (let z : tagChannel (getD (b .tags) i 0) < 256 = omega arith in z)
-  entries-octets (suc k) i e (there m) = entries-octets k (suc i) e m
+  entries-octets k i e m = entries-each b (λ x. x .channel < 256) (λ j. let z : tagChannel (getD (b .tags) j 0) < 256 = omega arith in z) k i e m
 
   entries-word : ((i : ℕ) → getD (b .times) i 0 < 2 ^ 32) → (k i : ℕ) (e : Entry) → List·Memᴰ e (entriesFrom b k i) → e .time < 2 ^ 32
-  unfolding entriesFrom
-  entries-word w zero i e m = absurd (nowhere m)
-  entries-word w (suc k) i e (here q) = rw q (w i)
-  entries-word w (suc k) i e (there m) = entries-word w k (suc i) e m
+  entries-word w k i e m = entries-each b (λ x. x .time < 2 ^ 32) w k i e m
 
 -- A well-formed buffer
 
@@ -158,8 +152,8 @@ module _ (b : Buffer) (machine : Machine b) (ok : wellFormed b ≡ true) where
 -- The encoding of a model
 
 module _ (st : Settings) (h : Held) (F : Facts st h) where
-  back : decode (encode st h) ≡ h
-  back = decode-encode st h (F .room) (λ e m. F .each e m .octet) (F .slot-facts)
+  pub back : decode (encode st h) ≡ h
+  back = decode-encode st h (F .room) (λ e m. in-tag st e (F .each e m)) (F .slot-facts)
 
   zero-rest-of : (f : Entry → ℕ) → zeros (drop (heldIn (wordsOf (slotsOf (h .entries)))) (column f (h .entries))) ≡ true
   zero-rest-of f =

@@ -5,7 +5,7 @@ use mathlib.Core.Bool.{Bool, cond, _&&_, _||_}
 use lib.ListN.{getD, drop, replicate}
 use lib.Dec.{eqb}
 use Rattle.rtp.specs.declared.settings.Settings.{Settings}
-use Rattle.formats.specs.Tags.{tagOf, tagClass, tagChannel}
+use Rattle.formats.specs.Tags.{tagOf, tagMark, tagClass, tagChannel}
 use Rattle.playout.specs.Sizes.{slots}
 use Rattle.playout.specs.Entries.{Entry, Held}
 use Rattle.layout.specs.declared.buffer.Buffer.{Buffer}
@@ -14,9 +14,9 @@ use Rattle.layout.specs.Bits.{heldIn, wordsOf, sameWords}
 use Rattle.layout.specs.Columns.{zeros}
 use Rattle.layout.specs.Model.{Model}
 
--- an entry's class and channel in one word, as in a row
+-- an entry's mark, class and channel in one word, as in a row
 abbrev pub entryTag : Entry → ℕ
-entryTag e = tagOf (e .class) (e .channel)
+entryTag e = tagOf (e .primary) (e .class) (e .channel)
 
 -- a list as a column of n places, the unused ones zero
 unfoldable pub padTo : ℕ → List ℕ → List ℕ
@@ -52,6 +52,7 @@ entryAt b i = record {
   class = tagClass (getD (b .tags) i 0);
   length = getD (b .lengths) i 0;
   slot = getD (b .slots) i 0;
+  primary = tagMark (getD (b .tags) i 0);
 }
 
 unfoldable pub entriesFrom : Buffer → ℕ → ℕ → List Entry

@@ -40,9 +40,9 @@ allowed format class n = cond (eqb class noData) false (ltb (codeFor format clas
 abbrev pub afterLast : Held → Entry → Bool
 afterLast h e = cond (h .drawn) (isAfter (order (e .time) (e .channel) (h .lastTime) (h .lastChannel))) true
 
--- class and length as the format allows, the channel in range, all after the last pair drawn
+-- class and length as the format allows, the channel in range, a mark of 0 or 1, all after the last pair drawn
 abbrev pub entryFine : Model → Entry → Bool
-entryFine m e = allowed (m .settings .format) (e .class) (e .length) && ltb (e .channel) (m .settings .channels) && afterLast (m .held) e
+entryFine m e = allowed (m .settings .format) (e .class) (e .length) && ltb (e .channel) (m .settings .channels) && ltb (e .primary) 2 && afterLast (m .held) e
 
 unfoldable pub entriesFine : Model → List Entry → Bool
 entriesFine m [] = true

@@ -11,7 +11,7 @@ pub const SLOT_SIZE: usize = MAX_FRAME;
 // The bytes of the store.
 pub const STORE_SIZE: usize = SLOTS * SLOT_SIZE;
 
-// Entries in time order, one column for each part of an entry, unused ones zero; a tag is 256 * class + channel, as in a row.
+// Entries in time order, one column for each part of an entry, unused ones zero; a tag is 65536 * mark + 256 * class + channel, as in a row.
 // Then which slots are occupied, the last pair drawn, 1 if there is one, and the settings. Laid out as C's hsp_buffer.
 #[repr(C)]
 pub struct Buffer {

@@ -6,7 +6,7 @@ use Rattle.rtp.specs.Redundancy.{blockHeader, headersBy, headers, redundancyHea
 use Rattle.formats.specs.Formats.{formatOf}
 use Rattle.formats.specs.Frames.{g719Length, lengthIn, frameIn}
 use Rattle.contents.specs.Contents.{minEntry, gapsSize, entrySize, entryOf, gapAt, gapsFrom, meaning, contentsBy, contents, sizeIn, framesIn}
-use Rattle.payload.specs.Rows.{timeAfter, groupRows, tableRows}
+use Rattle.payload.specs.Rows.{timeAfter, groupRows, tableRows, marked}
 use Rattle.payload.specs.Rows.{blockRows}
 use Rattle.payload.specs.Payloads.{payload, placedRows, payloadRows}
 use Rattle.packet.specs.Blocks.{cut, typedBlockRows, blocksRows, redundantRows}
@@ -14,7 +14,7 @@ use Rattle.packet.specs.Readings.{typedRows, reading}
 use Rattle.packet.specs.CheckedTable.{CheckedTable}
 
 pub checked-table : CheckedTable
-unfolding maxChannels inRange payloadStart payloadEnd fields header blockHeader headersBy headers redundancyHeaders headersSize redundantSize formatOf g719Length lengthIn frameIn minEntry gapsSize entrySize entryOf gapAt gapsFrom meaning contentsBy contents sizeIn framesIn timeAfter groupRows tableRows blockRows payload placedRows payloadRows cut typedBlockRows blocksRows redundantRows typedRows reading
+unfolding maxChannels inRange payloadStart payloadEnd fields header blockHeader headersBy headers redundancyHeaders headersSize redundantSize formatOf g719Length lengthIn frameIn minEntry gapsSize entrySize entryOf gapAt gapsFrom meaning contentsBy contents sizeIn framesIn timeAfter groupRows tableRows blockRows payload placedRows payloadRows cut typedBlockRows blocksRows redundantRows typedRows reading marked
 checked-table = record {
   frame-lengths = (refl, refl, refl, refl);
   reserved-entries = (refl, refl);

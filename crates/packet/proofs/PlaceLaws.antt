@@ -9,6 +9,7 @@ use mathlib.Core.Bool.{true}
 use borrow.Author.Tests.{ltb-true, ltb-false}
 use Rattle.rtp.specs.Sizes.{maxPacket, rowArea}
 use Rattle.rtp.specs.Ranges.{inRange}
+use Rattle.formats.specs.Tags.{primaryMark}
 use Rattle.rtp.specs.Redundancy.{redundancyHeaders, headersAnswer}
 use Rattle.rtp.specs.Header.{header}
 use Rattle.rtp.specs.declared.settings.Settings.{Settings}
@@ -61,7 +62,7 @@ typed-inside : (st : Settings) (h : Header) (p : List ℕ) → h .start + length
 unfolding typedRows
 typed-inside st h p l =
     by-test (eqb (h .«payload_type») (st .«payload_type»))
-    (λ a. rw a (of-answer _ _ (pay-inside st 0 (h .timestamp) (h .start) p)))
+    (λ a. rw a (of-answer _ _ (pay-inside st primaryMark 0 (h .timestamp) (h .start) p)))
     (λ a. by-test (eqb (h .«payload_type») (st .«redundancy_type»)) (λ b. rw (a, b) (redundant-inside st (h .timestamp) (h .start) p l)) (λ b. rw (a, b) (omega arith)))
 
 abbrev pub OutcomeInside : ℕ → Outcome → Type 0

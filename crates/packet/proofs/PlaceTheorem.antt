@@ -26,6 +26,7 @@ use Rattle.formats.specs.declared.frames.Coded.{Coded}
 use Rattle.formats.specs.Frames.{frameOf}
 use Rattle.contents.specs.declared.entries.EntryRead.{EntryRead}
 use Rattle.contents.specs.Contents.{minEntry, codeIn, blocksIn, entrySize, codedEntry, entryOf, Group, Contents, refused as unread, groups, meaning, prepend, contentsStep, contentsBy, contents, passFirst, sizeIn, framesIn}
+use Rattle.formats.specs.Tags.{primaryMark, redundantMark}
 use Rattle.payload.specs.Payloads.{tableStart, startingAt, exact, body, payload, Rows, noRows, rowsOf, placedRows, payloadRows}
 use Rattle.packet.specs.Blocks.{Block, cut, typedBlockRows, prependRows, thenRows, blocksRows, splitRows, redundantRows}
 use Rattle.packet.specs.Readings.{payloadIn, typedRows, Outcome, refused, readAs, outcomeOf, headedBy, reading, outcomeNumbers}
@@ -89,17 +90,17 @@ exact-placed : (format ch n : ℕ) (p : Contents) → TablePlaced p → TablePla
 exact-placed format ch n (unread f) h = h
 exact-placed format ch n (groups gs) h = by-test (eqb (sizeIn format gs + framesIn ch gs) n) (λ a. rw a tt) (λ a. rw a (omega arith, omega arith))
 
-placed-after : (n format ch time at k : ℕ) → n ≤ at → (p : Contents) → TablePlaced p → RowsAfter n (placedRows format ch time at (startingAt k p))
+placed-after : (n mark format ch time at k : ℕ) → n ≤ at → (p : Contents) → TablePlaced p → RowsAfter n (placedRows mark format ch time at (startingAt k p))
 unfolding placedRows
-placed-after n format ch time at k l (unread f) h = (h, omega arith)
-placed-after n format ch time at k l (groups gs) h = tt
+placed-after n mark format ch time at k l (unread f) h = (h, omega arith)
+placed-after n mark format ch time at k l (groups gs) h = tt
 
-payload-after : (n format ch done time at : ℕ) (s : List ℕ) → n ≤ at → RowsAfter n (payloadRows format ch done time at s)
+payload-after : (n mark format ch done time at : ℕ) (s : List ℕ) → n ≤ at → RowsAfter n (payloadRows mark format ch done time at s)
 unfolding payloadRows payload contents
-payload-after n format ch done time at s l =
+payload-after n mark format ch done time at s l =
     let b = body format s in
     let p = contents format ch done b in
-    placed-after n format ch time at (tableStart format s) l (exact format ch (length b) (passFirst p))
+    placed-after n mark format ch time at (tableStart format s) l (exact format ch (length b) (passFirst p))
     (exact-placed format ch (length b) (passFirst p) (passed-placed p (table-by (suc (length b)) format ch done b)))
 
 -- The blocks of a redundancy payload
@@ -119,15 +120,15 @@ module _ (st : Settings) (n : ℕ) where
       by-test (eqb (b .type) (st .«payload_type»))
       (λ x. by-test (eqb (length (b .bytes)) 0)
       (λ y. rw (x, y) tt)
-      (λ y. rw (x, y) (payload-after n (st .format) (st .channels) done (difference time (b .offset)) (b .at) (b .bytes) l)))
+      (λ y. rw (x, y) (payload-after n (b .primary) (st .format) (st .channels) done (difference time (b .offset)) (b .at) (b .bytes) l)))
       (λ x. rw x tt)
 
   cut-after : (bs : List Redundant) (done time type at : ℕ) (d : List ℕ) → n ≤ at → RowsAfter n (blocksRows st done time (cut bs type at d))
   unfolding blocksRows cut
-  cut-after [] done time type at d l = then-after n (typedBlockRows st done time (block type 0 at d)) _ (block-after done time (block type 0 at d) l) (λ i. tt)
+  cut-after [] done time type at d l = then-after n (typedBlockRows st done time (block primaryMark type 0 at d)) _ (block-after done time (block primaryMark type 0 at d) l) (λ i. tt)
   cut-after (b ∷ bs) done time type at d l =
-      then-after n (typedBlockRows st done time (block (b .«payload_type») (b .offset) at (take (b .length) d))) _
-      (block-after done time (block (b .«payload_type») (b .offset) at (take (b .length) d)) l)
+      then-after n (typedBlockRows st done time (block redundantMark (b .«payload_type») (b .offset) at (take (b .length) d))) _
+      (block-after done time (block redundantMark (b .«payload_type») (b .offset) at (take (b .length) d)) l)
       (λ i. cut-after bs (done + i) time type (at + b .length) (drop (b .length) d) (omega arith))
 
 -- its block headers are refused with 6
@@ -245,7 +246,7 @@ typed-fit : (st : Settings) (h : Header) (p : List ℕ) → minPacket ≤ h .sta
 unfolding typedRows
 typed-fit st h p l m =
     by-test (eqb (h .«payload_type») (st .«payload_type»))
-    (λ a. rw a (after-fit (payloadRows (st .format) (st .channels) 0 (h .timestamp) (h .start) p) (payload-after minPacket (st .format) (st .channels) 0 (h .timestamp) (h .start) p l)))
+    (λ a. rw a (after-fit (payloadRows primaryMark (st .format) (st .channels) 0 (h .timestamp) (h .start) p) (payload-after minPacket primaryMark (st .format) (st .channels) 0 (h .timestamp) (h .start) p l)))
     (λ a. by-test (eqb (h .«payload_type») (st .«redundancy_type»))
     (λ b. rw (a, b) (after-fit (redundantRows st (h .timestamp) (h .start) p) (redundant-after minPacket st (h .timestamp) (h .start) p l m)))
     (λ b. rw (a, b) (fit-none 5 (low 5 (omega arith)))))

@@ -9,6 +9,7 @@ use borrow.Author.Tests.{eq-eqb, ne-eqb, lt-ltb, le-ltb}
 use Rattle.rtp.specs.Areas.{over}
 use Rattle.rtp.specs.Sizes.{maxPacket, rowArea}
 use Rattle.rtp.specs.Ranges.{inRange}
+use Rattle.formats.specs.Tags.{primaryMark}
 use Rattle.rtp.specs.Header.{header}
 use Rattle.rtp.specs.Faults.{fault}
 use Rattle.rtp.specs.declared.refusal.Fault.{Fault}
@@ -34,9 +35,9 @@ payload-fits s h q = let w = within s h q in simp (length-take, length-drop) (om
 
 module _ (st : Settings) (h : Header) (s : List ℕ) where
   pub typed-plain : inRange st ≡ true → (area : ℕ) → rowArea ≤ area → header s ≡ HeaderRead.Header h → h .«payload_type» ≡ st .«payload_type»
-      → askedRows st 0 area (h .timestamp) (h .start) (payloadIn s h) ≡ typedRows st h (payloadIn s h)
+      → askedRows primaryMark st 0 area (h .timestamp) (h .start) (payloadIn s h) ≡ typedRows st h (payloadIn s h)
   unfolding typedRows
-  typed-plain i area f q e = asked-in st 0 area (h .timestamp) (h .start) (payloadIn s h) i (omega arith) (payload-fits s h q) ∙ rw (eq-eqb _ _ e)
+  typed-plain i area f q e = asked-in primaryMark st 0 area (h .timestamp) (h .start) (payloadIn s h) i (omega arith) (payload-fits s h q) ∙ rw (eq-eqb _ _ e)
 
   module _ (n : h .«payload_type» ≡ st .«payload_type» → ⊥) where
     pub typed-redundant : h .«payload_type» ≡ st .«redundancy_type» → redundantRows st (h .timestamp) (h .start) (payloadIn s h) ≡ typedRows st h (payloadIn s h)

@@ -1,7 +1,8 @@
 -- What every row is like that reading a packet gives.
 use mathlib.Core.Path.{_≡_, refl, subst}
 use mathlib.Core.List.{List, [], _∷_}
-use Prim.Native.Nat.{ℕ, _+_, _-_, _≤_}
+use Prim.Native.Nat.{ℕ, _+_, _-_, _≤_, _<_}
+use Rattle.formats.specs.Tags.{primaryMark, redundantMark}
 use native.Mathlib.Omega.{arith}
 use lib.ListN.{length, take, drop, length-append, length-take, length-drop}
 use lib.Dec.{ltb, eqb}
@@ -37,31 +38,31 @@ module _ (format ch n done : ℕ) where
   then-fine (rowsOf rs) next h k = prepend-fine rs (next (length rs)) (h .0) (k (length rs) (h .1))
 
 module _ (st : Settings) (n : ℕ) where
-  block-fine : (done time : ℕ) (b : Block) → done ≤ maxRows → (1 ≤ length (b .bytes) → b .at + length (b .bytes) ≤ n)
+  block-fine : (done time : ℕ) (b : Block) → b .primary < 2 → done ≤ maxRows → (1 ≤ length (b .bytes) → b .at + length (b .bytes) ≤ n)
       → FineRows (st .format) (st .channels) n done (typedBlockRows st done time b)
   unfolding typedBlockRows
-  block-fine done time b f e =
+  block-fine done time b p f e =
       by-test (eqb (b .type) (st .«payload_type»))
       (λ x. by-test (eqb (length (b .bytes)) 0)
       (λ y. rw (x, y) (tt, omega arith))
       (λ y. let z = eqb-false (length (b .bytes)) 0 y in
-      rw (x, y) (payload-fine (st .format) (st .channels) n done (difference time (b .offset)) (b .at) (b .bytes) (e (omega arith)))))
+      rw (x, y) (payload-fine (b .primary) (st .format) (st .channels) n done (difference time (b .offset)) (b .at) (b .bytes) p (e (omega arith)))))
       (λ x. rw x (tt, omega arith))
 
-  more-fine : (done time : ℕ) (b : Block) (bs : List Block) → done ≤ maxRows → (1 ≤ length (b .bytes) → b .at + length (b .bytes) ≤ n)
+  more-fine : (done time : ℕ) (b : Block) (bs : List Block) → b .primary < 2 → done ≤ maxRows → (1 ≤ length (b .bytes) → b .at + length (b .bytes) ≤ n)
       → ((i : ℕ) → done + i ≤ maxRows → FineRows (st .format) (st .channels) n (done + i) (blocksRows st (done + i) time bs))
       → FineRows (st .format) (st .channels) n done (blocksRows st done time (b ∷ bs))
   unfolding blocksRows
-  more-fine done time b bs f e k =
-      then-fine (st .format) (st .channels) n done (typedBlockRows st done time b) (λ i. blocksRows st (done + i) time bs) (block-fine done time b f e) k
+  more-fine done time b bs p f e k =
+      then-fine (st .format) (st .channels) n done (typedBlockRows st done time b) (λ i. blocksRows st (done + i) time bs) (block-fine done time b p f e) k
 
   -- it does not matter where an empty block is placed: it has no rows
   cut-fine : (bs : List Redundant) (done time type at : ℕ) (d : List ℕ) → done ≤ maxRows → (1 ≤ length d → at + length d ≤ n)
       → FineRows (st .format) (st .channels) n done (blocksRows st done time (cut bs type at d))
   unfolding blocksRows cut
-  cut-fine [] done time type at d f e = more-fine done time (block type 0 at d) [] f e (λ i l. (tt, omega arith))
+  cut-fine [] done time type at d f e = more-fine done time (block primaryMark type 0 at d) [] (omega arith) f e (λ i l. (tt, omega arith))
   cut-fine (b ∷ bs) done time type at d f e =
-      more-fine done time (block (b .«payload_type») (b .offset) at (take (b .length) d)) (cut bs type (at + b .length) (drop (b .length) d)) f
+      more-fine done time (block redundantMark (b .«payload_type») (b .offset) at (take (b .length) d)) (cut bs type (at + b .length) (drop (b .length) d)) (omega arith) f
       (rw length-take (λ l. omega (arith, e (omega arith))))
       (λ i l. cut-fine bs (done + i) time type (at + b .length) (drop (b .length) d) l (rw length-drop (λ m. omega (arith, e (omega arith)))))
 
@@ -79,7 +80,7 @@ module _ (st : Settings) (n : ℕ) where
   unfolding typedRows
   typed-fine h p e =
       by-test (eqb (h .«payload_type») (st .«payload_type»))
-      (λ a. rw a (payload-fine (st .format) (st .channels) n 0 (h .timestamp) (h .start) p e))
+      (λ a. rw a (payload-fine primaryMark (st .format) (st .channels) n 0 (h .timestamp) (h .start) p (omega arith) e))
       (λ a. by-test (eqb (h .«payload_type») (st .«redundancy_type»)) (λ b. rw (a, b) (redundant-fine (h .timestamp) (h .start) p e)) (λ b. rw (a, b) tt))
 
 -- Reading a packet

@@ -5,6 +5,7 @@ use mathlib.Core.Bool.{cond}
 use lib.ListN.{length, take, drop}
 use lib.Dec.{ltb, eqb}
 use Rattle.rtp.specs.Time.{difference}
+use Rattle.formats.specs.Tags.{primaryMark, redundantMark}
 use Rattle.rtp.specs.Faults.{faultAt, shifted}
 use Rattle.rtp.specs.Redundancy.{Headers, refused, headersOf, redundancyHeaders, headersSize, redundantSize}
 use Rattle.rtp.specs.declared.settings.Settings.{Settings}
@@ -13,24 +14,25 @@ use Rattle.rtp.specs.declared.redundancy.Redundant.{Redundant}
 use Rattle.payload.specs.Rows.{Row}
 use Rattle.payload.specs.Payloads.{Rows, noRows, rowsOf, payloadRows}
 
--- a block: its type, its offset, its place in the packet and its bytes
+-- a block: its type, its offset, its place in the packet, its bytes, and whether it is the primary one (document 02, P6)
 pub record Block : Type 0 where
   pub type : ℕ
   pub offset : ℕ
   pub at : ℕ
   pub bytes : List ℕ
+  pub primary : ℕ
 
 -- the blocks of the bytes d, which stand at `at`, in header order; the primary block has offset 0 and takes all that remains
 unfoldable pub cut : List Redundant → ℕ → ℕ → List ℕ → List Block
-cut [] type at d = record { type = type; offset = 0; at = at; bytes = d } ∷ []
+cut [] type at d = record { type = type; offset = 0; at = at; bytes = d; primary = primaryMark } ∷ []
 cut (b ∷ bs) type at d =
-    record { type = b .«payload_type»; offset = b .offset; at = at; bytes = take (b .length) d } ∷ cut bs type (at + b .length) (drop (b .length) d)
+    record { type = b .«payload_type»; offset = b .offset; at = at; bytes = take (b .length) d; primary = redundantMark } ∷ cut bs type (at + b .length) (drop (b .length) d)
 
 -- a block's rows after `done` rows of the packet: none of another type, and none of a block of length 0
 unfoldable pub typedBlockRows : Settings → ℕ → ℕ → Block → Rows
 typedBlockRows st done time b =
     cond (eqb (b .type) (st .«payload_type»))
-    (cond (eqb (length (b .bytes)) 0) (rowsOf []) (payloadRows (st .format) (st .channels) done (difference time (b .offset)) (b .at) (b .bytes)))
+    (cond (eqb (length (b .bytes)) 0) (rowsOf []) (payloadRows (b .primary) (st .format) (st .channels) done (difference time (b .offset)) (b .at) (b .bytes)))
     (rowsOf [])
 
 abbrev pub prependRows : List Row → Rows → Rows

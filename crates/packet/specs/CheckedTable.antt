@@ -16,7 +16,8 @@ use Rattle.rtp.specs.declared.redundancy.BlockHeader.{BlockHeader}
 use Rattle.contents.specs.declared.entries.EntryRead.{EntryRead}
 use Rattle.formats.specs.Frames.{g719Length, noData, sound}
 use Rattle.contents.specs.Contents.{entryOf}
-use Rattle.payload.specs.Rows.{Row}
+use Rattle.formats.specs.Tags.{primaryMark, redundantMark}
+use Rattle.payload.specs.Rows.{Row, withMark}
 use Rattle.payload.specs.Payloads.{Rows, noRows, rowsOf}
 use Rattle.packet.specs.Readings.{Outcome, refused, readAs, reading}
 
@@ -48,8 +49,9 @@ rowsRead (readAs h rs request) = rowsOf rs
 abbrev pub packetRows : ℕ → ℕ → ℕ → ℕ → List ℕ → Rows
 packetRows format channels type time payload = rowsRead (reading (settingsOf format channels) rowArea (packetOf type time payload))
 
+-- a row heard first-hand, and one of a redundant block
 abbrev pub row : ℕ → ℕ → ℕ → ℕ → ℕ → Row
-row time class channel start length = record { time = time; class = class; channel = channel; start = start; length = length }
+row time class channel start length = record { time = time; class = class; channel = channel; start = start; length = length; primary = primaryMark }
 
 -- the payloads of the table
 abbrev pub mixedLengths : List ℕ
@@ -98,6 +100,6 @@ pub record CheckedTable : Type 0 where
   pub block-header : blockHeader blockHeaders ≡ BlockHeader.Redundant redundantBlock
   pub block-headers : redundancyHeaders blockHeaders ≡ headersOf (redundantBlock ∷ []) 97
   pub redundant-time : difference 0 960 ≡ 4294966336
-  pub redundant-rows : packetRows g719 1 redundancyType 0 (blockHeaders ++ oneBlock ++ oneBlock) ≡ rowsOf (row 4294966336 sound 0 19 80 ∷ row 0 sound 0 101 80 ∷ [])
+  pub redundant-rows : packetRows g719 1 redundancyType 0 (blockHeaders ++ oneBlock ++ oneBlock) ≡ rowsOf (withMark redundantMark (row 4294966336 sound 0 19 80) ∷ row 0 sound 0 101 80 ∷ [])
   -- 7. Kind 3, 80 F0 00 and 28 bytes: lengths 14, 0, 14 at 0, 160, 320.
   pub gsm-rows : packetRows gsmHr 1 plainType 0 gsmFrames ≡ rowsOf (row 0 sound 0 15 14 ∷ row 160 noData 0 29 0 ∷ row 320 sound 0 29 14 ∷ [])

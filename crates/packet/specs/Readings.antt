@@ -10,6 +10,7 @@ use Rattle.rtp.specs.Refusals.{number}
 use Rattle.rtp.specs.Faults.{fault}
 use Rattle.rtp.specs.Header.{header}
 use Rattle.rtp.specs.declared.settings.Settings.{Settings}
+use Rattle.formats.specs.Tags.{primaryMark}
 use Rattle.rtp.specs.declared.header.Header.{Header}
 use Rattle.rtp.specs.declared.header.HeaderRead.{HeaderRead}
 use Rattle.rtp.specs.declared.refusal.Fault.{Fault}
@@ -24,10 +25,10 @@ use Rattle.packet.specs.Requests.{typedRequest}
 abbrev pub payloadIn : List ℕ → Header → List ℕ
 payloadIn s h = take (h .end - h .start) (drop (h .start) s)
 
--- the rows of a payload by the packet's type: the payload type, the redundancy type, or neither
+-- the rows of a payload by the packet's type: the payload type, heard first-hand, the redundancy type, or neither
 unfoldable pub typedRows : Settings → Header → List ℕ → Rows
 typedRows st h p =
-    cond (eqb (h .«payload_type») (st .«payload_type»)) (payloadRows (st .format) (st .channels) 0 (h .timestamp) (h .start) p)
+    cond (eqb (h .«payload_type») (st .«payload_type»)) (payloadRows primaryMark (st .format) (st .channels) 0 (h .timestamp) (h .start) p)
     (cond (eqb (h .«payload_type») (st .«redundancy_type»)) (redundantRows st (h .timestamp) (h .start) p) (noRows (fault UnknownPayloadType)))
 
 -- what reading a packet comes to: a fault, its place in the whole packet, or the header, the rows and the mode request

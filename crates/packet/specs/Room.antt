@@ -18,10 +18,10 @@ use Rattle.packet.specs.Blocks.{cut, blocksRows}
 use Rattle.packet.specs.Requests.{blocksRequest}
 
 -- a block's rows as a payload of a call: the same as `typedBlockRows` where settings, area and length are in order
-unfoldable pub askedBlock : Settings → ℕ → ℕ → ℕ → ℕ → ℕ → ℕ → List ℕ → Rows
-askedBlock st done area time type offset at s =
+unfoldable pub askedBlock : ℕ → Settings → ℕ → ℕ → ℕ → ℕ → ℕ → ℕ → List ℕ → Rows
+askedBlock mark st done area time type offset at s =
     cond (eqb type (st .«payload_type»))
-    (cond (eqb (length s) 0) (rowsOf []) (askedRows st done area (difference time offset) at s))
+    (cond (eqb (length s) 0) (rowsOf []) (askedRows mark st done area (difference time offset) at s))
     (rowsOf [])
 
 -- the rows of the blocks whose headers are these, or stand at the front of h, and whose bytes are d, at `at`

@@ -1,4 +1,6 @@
 // The blocks of a redundancy payload.
+use formats::tagging::PRIMARY;
+use formats::tagging::REDUNDANT;
 use payload::reading;
 use payload::reading::PayloadRead;
 use rtp::redundancy;
@@ -16,13 +18,14 @@ ghost use lib.ListN.{length};
 ghost use Rattle.rtp.specs.Sizes.{rowArea, maxPacket};
 ghost use Rattle.rtp.specs.Areas.{over};
 ghost use Rattle.rtp.specs.Ranges.{inRange};
+ghost use Rattle.formats.specs.Tags.{redundantMark};
 ghost use Rattle.payload.specs.Payloads.{rowsAnswer, rowsWords};
 ghost use Rattle.packet.specs.Blocks.{redundantRows};
 ghost use Rattle.packet.specs.Room.{askedBlock, blocksFrom, BlocksAsked, BlocksRoom};
 
 // The rows of one block after `done` rows: none of another type, and none of an empty block.
 fn check_block(settings: Settings, done: u32, block_type: u8, s: &[u8]) -> PayloadRead
-    ensures { λ r. ⌜ r ≡ rowsAnswer (askedBlock settings done rowArea 0 «block_type» 0 0 (now (s .entry))) ⌝ }
+    ensures { λ r. ⌜ r ≡ rowsAnswer (askedBlock redundantMark settings done rowArea 0 «block_type» 0 0 (now (s .entry))) ⌝ }
 {
     if block_type == settings.payload_type {
         if s.len() == 0 {
@@ -33,7 +36,7 @@ fn check_block(settings: Settings, done: u32, block_type: u8, s: &[u8]) -> Paylo
     PayloadRead::Rows(0)
 }
 
-// The same of a block at `at` in the packet, with its rows written at the front of the area.
+// The same of a block at `at` in the packet, heard with this mark, with its rows written at the front of the area.
 fn put_block(
     settings: Settings,
     done: u32,
@@ -41,19 +44,28 @@ fn put_block(
     block_type: u8,
     offset: u32,
     at: u32,
+    mark: u8,
     s: &[u8],
     rows: &mut [u32],
 ) -> PayloadRead
-    ensures { λ r. ⌜ (r ≡ rowsAnswer (askedBlock settings done (length (now (rows .entry))) time «block_type» offset at (now (s .entry))))
+    ensures { λ r. ⌜ (r ≡ rowsAnswer (askedBlock mark settings done (length (now (rows .entry))) time «block_type» offset at (now (s .entry))))
         × (now (rows .exit) ≡
-        over (rowsWords (askedBlock settings done (length (now (rows .entry))) time «block_type» offset at (now (s .entry)))) (now (rows .entry)))
+        over (rowsWords (askedBlock mark settings done (length (now (rows .entry))) time «block_type» offset at (now (s .entry)))) (now (rows .entry)))
         ⌝ }
 {
     if block_type == settings.payload_type {
         if s.len() == 0 {
             return PayloadRead::Rows(0);
         }
-        return reading::read_payload(settings, done, time::difference(time, offset), at, s, rows);
+        return reading::read_payload(
+            settings,
+            done,
+            time::difference(time, offset),
+            at,
+            mark,
+            s,
+            rows,
+        );
     }
     PayloadRead::Rows(0)
 }
@@ -104,7 +116,7 @@ fn put_blocks(
     match redundancy::read_block_header(headers) {
         BlockHeader::Refused(_) => {}
         BlockHeader::Primary(block_type) => {
-            put_block(settings, done, time, block_type, 0, at, s, rows);
+            put_block(settings, done, time, block_type, 0, at, PRIMARY, s, rows);
         }
         BlockHeader::Redundant(block) => {
             let length = block.length;
@@ -115,6 +127,7 @@ fn put_blocks(
                 block.payload_type,
                 block.offset,
                 at,
+                REDUNDANT,
                 &s[..length],
                 rows,
             ) {

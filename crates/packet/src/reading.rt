@@ -1,6 +1,7 @@
 // A packet read into frame rows.
 use crate::blocks;
 use crate::requests;
+use formats::tagging::PRIMARY;
 use payload::reading;
 use payload::reading::PayloadRead;
 use rtp::header;
@@ -52,6 +53,7 @@ fn read_typed(settings: Settings, head: Header, packet: &[u8], rows: &mut [u32])
             0,
             head.timestamp,
             place,
+            PRIMARY,
             &packet[start..end],
             rows,
         );

@@ -18,7 +18,7 @@ use Rattle.contents.specs.declared.entries.EntryRead.{EntryRead}
 use Rattle.contents.specs.declared.entries.Sizes.{Sizes}
 use Rattle.contents.specs.declared.entries.ContentsRead.{ContentsRead}
 use Rattle.contents.specs.Contents.{entrySize, entryOf, Group, Contents, refused, groups, gapAt, gapsFrom, meaning, prepend, contents, direct, passFirst, rowCount, sizeIn, framesIn, sizesAnswer}
-use Rattle.payload.specs.Rows.{placed, timeAfter, blockRows, groupRows, tableRows, words}
+use Rattle.payload.specs.Rows.{Row, placed, timeAfter, blockRows, groupRows, tableRows, words, marked}
 use Rattle.payload.specs.Room.{contentsWords, originOf}
 use Rattle.contents.proofs.EntryLaws.{fair}
 use Rattle.payload.proofs.GroupLaws.{size-more}
@@ -79,15 +79,15 @@ table-from step ch start class len t u d rest gs h =
     ap (λ (x : ℕ). (blockRows ch 0 x class start len ++ groupRows step ch ((x + step) % 2 ^ 32) class (start + ch * len) len rest)
     ++ tableRows step ch (timeAfter step ((x + step) % 2 ^ 32) rest) (start + suc (length rest) * ch * len) gs) h
 
-pub words-from : (format ch d time start : ℕ) (p : Contents) → time < 2 ^ 32 → d * stepOf format ≤ 2 ^ 32 → Begins d p
-    → contentsWords format ch (difference time (d * stepOf format)) start p ≡ contentsWords format ch time start (passFirst p)
+pub words-from : (mark format ch d time start : ℕ) (p : Contents) → time < 2 ^ 32 → d * stepOf format ≤ 2 ^ 32 → Begins d p
+    → contentsWords mark format ch (difference time (d * stepOf format)) start p ≡ contentsWords mark format ch time start (passFirst p)
 unfolding contentsWords tableRows
-words-from format ch d time start (refused r) w m b = refl
-words-from format ch d time start (groups []) w m b = refl
-words-from format ch d time start (groups (g ∷ gs)) w m b =
+words-from mark format ch d time start (refused r) w m b = refl
+words-from mark format ch d time start (groups []) w m b = refl
+words-from mark format ch d time start (groups (g ∷ gs)) w m b =
     let step = stepOf format in
     let same : placed step (difference time (d * step)) d ≡ placed step time 0 = omega arith in
     subst
-    (λ (x : List ℕ). words (tableRows step ch (difference time (d * step)) start (record { class = g .class; length = g .length; gaps = x } ∷ gs))
-    ≡ words (tableRows step ch time start (record { class = g .class; length = g .length; gaps = direct x } ∷ gs)))
-    (sym (b .1)) (ap words (table-from step ch start (g .class) (g .length) (difference time (d * step)) time d (b .0) gs same))
+    (λ (x : List ℕ). words (marked mark (tableRows step ch (difference time (d * step)) start (record { class = g .class; length = g .length; gaps = x } ∷ gs)))
+    ≡ words (marked mark (tableRows step ch time start (record { class = g .class; length = g .length; gaps = direct x } ∷ gs))))
+    (sym (b .1)) (ap (λ (rs : List Row). words (marked mark rs)) (table-from step ch start (g .class) (g .length) (difference time (d * step)) time d (b .0) gs same))

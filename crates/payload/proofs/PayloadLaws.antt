@@ -29,6 +29,7 @@ use Rattle.payload.specs.Room.{TableRoom, contentsWords}
 use Rattle.formats.proofs.FormatLaws.{header-small}
 use Rattle.contents.proofs.EntryLaws.{min-some}
 use Rattle.contents.proofs.ContentsLaws.{at-refused, Small, Within, within}
+use Rattle.payload.proofs.RowLaws.{length-marked}
 use Rattle.payload.proofs.GroupLaws.{length-group}
 use Rattle.payload.proofs.FirstLaws.{sizes-passed}
 
@@ -49,24 +50,24 @@ exact-refused format ch n r (refused q) h = cc
 exact-refused format ch n r (groups gs) h = let z : _≡_ {A = ℕ} 0 1 = cc in absurd (omega arith)
 
 -- what a table that was read is
-record Is (format ch n time at : ℕ) (p : Contents) (t : Sizes) : Type 0 where
+record Is (mark format ch n time at : ℕ) (p : Contents) (t : Sizes) : Type 0 where
   whole : t .size + t .frames ≡ n → exact format ch n p ≡ p
   part : (t .size + t .frames ≡ n → ⊥) → exact format ch n p ≡ refused (faultAt (t .size) LengthMismatch)
-  rows : (k : ℕ) → rowsAnswer (placedRows format ch time at (startingAt k p)) ≡ PayloadRead.Rows (t .rows)
-  words : (k : ℕ) → rowsWords (placedRows format ch time at (startingAt k p)) ≡ contentsWords format ch time (at + formatOf format .header + t .size) p
+  rows : (k : ℕ) → rowsAnswer (placedRows mark format ch time at (startingAt k p)) ≡ PayloadRead.Rows (t .rows)
+  words : (k : ℕ) → rowsWords (placedRows mark format ch time at (startingAt k p)) ≡ contentsWords mark format ch time (at + formatOf format .header + t .size) p
 
-is : (format ch n time at : ℕ) (t : Sizes) (p : Contents) → sizesAnswer format ch p ≡ ContentsRead.Contents t → Is format ch n time at p t
+is : (mark format ch n time at : ℕ) (t : Sizes) (p : Contents) → sizesAnswer format ch p ≡ ContentsRead.Contents t → Is mark format ch n time at p t
 unfolding sizesAnswer placedRows rowsAnswer rowsWords contentsWords
-is format ch n time at t (refused r) h = let z : _≡_ {A = ℕ} 0 1 = cc in absurd (omega arith)
-is format ch n time at t (groups gs) h = subst (λ (x : Sizes). Is format ch n time at (groups gs) x) (same-sizes _ t h) (record {
+is mark format ch n time at t (refused r) h = let z : _≡_ {A = ℕ} 0 1 = cc in absurd (omega arith)
+is mark format ch n time at t (groups gs) h = subst (λ (x : Sizes). Is mark format ch n time at (groups gs) x) (same-sizes _ t h) (record {
   whole = λ e. simp (eq-eqb _ _ e);
   part = λ e. simp (ne-eqb _ _ e);
-  rows = λ k. ap PayloadRead.Rows (length-table (stepOf format) ch time (at + formatOf format .header + sizeIn format gs) gs);
+  rows = λ k. ap PayloadRead.Rows (length-marked mark (tableRows (stepOf format) ch time (at + formatOf format .header + sizeIn format gs) gs) ∙ length-table (stepOf format) ch time (at + formatOf format .header + sizeIn format gs) gs);
   words = λ k. refl;
 })
 
 -- the rows of a payload, by what reading its table answered
-module _ (format ch done time at : ℕ) (s : List ℕ) where
+module _ (mark format ch done time at : ℕ) (s : List ℕ) where
   abbrev Table : Contents
   Table = contents format ch done (body format s)
 
@@ -82,12 +83,12 @@ module _ (format ch done time at : ℕ) (s : List ℕ) where
       (λ z. rw (z, length-drop) (omega (arith, eqb-false (length s) 0 z, header-small format)))
 
   pub at-fault : (r : Fault) → sizesAnswer format ch (contents format ch done (body format s)) ≡ ContentsRead.Refused r
-      → payloadRows format ch done time at s ≡ noRows (faultAt (at + (tableStart format s + r .offset)) (r .refusal))
+      → payloadRows mark format ch done time at s ≡ noRows (faultAt (at + (tableStart format s + r .offset)) (r .refusal))
   unfolding payloadRows payload placedRows
   at-fault r h = rw (exact-refused format ch (length (body format s)) r (passFirst Table) (sizes-passed format ch Table ∙ h))
 
   pub pay-refused : (r : Fault) (n : ℕ) → formatOf format .header ≤ length s → n ≡ at + formatOf format .header + r .offset
-      → sizesAnswer format ch (contents format ch done (body format s)) ≡ ContentsRead.Refused r → payloadRows format ch done time at s ≡ noRows (faultAt n (r .refusal))
+      → sizesAnswer format ch (contents format ch done (body format s)) ≡ ContentsRead.Refused r → payloadRows mark format ch done time at s ≡ noRows (faultAt n (r .refusal))
   pay-refused r n l e h = at-fault r h ∙ ap (λ (k : ℕ). noRows (faultAt k (r .refusal))) (omega (arith, e, starts l))
 
   -- the place at fault lies in the body
@@ -95,7 +96,7 @@ module _ (format ch done time at : ℕ) (s : List ℕ) where
   pay-place r h = subst (λ (x : ContentsRead). Within done (length (body format s)) x) h (within format ch done (body format s))
 
   -- no table follows a header that is cut short
-  pub pay-headless : length s < formatOf format .header → payloadRows format ch done time at s ≡ noRows (faultAt at ContentsTruncated)
+  pub pay-headless : length s < formatOf format .header → payloadRows mark format ch done time at s ≡ noRows (faultAt at ContentsTruncated)
   unfolding entryOf
   pay-headless l =
       let z : length (body format s) ≡ 0 = rw length-drop (omega arith) in
@@ -109,26 +110,26 @@ module _ (format ch done time at : ℕ) (s : List ℕ) where
     passed = sizes-passed format ch Table ∙ h
 
     abbrev What : Type 0
-    What = Is format ch (length (body format s)) time at (passFirst Table) t
+    What = Is mark format ch (length (body format s)) time at (passFirst Table) t
 
     table-is : What
-    table-is = is format ch (length (body format s)) time at t (passFirst Table) passed
+    table-is = is mark format ch (length (body format s)) time at t (passFirst Table) passed
 
     pub part-fault : (t .size + t .frames ≡ length (body format s) → ⊥)
-        → payloadRows format ch done time at s ≡ noRows (faultAt (at + (tableStart format s + t .size)) LengthMismatch)
+        → payloadRows mark format ch done time at s ≡ noRows (faultAt (at + (tableStart format s + t .size)) LengthMismatch)
     unfolding payloadRows payload placedRows
     part-fault f = rw (table-is .part f)
 
     pub pay-part : (n : ℕ) → formatOf format .header ≤ length s → n ≡ at + formatOf format .header + t .size → (t .size + t .frames ≡ length (body format s) → ⊥)
-        → payloadRows format ch done time at s ≡ noRows (faultAt n LengthMismatch)
+        → payloadRows mark format ch done time at s ≡ noRows (faultAt n LengthMismatch)
     pay-part n l e f = part-fault f ∙ ap (λ (k : ℕ). noRows (faultAt k LengthMismatch)) (omega (arith, e, starts l))
 
-    pub pay-rows : t .size + t .frames ≡ length (body format s) → rowsAnswer (payloadRows format ch done time at s) ≡ PayloadRead.Rows (t .rows)
+    pub pay-rows : t .size + t .frames ≡ length (body format s) → rowsAnswer (payloadRows mark format ch done time at s) ≡ PayloadRead.Rows (t .rows)
     unfolding payloadRows payload
     pay-rows f = rw (table-is .whole f) (table-is .rows (tableStart format s))
 
     pub pay-words : t .size + t .frames ≡ length (body format s)
-        → rowsWords (payloadRows format ch done time at s) ≡ contentsWords format ch time (at + formatOf format .header + t .size) (passFirst Table)
+        → rowsWords (payloadRows mark format ch done time at s) ≡ contentsWords mark format ch time (at + formatOf format .header + t .size) (passFirst Table)
     unfolding payloadRows payload
     pay-words f = rw (table-is .whole f) (table-is .words (tableStart format s))
 
@@ -144,20 +145,20 @@ module _ (format ch done time at : ℕ) (s : List ℕ) where
 
 -- The payload of a call
 
-pub asked-out : (st : Settings) (done area time at : ℕ) (s : List ℕ) → inRange st ≡ false → askedRows st done area time at s ≡ noRows (fault SettingsOutOfRange)
+pub asked-out : (mark : ℕ) (st : Settings) (done area time at : ℕ) (s : List ℕ) → inRange st ≡ false → askedRows mark st done area time at s ≡ noRows (fault SettingsOutOfRange)
 unfolding askedRows
-asked-out st done area time at s h = rw h
+asked-out mark st done area time at s h = rw h
 
-module _ (st : Settings) (done area time at : ℕ) (s : List ℕ) (h : inRange st ≡ true) where
-  pub asked-short : rowWidth * done + area < rowArea → askedRows st done area time at s ≡ noRows (fault AreaTooShort)
+module _ (mark : ℕ) (st : Settings) (done area time at : ℕ) (s : List ℕ) (h : inRange st ≡ true) where
+  pub asked-short : rowWidth * done + area < rowArea → askedRows mark st done area time at s ≡ noRows (fault AreaTooShort)
   unfolding askedRows
   asked-short a = rw (h, lt-ltb (rowWidth * done + area) rowArea a)
 
-  pub asked-long : rowArea ≤ rowWidth * done + area → maxPacket < at + length s → askedRows st done area time at s ≡ noRows (fault PacketLength)
+  pub asked-long : rowArea ≤ rowWidth * done + area → maxPacket < at + length s → askedRows mark st done area time at s ≡ noRows (fault PacketLength)
   unfolding askedRows
   asked-long a b = rw (h, le-ltb (rowWidth * done + area) rowArea a, lt-ltb maxPacket (at + length s) b)
 
-  pub asked-in : rowArea ≤ rowWidth * done + area → at + length s ≤ maxPacket → askedRows st done area time at s ≡ payloadRows (st .format) (st .channels) done time at s
+  pub asked-in : rowArea ≤ rowWidth * done + area → at + length s ≤ maxPacket → askedRows mark st done area time at s ≡ payloadRows mark (st .format) (st .channels) done time at s
   unfolding askedRows
   asked-in a b = rw (h, le-ltb (rowWidth * done + area) rowArea a, le-ltb maxPacket (at + length s) b)
 

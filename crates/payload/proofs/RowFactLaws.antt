@@ -19,7 +19,8 @@ use Rattle.formats.specs.Formats.{formatOf}
 use Rattle.formats.specs.Frames.{frameOf, stepOf}
 use Rattle.formats.specs.Codes.{noCode, codeFor}
 use Rattle.contents.specs.Contents.{minEntry, codeIn, blocksIn, entrySize, codedEntry, entryOf, Group, Contents, refused, groups, meaning, prepend, contentsStep, contents, passFirst, sizeIn, framesIn, sizesAnswer}
-use Rattle.payload.specs.Rows.{Row, placed, nextPlace, timeAfter, blockRows, groupRows, tableRows}
+use Rattle.payload.specs.Rows.{Row, placed, nextPlace, timeAfter, blockRows, groupRows, tableRows, marked}
+use Rattle.payload.proofs.RowLaws.{length-marked}
 use Rattle.payload.specs.Payloads.{tableStart, startingAt, exact, body, payload, Rows, noRows, rowsOf, placedRows, payloadRows}
 use Rattle.formats.proofs.CodeLaws.{code-some}
 use Rattle.contents.proofs.EntryLaws.{code-in}
@@ -27,11 +28,12 @@ use Rattle.contents.proofs.ContentsLaws.{contents-step, shorter, Within, within
 use Rattle.payload.proofs.FirstLaws.{sizes-passed}
 use Rattle.payload.proofs.PayloadLaws.{length-table, pay-headless}
 
--- a row that was read: its frame is one of the format, its channel one of ch, its time a word, and its bytes lie within n
+-- a row that was read: its frame is one of the format, its channel one of ch, its time a word, its mark 0 or 1, and its bytes lie within n
 pub record RowFine (format ch n : ℕ) (r : Row) : Type 0 where
   pub coded : codeFor format (r .class) (r .length) < noCode
   pub channel : r .channel < ch
   pub word : r .time < 2 ^ 32
+  pub mark : r .primary < 2
   pub inside : r .start + r .length ≤ n
 
 abbrev pub AllRows : (Row → Type 0) → List Row → Type 0
@@ -103,7 +105,7 @@ module _ (format n : ℕ) where
   block-fine ch zero c time class start len h i w e = tt
   block-fine ch (suc k) c time class start len h i w e =
       let m = suc-mul k len in
-      (record { coded = h; channel = omega arith; word = w; inside = omega arith }, block-fine ch k (c + 1) time class (start + len) len h (omega arith) w (omega arith))
+      (record { coded = h; channel = omega arith; word = w; mark = omega arith; inside = omega arith }, block-fine ch k (c + 1) time class (start + len) len h (omega arith) w (omega arith))
 
   group-fine : (step ch time class start len : ℕ) (gs : List ℕ) → codeFor format class len < noCode → start + length gs * ch * len ≤ n
       → AllRows (RowFine format ch n) (groupRows step ch time class start len gs)
@@ -124,30 +126,38 @@ module _ (format n : ℕ) where
       (group-fine step ch time (g .class) start (g .length) (g .gaps) (h .0) (omega arith))
       (table-fine step ch (timeAfter step time (g .gaps)) (start + length (g .gaps) * ch * g .length) gs (h .1) (omega arith))
 
+-- with another mark
+marked-fine : (format ch n mark : ℕ) (rs : List Row) → mark < 2 → AllRows (RowFine format ch n) rs → AllRows (RowFine format ch n) (marked mark rs)
+unfolding marked
+marked-fine format ch n mark [] l h = tt
+marked-fine format ch n mark (r ∷ rs) l h =
+    (record { coded = h .0 .coded; channel = h .0 .channel; word = h .0 .word; mark = l; inside = h .0 .inside }, marked-fine format ch n mark rs l (h .1))
+
 -- The rows of a payload that ends within n bytes, after `done` rows of the same packet
 
 abbrev pub FineRows : ℕ → ℕ → ℕ → ℕ → Rows → Type 0
 FineRows format ch n done (noRows r) = Unit {0}
 FineRows format ch n done (rowsOf rs) = AllRows (RowFine format ch n) rs × (done + length rs ≤ maxRows)
 
-placed-fine : (format ch n done time at k size : ℕ) (p : Contents) → at + formatOf format .header + size ≤ n → CodedIn format p → Within done size (sizesAnswer format ch p)
-    → FineRows format ch n done (placedRows format ch time at (startingAt k (exact format ch size p)))
+placed-fine : (mark format ch n done time at k size : ℕ) (p : Contents) → mark < 2 → at + formatOf format .header + size ≤ n → CodedIn format p → Within done size (sizesAnswer format ch p)
+    → FineRows format ch n done (placedRows mark format ch time at (startingAt k (exact format ch size p)))
 unfolding placedRows sizesAnswer
-placed-fine format ch n done time at k size (refused r) e h w = tt
-placed-fine format ch n done time at k size (groups gs) e h w =
+placed-fine mark format ch n done time at k size (refused r) l e h w = tt
+placed-fine mark format ch n done time at k size (groups gs) l e h w =
     by-test (eqb (sizeIn format gs + framesIn ch gs) size)
     (λ a.
     let m = eqb-true (sizeIn format gs + framesIn ch gs) size a in
-    rw a (table-fine format n (stepOf format) ch time (at + formatOf format .header + sizeIn format gs) gs h (omega arith), rw length-table (w .few)))
+    let rs = tableRows (stepOf format) ch time (at + formatOf format .header + sizeIn format gs) gs in
+    rw a (marked-fine format ch n mark rs l (table-fine format n (stepOf format) ch time (at + formatOf format .header + sizeIn format gs) gs h (omega arith)), rw (length-marked, length-table) (w .few)))
     (λ a. rw a tt)
 
-pub payload-fine : (format ch n done time at : ℕ) (s : List ℕ) → at + length s ≤ n → FineRows format ch n done (payloadRows format ch done time at s)
+pub payload-fine : (mark format ch n done time at : ℕ) (s : List ℕ) → mark < 2 → at + length s ≤ n → FineRows format ch n done (payloadRows mark format ch done time at s)
 unfolding payloadRows payload
-payload-fine format ch n done time at s e =
+payload-fine mark format ch n done time at s l e =
     let b = body format s in
     let p = contents format ch done b in
     by-test (ltb (length s) (formatOf format .header))
-    (λ a. rw (pay-headless format ch done time at s (ltb-true (length s) (formatOf format .header) a)) tt)
-    (λ a. placed-fine format ch n done time at (tableStart format s) (length b) (passFirst p) (rw length-drop (omega (arith, ltb-false (length s) (formatOf format .header) a)))
+    (λ a. rw (pay-headless mark format ch done time at s (ltb-true (length s) (formatOf format .header) a)) tt)
+    (λ a. placed-fine mark format ch n done time at (tableStart format s) (length b) (passFirst p) l (rw length-drop (omega (arith, ltb-false (length s) (formatOf format .header) a)))
     (coded-passed format p (coded-by (suc (length b)) format ch done b (omega arith)))
     (subst (λ (x : ContentsRead). Within done (length b) x) (sym (sizes-passed format ch p)) (within format ch done b)))

@@ -10,7 +10,8 @@ use borrow.Rule.Slice.PartMut.{putMid}
 use Rattle.rtp.specs.Sizes.{rowWidth}
 use Rattle.rtp.specs.Areas.{over}
 use Rattle.rtp.proofs.AreaLaws.{over-none, over-part}
-use Rattle.payload.specs.Rows.{Row, rowWords, words, rowOf, rowsIn, blockRows}
+use Rattle.formats.proofs.TagLaws.{mark-of, class-of, channel-of}
+use Rattle.payload.specs.Rows.{Row, rowWords, words, rowOf, rowsIn, blockRows, marked}
 use Rattle.payload.specs.Room.{RowRoom, BlockRoom}
 
 pub length-words : (rs : List Row) → length (words rs) ≡ rowWidth * length rs
@@ -23,6 +24,17 @@ unfolding words
 words-append [] b = refl
 words-append (r ∷ a) b = rw (words-append a b)
 
+-- rows with a mark
+pub length-marked : (mark : ℕ) (rs : List Row) → length (marked mark rs) ≡ length rs
+unfolding marked
+length-marked mark [] = refl
+length-marked mark (r ∷ rs) = ap suc (length-marked mark rs)
+
+pub marked-append : (mark : ℕ) (a b : List Row) → marked mark (a ++ b) ≡ marked mark a ++ marked mark b
+unfolding marked
+marked-append mark [] b = refl
+marked-append mark (r ∷ a) b = rw (marked-append mark a b)
+
 pub length-block : (n c time class start len : ℕ) → length (blockRows n c time class start len) ≡ n
 unfolding blockRows
 length-block zero c time class start len = refl
@@ -34,48 +46,53 @@ one-more (suc n) k h = rw (sub-one, suc-mul)
 
 module _ (n c class start len area : ℕ) (r : BlockRoom n c class start len area) (h : n ≡ 0 → ⊥) where
   pub block-row : RowRoom c class start len area
-  block-row = record { area-fits = omega arith; classes = r .classes; channels = omega arith; frames-fit = omega (arith, one-more n len h) }
+  block-row = record { area-fits = omega arith; kinds = r .kinds; channels = omega arith; frames-fit = omega (arith, one-more n len h) }
 
   pub block-rest : BlockRoom (n - 1) (c + 1) class (start + len) len (area - rowWidth)
-  block-rest = record { area-fits = omega arith; classes = r .classes; channels = omega arith; frames-fit = omega (arith, one-more n len h) }
+  block-rest = record { area-fits = omega arith; kinds = r .kinds; channels = omega arith; frames-fit = omega (arith, one-more n len h) }
 
-block-more : (n c time class start len : ℕ) → (n ≡ 0 → ⊥)
-    → words (blockRows n c time class start len)
-    ≡ rowWords (record { time = time; class = class; channel = c; start = start; length = len }) ++ words (blockRows (n - 1) (c + 1) time class (start + len) len)
-unfolding words blockRows
-block-more zero c time class start len h = absurd (h refl)
-block-more (suc n) c time class start len h = rw sub-one
+block-more : (mark n c time class start len : ℕ) → (n ≡ 0 → ⊥)
+    → words (marked mark (blockRows n c time class start len))
+    ≡ rowWords (record { time = time; class = class; channel = c; start = start; length = len; primary = mark }) ++ words (marked mark (blockRows (n - 1) (c + 1) time class (start + len) len))
+unfolding words blockRows marked
+block-more mark zero c time class start len h = absurd (h refl)
+block-more mark (suc n) c time class start len h = rw sub-one
 
-module _ (n c time class start len : ℕ) (l : List ℕ) where
-  pub block-none : n ≡ 0 → l ≡ over (words (blockRows n c time class start len)) l
-  unfolding words blockRows
+module _ (mark n c time class start len : ℕ) (l : List ℕ) where
+  pub block-none : n ≡ 0 → l ≡ over (words (marked mark (blockRows n c time class start len))) l
+  unfolding words blockRows marked
   block-none h = rw h (sym (over-none l))
 
   -- a frame-block's words are its first row's, and the others' in the area lent on
-  pub block-put : (n ≡ 0 → ⊥) → (m e : List ℕ) → m ≡ over (rowWords (record { time = time; class = class; channel = c; start = start; length = len })) l
-      → e ≡ over (words (blockRows (n - 1) (c + 1) time class (start + len) len)) (take (length m - rowWidth) (drop rowWidth m))
-      → putMid rowWidth (length m - rowWidth) m e ≡ over (words (blockRows n c time class start len)) l
-  block-put h m e a b = over-part _ _ l m e rowWidth refl a b ∙ ap (λ (w : List ℕ). over w l) (sym (block-more n c time class start len h))
+  pub block-put : (n ≡ 0 → ⊥) → (m e : List ℕ) → m ≡ over (rowWords (record { time = time; class = class; channel = c; start = start; length = len; primary = mark })) l
+      → e ≡ over (words (marked mark (blockRows (n - 1) (c + 1) time class (start + len) len))) (take (length m - rowWidth) (drop rowWidth m))
+      → putMid rowWidth (length m - rowWidth) m e ≡ over (words (marked mark (blockRows n c time class start len))) l
+  block-put h m e a b = over-part _ _ l m e rowWidth refl a b ∙ ap (λ (w : List ℕ). over w l) (sym (block-more mark n c time class start len h))
 
--- the channel of a row of a list
-abbrev pub channelAt : List Row → ℕ → ℕ
-channelAt [] i = 0
-channelAt (r ∷ rs) zero = r .channel
-channelAt (r ∷ rs) (suc i) = channelAt rs i
+-- what a row's tag can hold
+pub record TagFits (r : Row) : Type 0 where
+  pub mark : r .primary < 2
+  pub class : r .class < 256
+  pub channel : r .channel < 256
+
+abbrev pub TagsFit : List Row → Type 0
+TagsFit [] = Unit {0}
+TagsFit (r ∷ rs) = TagFits r × TagsFit rs
 
 -- rows read off their words again
-pub rows-words : (rs : List Row) → ((i : ℕ) → i < length rs → channelAt rs i < 256) → rowsIn (words rs) ≡ rs
+pub rows-words : (rs : List Row) → TagsFit rs → rowsIn (words rs) ≡ rs
 unfolding words rowsIn
 rows-words [] h = refl
 rows-words (r ∷ rs) h =
-    let c : r .channel < 256 = h 0 (omega arith) in
-    let ih = rows-words rs (λ i l. h (suc i) (omega arith)) in
+    let k = h .0 in
+    let ih = rows-words rs (h .1) in
     λ j. record {
       time = r .time;
-      class = (let e : (256 * r .class + r .channel) / 256 ≡ r .class = omega arith in e) j;
-      channel = (let e : (256 * r .class + r .channel) % 256 ≡ r .channel = omega arith in e) j;
+      class = class-of (r .primary) (r .class) (r .channel) (k .mark) (k .class) (k .channel) j;
+      channel = channel-of (r .primary) (r .class) (r .channel) (k .channel) j;
       start = r .start;
       length = r .length;
+      primary = mark-of (r .primary) (r .class) (r .channel) (k .mark) (k .class) (k .channel) j;
     } ∷ ih j
 
 -- Rows in a word area

@@ -2,7 +2,7 @@
 use mathlib.Core.Path.{_≡_, ap, sym, _∙_, subst}
 use mathlib.Core.List.{List, [], _∷_, _++_, append-nil}
 use mathlib.Core.Bool.{true, false}
-use Prim.Native.Nat.{ℕ, _+_, _-_, _*_, _^_, _≤_, _<_}
+use Prim.Native.Nat.{ℕ, _+_, _-_, _*_, _/_, _%_, _^_, _≤_, _<_}
 use native.Mathlib.Omega.{arith}
 use native.Mathlib.Nat.{zero-add}
 use lib.ListN.{length, take, drop}
@@ -18,13 +18,13 @@ use Rattle.rtp.proofs.AreaLaws.{over-none, over-part, part-to-end}
 use Rattle.contents.specs.declared.entries.Entry.{Entry}
 use Rattle.contents.specs.declared.entries.EntryRead.{EntryRead}
 use Rattle.contents.specs.declared.entries.ContentsRead.{ContentsRead}
-use Rattle.formats.specs.Frames.{stepOf}
+use Rattle.formats.specs.Frames.{stepOf, maxClass}
 use Rattle.contents.specs.Contents.{entryOf, gapsFrom, Contents, refused, groups, meaning, prepend, contents, sizesAnswer}
-use Rattle.payload.specs.Rows.{words, timeAfter, groupRows, tableRows}
+use Rattle.payload.specs.Rows.{words, timeAfter, groupRows, tableRows, marked}
 use Rattle.payload.specs.Room.{GroupRoom, TableRoom, contentsWords}
 use Rattle.contents.proofs.EntryLaws.{fair}
 use Rattle.contents.proofs.ContentsLaws.{contents-refused, contents-last, contents-more, length-gaps, at-many, at-last, at-more, ahead}
-use Rattle.payload.proofs.RowLaws.{length-words, words-append}
+use Rattle.payload.proofs.RowLaws.{length-words, words-append, length-marked, marked-append}
 use Rattle.payload.proofs.GroupLaws.{length-group}
 
 room-ahead : (start area ch : ℕ) (e : Entry) (r : ContentsRead) → TableRoom ch start area (ahead ch e r)
@@ -61,12 +61,12 @@ module _ (format ch rows start area : ℕ) (s : List ℕ) (e : Entry) (h : entry
       ch-of (ContentsRead.Refused n) z = absurd z
       ch-of (ContentsRead.Contents t) z = z .2
 
-  pub room-group : Bytes s → GroupRoom format s 0 (e .blocks) ch (e .class) start (e .length) area
-  room-group bs =
+  pub room-group : (mark : ℕ) → mark < 256 → Bytes s → GroupRoom 0 (e .blocks) ch (256 * mark + e .class) start (e .length) area
+  room-group mark l bs =
       let f = fair format s e h in
       record {
         area-fits = room-here .0;
-        classes = f .classes;
+        kinds = omega (arith, f .classes);
         channels = room-channels;
         frames-fit = room-here .1;
         few = omega (arith, f .few bs);
@@ -75,45 +75,52 @@ module _ (format ch rows start area : ℕ) (s : List ℕ) (e : Entry) (h : entry
   pub room-rest : (e .more ≡ true) → TableRoom ch (start + e .blocks * ch * e .length) (area - rowWidth * (e .blocks * ch)) (sizesAnswer format ch (contents format ch (rows + e .blocks * ch) (drop (e .size) s)))
   room-rest m = room-both m .2
 
+-- mark and class in one number
+pub kind-mark : (mark class : ℕ) → class ≤ maxClass → (256 * mark + class) / 256 ≡ mark
+kind-mark mark class h = omega arith
+
+pub kind-class : (mark class : ℕ) → class ≤ maxClass → (256 * mark + class) % 256 ≡ class
+kind-class mark class h = omega arith
+
 -- the words of an entry that was read
-abbrev pub firstWords : ℕ → ℕ → ℕ → ℕ → List ℕ → Entry → List ℕ
-firstWords format ch time start s e = words (groupRows (stepOf format) ch time (e .class) start (e .length) (gapsFrom format s 0 (e .blocks)))
+abbrev pub firstWords : ℕ → ℕ → ℕ → ℕ → ℕ → List ℕ → Entry → List ℕ
+firstWords mark format ch time start s e = words (marked mark (groupRows (stepOf format) ch time (e .class) start (e .length) (gapsFrom format s 0 (e .blocks))))
 
-pub length-first : (format ch time start : ℕ) (s : List ℕ) (e : Entry) → length (firstWords format ch time start s e) ≡ rowWidth * (e .blocks * ch)
-length-first format ch time start s e =
-    length-words (groupRows (stepOf format) ch time (e .class) start (e .length) (gapsFrom format s 0 (e .blocks)))
-    ∙ rw (length-group, length-gaps)
+pub length-first : (mark format ch time start : ℕ) (s : List ℕ) (e : Entry) → length (firstWords mark format ch time start s e) ≡ rowWidth * (e .blocks * ch)
+length-first mark format ch time start s e =
+    length-words (marked mark (groupRows (stepOf format) ch time (e .class) start (e .length) (gapsFrom format s 0 (e .blocks))))
+    ∙ rw (length-marked, length-group, length-gaps)
 
-pub words-single : (format ch time start : ℕ) (s : List ℕ) (e : Entry) → contentsWords format ch time start (groups (meaning format s e ∷ [])) ≡ firstWords format ch time start s e
+pub words-single : (mark format ch time start : ℕ) (s : List ℕ) (e : Entry) → contentsWords mark format ch time start (groups (meaning format s e ∷ [])) ≡ firstWords mark format ch time start s e
 unfolding contentsWords tableRows meaning
-words-single format ch time start s e = rw (append-nil (groupRows (stepOf format) ch time (e .class) start (e .length) (gapsFrom format s 0 (e .blocks))))
+words-single mark format ch time start s e = rw (append-nil (groupRows (stepOf format) ch time (e .class) start (e .length) (gapsFrom format s 0 (e .blocks))))
 
-pub words-ahead : (format ch time start area : ℕ) (s : List ℕ) (e : Entry) (p : Contents) → TableRoom ch (start + e .blocks * ch * e .length) area (sizesAnswer format ch p)
-    → contentsWords format ch time start (prepend (e .size) (meaning format s e) p)
-    ≡ firstWords format ch time start s e ++ contentsWords format ch (timeAfter (stepOf format) time (gapsFrom format s 0 (e .blocks))) (start + e .blocks * ch * e .length) p
+pub words-ahead : (mark format ch time start area : ℕ) (s : List ℕ) (e : Entry) (p : Contents) → TableRoom ch (start + e .blocks * ch * e .length) area (sizesAnswer format ch p)
+    → contentsWords mark format ch time start (prepend (e .size) (meaning format s e) p)
+    ≡ firstWords mark format ch time start s e ++ contentsWords mark format ch (timeAfter (stepOf format) time (gapsFrom format s 0 (e .blocks))) (start + e .blocks * ch * e .length) p
 unfolding contentsWords tableRows meaning sizesAnswer
-words-ahead format ch time start area s e (refused n) r = absurd r
-words-ahead format ch time start area s e (groups es) r = rw (length-gaps, words-append)
+words-ahead mark format ch time start area s e (refused n) r = absurd r
+words-ahead mark format ch time start area s e (groups es) r = rw (length-gaps, marked-append, words-append)
 
 -- Written entry by entry
 
-module _ (format ch time start rows : ℕ) (s l : List ℕ) where
-  pub put-refused : (n : Refusal) → entryOf format s ≡ EntryRead.Refused n → l ≡ over (contentsWords format ch time start (contents format ch rows s)) l
+module _ (mark format ch time start rows : ℕ) (s l : List ℕ) where
+  pub put-refused : (n : Refusal) → entryOf format s ≡ EntryRead.Refused n → l ≡ over (contentsWords mark format ch time start (contents format ch rows s)) l
   unfolding contentsWords
   put-refused n h = rw (contents-refused format ch rows s n h) (sym (over-none l))
 
-  module _ (e : Entry) (h : entryOf format s ≡ EntryRead.Entry e) (few : rows + e .blocks * ch ≤ maxRows) (m : List ℕ) (w : m ≡ over (firstWords format ch time start s e) l) where
-    pub put-last : e .more ≡ false → m ≡ over (contentsWords format ch time start (contents format ch rows s)) l
-    put-last x = w ∙ sym (ap (λ (p : Contents). over (contentsWords format ch time start p) l) (contents-last format ch rows s e h few x) ∙ ap (λ (q : List ℕ). over q l) (words-single format ch time start s e))
+  module _ (e : Entry) (h : entryOf format s ≡ EntryRead.Entry e) (few : rows + e .blocks * ch ≤ maxRows) (m : List ℕ) (w : m ≡ over (firstWords mark format ch time start s e) l) where
+    pub put-last : e .more ≡ false → m ≡ over (contentsWords mark format ch time start (contents format ch rows s)) l
+    put-last x = w ∙ sym (ap (λ (p : Contents). over (contentsWords mark format ch time start p) l) (contents-last format ch rows s e h few x) ∙ ap (λ (q : List ℕ). over q l) (words-single mark format ch time start s e))
 
     pub put-more : e .more ≡ true → (area next : ℕ) (z : List ℕ)
         → TableRoom ch (start + e .blocks * ch * e .length) area (sizesAnswer format ch (contents format ch (rows + e .blocks * ch) (drop (e .size) s)))
         → next ≡ timeAfter (stepOf format) time (gapsFrom format s 0 (e .blocks))
-        → z ≡ over (contentsWords format ch next (start + e .blocks * ch * e .length) (contents format ch (rows + e .blocks * ch) (take (length s - e .size) (drop (e .size) s))))
+        → z ≡ over (contentsWords mark format ch next (start + e .blocks * ch * e .length) (contents format ch (rows + e .blocks * ch) (take (length s - e .size) (drop (e .size) s))))
         (take (length m - rowWidth * (e .blocks * ch)) (drop (rowWidth * (e .blocks * ch)) m))
-        → putMid (rowWidth * (e .blocks * ch)) (length m - rowWidth * (e .blocks * ch)) m z ≡ over (contentsWords format ch time start (contents format ch rows s)) l
+        → putMid (rowWidth * (e .blocks * ch)) (length m - rowWidth * (e .blocks * ch)) m z ≡ over (contentsWords mark format ch time start (contents format ch rows s)) l
     put-more x area next z r n v =
-        over-part _ _ l m z (rowWidth * (e .blocks * ch)) (length-first format ch time start s e) w v
-        ∙ sym (ap (λ (p : Contents). over (contentsWords format ch time start p) l) (contents-more format ch rows s e h few x)
-        ∙ ap (λ (q : List ℕ). over q l) (words-ahead format ch time start area s e _ r)
+        over-part _ _ l m z (rowWidth * (e .blocks * ch)) (length-first mark format ch time start s e) w v
+        ∙ sym (ap (λ (p : Contents). over (contentsWords mark format ch time start p) l) (contents-more format ch rows s e h few x)
+        ∙ ap (λ (q : List ℕ). over q l) (words-ahead mark format ch time start area s e _ r)
         ∙ rw (part-to-end (e .size) s, n))

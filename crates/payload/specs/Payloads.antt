@@ -16,7 +16,7 @@ use Rattle.payload.specs.declared.reading.PayloadRead.{PayloadRead}
 use Rattle.formats.specs.Formats.{formatOf}
 use Rattle.formats.specs.Frames.{stepOf}
 use Rattle.contents.specs.Contents.{Contents, refused, groups, contents, passFirst, sizeIn, framesIn}
-use Rattle.payload.specs.Rows.{Row, words, tableRows}
+use Rattle.payload.specs.Rows.{Row, words, tableRows, marked}
 
 -- a table and just the frames that it tells of, in n bytes; if they do not come out, the first byte after the table is at fault
 abbrev pub exact : ℕ → ℕ → ℕ → Contents → Contents
@@ -53,14 +53,14 @@ pub data Rows : Type 0 where
   noRows : Fault → Rows
   rowsOf : List Row → Rows
 
--- the rows of a payload with this table that stands at `at` in its packet: its frames start after its header and its table
-unfoldable pub placedRows : ℕ → ℕ → ℕ → ℕ → Contents → Rows
-placedRows format ch time at (refused f) = noRows (shifted at f)
-placedRows format ch time at (groups gs) = rowsOf (tableRows (stepOf format) ch time (at + formatOf format .header + sizeIn format gs) gs)
+-- the rows of a payload with this table that stands at `at` in its packet and is heard with this mark: its frames start after its header and its table
+unfoldable pub placedRows : ℕ → ℕ → ℕ → ℕ → ℕ → Contents → Rows
+placedRows mark format ch time at (refused f) = noRows (shifted at f)
+placedRows mark format ch time at (groups gs) = rowsOf (marked mark (tableRows (stepOf format) ch time (at + formatOf format .header + sizeIn format gs) gs))
 
--- the rows of the payload s that stands at `at`
-unfoldable pub payloadRows : ℕ → ℕ → ℕ → ℕ → ℕ → List ℕ → Rows
-payloadRows format ch rows time at s = placedRows format ch time at (payload format ch rows s)
+-- the rows of the payload s that stands at `at` and is heard with this mark
+unfoldable pub payloadRows : ℕ → ℕ → ℕ → ℕ → ℕ → ℕ → List ℕ → Rows
+payloadRows mark format ch rows time at s = placedRows mark format ch time at (payload format ch rows s)
 
 -- the words of rows that were read: none of a refusal
 unfoldable pub rowsWords : Rows → List ℕ
@@ -89,10 +89,10 @@ rowsAnswer (noRows f) = PayloadRead.Refused f
 rowsAnswer (rowsOf rs) = PayloadRead.Rows (length rs)
 
 -- the payload of a call: the settings are asked first, then the area of so many words for all the rows that a packet may have, then the payload's length
-unfoldable pub askedRows : Settings → ℕ → ℕ → ℕ → ℕ → List ℕ → Rows
-askedRows st rows area time at s =
+unfoldable pub askedRows : ℕ → Settings → ℕ → ℕ → ℕ → ℕ → List ℕ → Rows
+askedRows mark st rows area time at s =
     cond (inRange st)
     (cond (ltb (rowWidth * rows + area) rowArea) (noRows (fault AreaTooShort))
     (cond (ltb maxPacket (at + length s)) (noRows (fault PacketLength))
-    (payloadRows (st .format) (st .channels) rows time at s)))
+    (payloadRows mark (st .format) (st .channels) rows time at s)))
     (noRows (fault SettingsOutOfRange))

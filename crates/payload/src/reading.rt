@@ -14,6 +14,7 @@ ghost use mathlib.Core.Path.{_≡_};
 ghost use lib.ListN.{length};
 ghost use Rattle.rtp.specs.Sizes.{rowArea};
 ghost use Rattle.rtp.specs.Areas.{over};
+ghost use Rattle.formats.specs.Tags.{redundantMark};
 ghost use Rattle.payload.specs.Payloads.{requestOf, askedRows, payloadNumbers, rowsNumbers, rowsWords};
 
 // The mode request of a payload without one.
@@ -27,7 +28,7 @@ pub enum PayloadRead {
 
 // Whether a payload can be read after `done` rows of its packet, and how many rows it gives.
 pub fn check_payload(asked: Settings, done: u32, s: &[u8]) -> PayloadRead
-    ensures { λ r. ⌜ payloadNumbers r ≡ rowsNumbers (askedRows asked done rowArea 0 0 (now (s .entry))) ⌝ }
+    ensures { λ r. ⌜ payloadNumbers r ≡ rowsNumbers (askedRows redundantMark asked done rowArea 0 0 (now (s .entry))) ⌝ }
 {
     if settings::in_range(asked) {
         if MAX_PACKET < s.len() {
@@ -70,18 +71,19 @@ pub fn check_payload(asked: Settings, done: u32, s: &[u8]) -> PayloadRead
     }
 }
 
-// The payload s, which stands at `at` in its packet and after `done` of its rows: its rows at the front of the area, or a
+// The payload s, which stands at `at` in its packet and after `done` of its rows and is heard with this mark: its rows at the front of the area, or a
 // refusal and the area unchanged.
 pub fn read_payload(
     asked: Settings,
     done: u32,
     time: u32,
     at: u32,
+    mark: u8,
     s: &[u8],
     area: &mut [u32],
 ) -> PayloadRead
-    ensures { λ r. ⌜ (payloadNumbers r ≡ rowsNumbers (askedRows asked done (length (now (area .entry))) time at (now (s .entry))))
-        × (now (area .exit) ≡ over (rowsWords (askedRows asked done (length (now (area .entry))) time at (now (s .entry)))) (now (area .entry))) ⌝ }
+    ensures { λ r. ⌜ (payloadNumbers r ≡ rowsNumbers (askedRows mark asked done (length (now (area .entry))) time at (now (s .entry))))
+        × (now (area .exit) ≡ over (rowsWords (askedRows mark asked done (length (now (area .entry))) time at (now (s .entry)))) (now (area .entry))) ⌝ }
 {
     if settings::in_range(asked) {
         if ROW_WIDTH * (done as usize) + area.len() < ROW_AREA {
@@ -115,6 +117,7 @@ pub fn read_payload(
                 if header + sizes.size + sizes.frames == s.len() {
                     rows::put_contents(
                         area,
+                        mark,
                         &s[header..],
                         asked.format,
                         asked.channels as usize,

@@ -6,22 +6,22 @@ use formats::tagging;
 use rtp::sizes::ROW_WIDTH;
 use rtp::time;
 ghost use mathlib.Core.Path.{_≡_};
-ghost use Prim.Native.Nat.{_*_, _≤_, _<_};
+ghost use Prim.Native.Nat.{_*_, _/_, _%_, _≤_, _<_};
 ghost use lib.ListN.{length};
 ghost use Rattle.rtp.specs.Areas.{over};
 ghost use Rattle.formats.specs.Frames.{stepOf};
 ghost use Rattle.contents.specs.Contents.{entrySize, gapAt, gapsFrom, contents, sizesAnswer};
-ghost use Rattle.payload.specs.Rows.{rowWords, words, blockRows, groupRows, timeAfter};
+ghost use Rattle.payload.specs.Rows.{rowWords, words, blockRows, groupRows, timeAfter, marked};
 ghost use Rattle.payload.specs.Room.{RowRoom, BlockRoom, GroupRoom, TableRoom, contentsWords, originOf};
 
-// A row at the front of the area.
-fn put_row(rows: &mut [u32], time: u32, class: usize, channel: usize, start: usize, size: usize)
-    requires { ⌜ RowRoom channel class start size (length (now rows)) ⌝ }
+// A row at the front of the area. Its kind is 256 * mark + class: whether it was heard first-hand, and its class, in one number.
+fn put_row(rows: &mut [u32], time: u32, kind: usize, channel: usize, start: usize, size: usize)
+    requires { ⌜ RowRoom channel kind start size (length (now rows)) ⌝ }
     ensures { λ _. ⌜ now (rows .exit) ≡
-        over (rowWords (record { time = time; class = class; channel = channel; start = start; length = size })) (now (rows .entry)) ⌝ }
+        over (rowWords (record { time = time; class = kind % 256; channel = channel; start = start; length = size; primary = kind / 256 })) (now (rows .entry)) ⌝ }
 {
     rows[0] = time;
-    rows[1] = tagging::pack_tag(class as u8, channel as u8);
+    rows[1] = tagging::pack_tag((kind / 256) as u8, (kind % 256) as u8, channel as u8);
     rows[2] = start as u32;
     rows[3] = size as u32;
 }
@@ -32,23 +32,23 @@ fn put_block(
     count: usize,
     channel: usize,
     time: u32,
-    class: usize,
+    kind: usize,
     start: usize,
     size: usize,
 )
-    requires { ⌜ BlockRoom count channel class start size (length (now rows)) ⌝ }
-    ensures { λ _. ⌜ now (rows .exit) ≡ over (words (blockRows count channel time class start size)) (now (rows .entry)) ⌝ }
+    requires { ⌜ BlockRoom count channel kind start size (length (now rows)) ⌝ }
+    ensures { λ _. ⌜ now (rows .exit) ≡ over (words (marked (kind / 256) (blockRows count channel time (kind % 256) start size))) (now (rows .entry)) ⌝ }
 {
     if count == 0 {
         return;
     }
-    put_row(rows, time, class, channel, start, size);
+    put_row(rows, time, kind, channel, start, size);
     put_block(
         &mut rows[ROW_WIDTH..],
         count - 1,
         channel + 1,
         time,
-        class,
+        kind,
         start + size,
         size,
     );
@@ -63,14 +63,14 @@ fn put_group(
     k: usize,
     count: usize,
     time: u32,
-    class: usize,
+    kind: usize,
     start: usize,
     size: usize,
 ) -> u32
-    requires { ⌜ GroupRoom format (now s) k count channels class start size (length (now rows)) ⌝ }
+    requires { ⌜ GroupRoom k count channels kind start size (length (now rows)) ⌝ }
     ensures { λ r. ⌜ (r ≡ timeAfter (stepOf format) time (gapsFrom format (now (s .entry)) k count))
         × (now (rows .exit) ≡
-        over (words (groupRows (stepOf format) channels time class start size (gapsFrom format (now (s .entry)) k count))) (now (rows .entry))) ⌝ }
+        over (words (marked (kind / 256) (groupRows (stepOf format) channels time (kind % 256) start size (gapsFrom format (now (s .entry)) k count)))) (now (rows .entry))) ⌝ }
 {
     if count == 0 {
         return time;
@@ -78,7 +78,7 @@ fn put_group(
     let step = frames::step_of(format);
     let skipped = entries::gap(format, s, k) * step;
     let here = std::num::wrapping_add_u32(time, skipped);
-    put_block(rows, channels, 0, here, class, start, size);
+    put_block(rows, channels, 0, here, kind, start, size);
     let next = std::num::wrapping_add_u32(here, step);
     let width = ROW_WIDTH * channels;
     put_group(
@@ -89,7 +89,7 @@ fn put_group(
         k + 1,
         count - 1,
         next,
-        class,
+        kind,
         start + channels * size,
         size,
     )
@@ -107,6 +107,7 @@ pub(crate) fn origin(format: u8, time: u32, s: &[u8]) -> u32
 // frames start at `start`.
 pub(crate) fn put_contents(
     rows: &mut [u32],
+    mark: u8,
     s: &[u8],
     format: u8,
     channels: usize,
@@ -115,11 +116,12 @@ pub(crate) fn put_contents(
     start: usize,
 )
     requires { ⌜ TableRoom channels start (length (now rows)) (sizesAnswer format channels (contents format channels done (now s))) ⌝ }
-    ensures { λ _. ⌜ now (rows .exit) ≡ over (contentsWords format channels time start (contents format channels done (now (s .entry)))) (now (rows .entry)) ⌝ }
+    ensures { λ _. ⌜ now (rows .exit) ≡ over (contentsWords mark format channels time start (contents format channels done (now (s .entry)))) (now (rows .entry)) ⌝ }
 {
     match entries::read_entry(format, &s[0..]) {
         EntryRead::Refused(_) => {}
         EntryRead::Entry(entry) => {
+            let kind = 256 * (mark as usize) + entry.class;
             let next = put_group(
                 rows,
                 &s[0..],
@@ -128,7 +130,7 @@ pub(crate) fn put_contents(
                 0,
                 entry.blocks,
                 time,
-                entry.class,
+                kind,
                 start,
                 entry.length,
             );
@@ -138,6 +140,7 @@ pub(crate) fn put_contents(
                 let size = entry.size;
                 put_contents(
                     &mut rows[width..],
+                    mark,
                     &s[size..],
                     format,
                     channels,

@@ -83,7 +83,7 @@ planFrom format ch c p (r ∷ rs) =
 
 -- a row one step before the first of a list, which the list's first frame-block follows directly
 abbrev pub stepBefore : ℕ → Row → Row
-stepBefore format r = record { time = difference (r .time) (stepOf format); class = r .class; channel = r .channel; start = r .start; length = r .length }
+stepBefore format r = record { time = difference (r .time) (stepOf format); class = r .class; channel = r .channel; start = r .start; length = r .length; primary = r .primary }
 
 -- the bytes of a payload with this table: those before it, its own and those of its frames
 abbrev pub payloadSize : ℕ → ℕ → List Group → ℕ

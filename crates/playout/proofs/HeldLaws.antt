@@ -10,17 +10,19 @@ use lib.ListN.{length, drop, length-drop}
 use lib.Seq.{length-take-le}
 use lib.Dec.{ltb}
 use borrow.Author.Tests.{ltb-true}
-use Rattle.playout.specs.declared.verdict.Verdict.{Verdict}
+use Rattle.formats.specs.Tags.{eitherMark}
+use Rattle.formats.proofs.TagLaws.{either-small}
 use Rattle.playout.specs.Sizes.{slots, slotSize, storeSize}
 use Rattle.playout.specs.Pairs.{half, ahead, order, isAfter}
-use Rattle.playout.specs.Copies.{Copy, FrameClass}
-use Rattle.playout.specs.Entries.{Entry, Held, frameOf, view, entryOf, sideOfEntry, freeSlot, always, placed}
-use Rattle.playout.specs.Verdicts.{isLate, isFar, allWithin, fits, lays, judge, judgeAll}
-use Rattle.playout.proofs.InsertionLaws.{byKey, Asc, Chain, Agree, asc-chain, chain-asc, put-from, find-mem, put-cong, put-asc}
+use Rattle.playout.specs.Copies.{Copy, Received, FrameClass}
+use Rattle.playout.specs.Entries.{Entry, Held, frameOf, view, entryOf, remarked, sideOfEntry, findBy, freeSlot, always, placed, stored}
+use Rattle.playout.specs.Verdicts.{isLate, isFar, allWithin, fits, holding, judge, judgeAll}
+use Rattle.playout.specs.Lists.{copiesOf}
+use Rattle.playout.proofs.InsertionLaws.{compare-is, byKey, Asc, Chain, Agree, asc-chain, chain-asc, put-from, find-mem, put-cong, put-asc}
 use Rattle.playout.proofs.DistinctLaws.{differ-one}
 use Rattle.playout.proofs.WrapLaws.{ahead-self, Near, place, after-near, place-near, order-place, order-after}
 use Rattle.playout.proofs.SlotLaws.{slotOf, OwnSlots, Clash, put-slots, slot-unused, free-slot, stored-length}
-use Rattle.playout.proofs.JudgeLaws.{findPair, judge-cases}
+use Rattle.playout.proofs.JudgeLaws.{findPair, found-again, judge-cases}
 
 -- a copy that a row of a class other than no data gives
 pub record IsFrame (x : Copy) : Type 0 where
@@ -32,12 +34,17 @@ pub record IsFrame (x : Copy) : Type 0 where
 abbrev pub Frames : List Copy → Type 0
 Frames cs = (x : Copy) → List·Memᴰ x cs → IsFrame x
 
+-- marks of 0 or 1
+abbrev pub Marks : List Received → Type 0
+Marks xs = (x : Received) → List·Memᴰ x xs → x .primary < 2
+
 pub record IsEntry (e : Entry) : Type 0 where
   pub word : e .time < 2 ^ 32
   pub octet : e .channel < 256
   pub class : FrameClass (e .class)
   pub size : e .length ≤ slotSize
   pub slot : e .slot < slots
+  pub mark : e .primary < 2
 
 -- each after the one before
 abbrev pub Rising : List Entry → Type 0
@@ -106,6 +113,22 @@ module _ (b : ℕ) (lb : b < 2 ^ 32) (es : List Entry) (near : (e : Entry) → L
   pub sorted-rising : Asc (entryPlace b) es → Rising es
   sorted-rising a = asc-chain sideOfEntry (entryPlace b) es agree a
 
+-- each is found by its pair
+pub find-member : (b : ℕ) (es : List Entry) → Sorted b es → (e : Entry) → List·Memᴰ e es → findBy (sideOfEntry e) es ≡ some e
+unfolding findBy
+find-member b es S e m = go es (S .near) (S .asc) m
+  where
+    u : Near b (e .time) (e .channel)
+    u = S .near e m
+
+    go : (es : List Entry) → ((x : Entry) → List·Memᴰ x es → Near b (x .time) (x .channel)) → Asc (entryPlace b) es → List·Memᴰ e es → findBy (sideOfEntry e) es ≡ some e
+    go (x ∷ es) near asc (here q) =
+        let o : sideOfEntry e x ≡ Ordering·eq = order-place b (S .base) u (near x (here refl)) ∙ sym (compare-is Ordering·eq (entryPlace b e) (entryPlace b x) (ap (entryPlace b) q)) in
+        rw o (ap some (sym q))
+    go (x ∷ es) near asc (there m) =
+        let o : sideOfEntry e x ≡ Ordering·gt = order-after b (S .base) u (near x (here refl)) (asc .0 e m) in
+        rw o (go es (λ y n. near y (there n)) (asc .1) m)
+
 -- all lie after the first
 pub first-before : (b : ℕ) (e : Entry) (es : List Entry) → Sorted b (e ∷ es) → (f : Entry) → List·Memᴰ f es → sideOfEntry f e ≡ Ordering·gt
 first-before b e es S f m = order-after b (S .base) (S .near f (there m)) (S .near e (here refl)) (S .asc .0 f m)
@@ -172,93 +195,118 @@ module _ (h : Held) (s : List ℕ) (c : Copy) (S : HeldFacts h s) (F : IsFrame c
           let k = fits-base (c .time) (h .entries) (F .word) (λ e m. S .each e m .word) (S .stretch) (not-far f d) in
           (k .0, rising-sorted (k .0) (k .1) (h .entries) (λ e m. record { word = S .each e m .word; octet = S .each e m .octet; near = k .3 e m }) (S .rising), record { word = F .word; octet = F .octet; near = k .2 })
 
-  -- ---- a copy laid into a slot
-  module _ (b : ℕ) (T : Sorted b (h .entries)) (N : Near b (c .time) (c .channel)) (k : ℕ) where
-    near-placed : (e : Entry) → List·Memᴰ e (placed c k (h .entries)) → Near b (e .time) (e .channel)
+  -- ---- an entry in its place, over a store with room
+  module _ (b : ℕ) (T : Sorted b (h .entries)) (n : Entry) (N : Near b (n .time) (n .channel)) where
+    near-placed : (e : Entry) → List·Memᴰ e (placed n (h .entries)) → Near b (e .time) (e .channel)
     unfolding placed
-    near-placed e m = go (put-from sideOfEntry always (entryOf c k) (h .entries) e m)
+    near-placed e m = go (put-from sideOfEntry always n (h .entries) e m)
       where
-        go : (e ≡ entryOf c k) ⊎ List·Memᴰ e (h .entries) → Near b (e .time) (e .channel)
-        go (inl q) = subst (λ (x : Entry). Near b (x .time) (x .channel)) (sym q) (unfold entryOf in N)
-        go (inr n) = T .near e n
+        go : (e ≡ n) ⊎ List·Memᴰ e (h .entries) → Near b (e .time) (e .channel)
+        go (inl q) = subst (λ (x : Entry). Near b (x .time) (x .channel)) (sym q) N
+        go (inr m) = T .near e m
 
-    pub placed-sorted : Sorted b (placed c k (h .entries))
+    pub placed-sorted : Sorted b (placed n (h .entries))
     placed-sorted = record { base = T .base; near = near-placed; asc = asc-placed }
       where
-        agree-new : (y : Entry) → List·Memᴰ y (h .entries) → sideOfEntry (entryOf c k) y ≡ byKey (entryPlace b) (entryOf c k) y
-        agree-new y m = unfold entryOf in order-place b (T .base) N (T .near y m)
+        agree-new : (y : Entry) → List·Memᴰ y (h .entries) → sideOfEntry n y ≡ byKey (entryPlace b) n y
+        agree-new y m = order-place b (T .base) N (T .near y m)
 
-        asc-placed : Asc (entryPlace b) (placed c k (h .entries))
+        asc-placed : Asc (entryPlace b) (placed n (h .entries))
         asc-placed =
             unfold placed in
-            (rw (put-cong sideOfEntry (byKey (entryPlace b)) always (entryOf c k) (h .entries) agree-new)
-            (put-asc (entryPlace b) always (entryOf c k) (h .entries) (T .asc)))
+            (rw (put-cong sideOfEntry (byKey (entryPlace b)) always n (h .entries) agree-new)
+            (put-asc (entryPlace b) always n (h .entries) (T .asc)))
 
-    pub laid-facts : (v : Verdict) → isLate h c ≡ false → k < slots → Clash (entryOf c k) (h .entries) → HeldFacts (lays c k h s v .held) (lays c k h s v .store)
-    laid-facts v l lk q = record {
-      rising = sorted-rising b (T .base) (placed c k (h .entries)) near-placed (placed-sorted .asc);
-      stretch = sorted-stretch b (placed c k (h .entries)) placed-sorted;
-      each = λ e m. inside e (unfold placed in put-from sideOfEntry always (entryOf c k) (h .entries) e m);
-      own-slots = unfold placed in put-slots (entryOf c k) (h .entries) (S .own-slots) q;
-      after-last = λ d e m. later d e (unfold placed in put-from sideOfEntry always (entryOf c k) (h .entries) e m);
+    pub placed-facts : (t : List ℕ) → storeSize ≤ length t → IsEntry n → (h .drawn ≡ true → AfterLast h n) → Clash n (h .entries) → HeldFacts (holding n h) t
+    placed-facts t room new after q = record {
+      rising = sorted-rising b (T .base) (placed n (h .entries)) near-placed (placed-sorted .asc);
+      stretch = sorted-stretch b (placed n (h .entries)) placed-sorted;
+      each = λ e m. inside e (unfold placed in put-from sideOfEntry always n (h .entries) e m);
+      own-slots = unfold placed in put-slots n (h .entries) (S .own-slots) q;
+      after-last = λ d e m. later d e (unfold placed in put-from sideOfEntry always n (h .entries) e m);
       last-word = S .last-word;
       last-octet = S .last-octet;
-      room = rw (stored-length c (h .entries) s (S .room) (F .size) k lk) (S .room);
+      room = room;
     }
       where
-        new : IsEntry (entryOf c k)
-        new = unfold entryOf in record { word = F .word; octet = F .octet; class = F .class; size = F .size; slot = lk }
-
-        inside : (e : Entry) → (e ≡ entryOf c k) ⊎ List·Memᴰ e (h .entries) → IsEntry e
+        inside : (e : Entry) → (e ≡ n) ⊎ List·Memᴰ e (h .entries) → IsEntry e
         inside e (inl p) = subst IsEntry (sym p) new
         inside e (inr m) = S .each e m
 
-        later : h .drawn ≡ true → (e : Entry) → (e ≡ entryOf c k) ⊎ List·Memᴰ e (h .entries) → AfterLast h e
-        later d e (inl p) = subst (λ (x : Entry). AfterLast h x) (sym p) (unfold entryOf in not-late l d)
+        later : h .drawn ≡ true → (e : Entry) → (e ≡ n) ⊎ List·Memᴰ e (h .entries) → AfterLast h e
+        later d e (inl p) = subst (λ (x : Entry). AfterLast h x) (sym p) (after d)
         later d e (inr m) = S .after-last d e m
 
   -- ---- one copy judged
   -- the slot of the entry that is replaced, and a free one
-  pub found-clash : (e : Entry) → findPair c (h .entries) ≡ some e → (e .slot < slots) × Clash (entryOf c (e .slot)) (h .entries)
+  pub found-clash : (mark : ℕ) (e : Entry) → findPair c (h .entries) ≡ some e → (e .slot < slots) × Clash (entryOf c mark (e .slot)) (h .entries)
   unfolding entryOf
-  found-clash e w =
-      let m = find-mem (sideOfEntry (entryOf c 0)) (h .entries) e w in
+  found-clash mark e w =
+      let m = find-mem (sideOfEntry (entryOf c 0 0)) (h .entries) e w in
       (S .each e m .slot, λ y n v. w ∙ ap some (differ-one slotOf (h .entries) (S .own-slots) e y m n v))
 
-  pub free-clash : length (h .entries) < slots → (freeSlot (h .entries) < slots) × Clash (entryOf c (freeSlot (h .entries))) (h .entries)
+  pub free-clash : (mark : ℕ) → length (h .entries) < slots → (freeSlot (h .entries) < slots) × Clash (entryOf c mark (freeSlot (h .entries))) (h .entries)
   unfolding entryOf
-  free-clash l =
+  free-clash mark l =
       let f = free-slot (h .entries) l in
       (f .0, λ y n v. absurd (slot-unused (freeSlot (h .entries)) (h .entries) (f .1) y n v))
 
-  pub judge-facts : HeldFacts (judge h s c .held) (judge h s c .store)
-  judge-facts =
-      judge-cases h s c (λ j. HeldFacts (j .held) (j .store))
-      (λ u. S) (λ u v. S) (λ u v e w q. S)
-      (λ u v e w q. let t = sorted-with u v in let f = found-clash e w in laid-facts (t .0) (t .1) (t .2) (e .slot) Verdict.Better u (f .0) (f .1))
-      (λ u v w q. S)
-      (λ u v w q. let t = sorted-with u v in let f = free-clash q in laid-facts (t .0) (t .1) (t .2) (freeSlot (h .entries)) Verdict.Inserted u (f .0) (f .1))
+  -- a copy laid into a slot
+  laid-facts : (mark k : ℕ) → mark < 2 → isLate h c ≡ false → isFar h c ≡ false → (k < slots) × Clash (entryOf c mark k) (h .entries) → HeldFacts (holding (entryOf c mark k) h) (stored s k (c .bytes))
+  laid-facts mark k lm u v f =
+      let t = sorted-with u v in
+      placed-facts (t .0) (t .1) (entryOf c mark k) (unfold entryOf in t .2) (stored s k (c .bytes)) (rw (stored-length c (h .entries) s (S .room) (F .size) k (f .0)) (S .room))
+      (unfold entryOf in record { word = F .word; octet = F .octet; class = F .class; size = F .size; slot = f .0; mark = lm })
+      (λ d. unfold entryOf in not-late u d) (f .1)
 
-  pub judge-length : length (judge h s c .store) ≡ length s
-  judge-length =
-      judge-cases h s c (λ j. length (j .store) ≡ length s)
+  -- an entry held, with another mark
+  remarked-facts : (mark : ℕ) (e : Entry) → mark < 2 → isLate h c ≡ false → isFar h c ≡ false → findPair c (h .entries) ≡ some e → HeldFacts (holding (remarked mark e) h) s
+  unfolding remarked
+  remarked-facts mark e lm u v w =
+      let t = sorted-with u v in
+      let m = find-mem (sideOfEntry (entryOf c 0 0)) (h .entries) e w in
+      let E = S .each e m in
+      placed-facts (t .0) (t .1) (remarked mark e) (t .1 .near e m) s (S .room)
+      (record { word = E .word; octet = E .octet; class = E .class; size = E .size; slot = E .slot; mark = lm })
+      (λ d. S .after-last d e m)
+      (λ y n q. found-again c mark (h .entries) e w ∙ ap some (differ-one slotOf (h .entries) (S .own-slots) e y m n q))
+
+  pub judge-facts : (mark : ℕ) → mark < 2 → HeldFacts (judge h s c mark .held) (judge h s c mark .store)
+  judge-facts mark lm =
+      judge-cases h s c mark (λ j. HeldFacts (j .held) (j .store))
+      (λ u. S) (λ u v. S)
+      (λ u v e w q. remarked-facts (eitherMark (e .primary) mark) e (either-small (e .primary) mark (old e w) lm) u v w)
+      (λ u v e w q. let m = eitherMark mark (e .primary) in laid-facts m (e .slot) (either-small mark (e .primary) lm (old e w)) u v (found-clash m e w))
+      (λ u v w q. S)
+      (λ u v w q. laid-facts mark (freeSlot (h .entries)) lm u v (free-clash mark q))
+    where
+      old : (e : Entry) → findPair c (h .entries) ≡ some e → e .primary < 2
+      old e w = S .each e (find-mem (sideOfEntry (entryOf c 0 0)) (h .entries) e w) .mark
+
+  pub judge-length : (mark : ℕ) → length (judge h s c mark .store) ≡ length s
+  judge-length mark =
+      judge-cases h s c mark (λ j. length (j .store) ≡ length s)
       (λ u. refl) (λ u v. refl) (λ u v e w q. refl)
-      (λ u v e w q. stored-length c (h .entries) s (S .room) (F .size) (e .slot) (found-clash e w .0))
+      (λ u v e w q. stored-length c (h .entries) s (S .room) (F .size) (e .slot) (found-clash mark e w .0))
       (λ u v w q. refl)
-      (λ u v w q. stored-length c (h .entries) s (S .room) (F .size) (freeSlot (h .entries)) (free-clash q .0))
+      (λ u v w q. stored-length c (h .entries) s (S .room) (F .size) (freeSlot (h .entries)) (free-clash mark q .0))
 
 -- ---- copies judged in turn
-pub judgeAll-facts : (h : Held) (s : List ℕ) (cs : List Copy) → HeldFacts h s → Frames cs → HeldFacts (judgeAll h s cs .held) (judgeAll h s cs .store)
+pub judgeAll-facts : (h : Held) (s : List ℕ) (xs : List Received) → HeldFacts h s → Frames (copiesOf xs) → Marks xs → HeldFacts (judgeAll h s xs .held) (judgeAll h s xs .store)
 unfolding judgeAll
-judgeAll-facts h s [] S F = S
-judgeAll-facts h s (c ∷ cs) S F = judgeAll-facts (judge h s c .held) (judge h s c .store) cs (judge-facts h s c S (F c (here refl))) (λ x m. F x (there m))
+judgeAll-facts h s [] S F M = S
+judgeAll-facts h s (x ∷ xs) S F M =
+    let j = judge h s (x .copy) (x .primary) in
+    judgeAll-facts (j .held) (j .store) xs (judge-facts h s (x .copy) S (F (x .copy) (here refl)) (x .primary) (M x (here refl))) (λ y m. F y (there m)) (λ y m. M y (there m))
 
-pub judgeAll-length : (h : Held) (s : List ℕ) (cs : List Copy) → HeldFacts h s → Frames cs → length (judgeAll h s cs .store) ≡ length s
+pub judgeAll-length : (h : Held) (s : List ℕ) (xs : List Received) → HeldFacts h s → Frames (copiesOf xs) → Marks xs → length (judgeAll h s xs .store) ≡ length s
 unfolding judgeAll
-judgeAll-length h s [] S F = refl
-judgeAll-length h s (c ∷ cs) S F =
-    judgeAll-length (judge h s c .held) (judge h s c .store) cs (judge-facts h s c S (F c (here refl))) (λ x m. F x (there m))
-    ∙ judge-length h s c S (F c (here refl))
+judgeAll-length h s [] S F M = refl
+judgeAll-length h s (x ∷ xs) S F M =
+    let j = judge h s (x .copy) (x .primary) in
+    let f = F (x .copy) (here refl) in
+    judgeAll-length (j .held) (j .store) xs (judge-facts h s (x .copy) S f (x .primary) (M x (here refl))) (λ y m. F y (there m)) (λ y m. M y (there m))
+    ∙ judge-length h s (x .copy) S f (x .primary)
 
 -- ---- the first entry drawn
 abbrev pub drawnFirst : Entry → List Entry → Held

@@ -177,6 +177,35 @@ module _ {A : Type 0} (by : A → A → Ordering) (beats : A → A → Bool) whe
       go Ordering·eq ih e = let q : h ≡ g = cc in rw (q, b)
       go Ordering·gt ih e = ap (λ (l : List A). h ∷ l) (ih e b)
 
+  -- an item that beats all is held
+  pub put-new : (c : A) (l : List A) → ((h : A) → beats c h ≡ true) → List·Memᴰ c (put by beats c l)
+  unfolding put
+  put-new c [] all = here refl
+  put-new c (h ∷ t) all = go (by c h) (put-new c t all)
+    where
+      go : (o : Ordering) → List·Memᴰ c (put by beats c t) → List·Memᴰ c (putAt by beats o c h t (put by beats c t))
+      go Ordering·lt m = here refl
+      go Ordering·eq m = rw (all h) (here refl)
+      go Ordering·gt m = there m
+
+  -- an item held stays, or compares as the same
+  pub put-keeps : (c : A) (l : List A) (x : A) → List·Memᴰ x l → (by c x ≡ Ordering·eq) ⊎ List·Memᴰ x (put by beats c l)
+  unfolding put
+  put-keeps c [] x m = absurd (nowhere m)
+  put-keeps c (h ∷ t) x m = go (by c h) refl (put-keeps c t x) (cases m)
+    where
+      later : (by c x ≡ Ordering·eq) ⊎ List·Memᴰ x (put by beats c t) → (by c x ≡ Ordering·eq) ⊎ List·Memᴰ x (h ∷ put by beats c t)
+      later (inl e) = inl e
+      later (inr m) = inr (there m)
+
+      go : (o : Ordering) → by c h ≡ o → (List·Memᴰ x t → (by c x ≡ Ordering·eq) ⊎ List·Memᴰ x (put by beats c t)) → (x ≡ h) ⊎ List·Memᴰ x t → (by c x ≡ Ordering·eq) ⊎ List·Memᴰ x (putAt by beats o c h t (put by beats c t))
+      go Ordering·lt q ih (inl e) = inr (there (here e))
+      go Ordering·lt q ih (inr k) = inr (there (there k))
+      go Ordering·eq q ih (inl e) = inl (ap (by c) e ∙ q)
+      go Ordering·eq q ih (inr k) = inr (there k)
+      go Ordering·gt q ih (inl e) = inr (here e)
+      go Ordering·gt q ih (inr k) = later (ih k)
+
 pub find-mem : {A : Type 0} (to : A → Ordering) (l : List A) (h : A) → findBy to l ≡ some h → List·Memᴰ h l
 unfolding findBy
 find-mem to [] h e = absurd (none≢some h e)
@@ -186,6 +215,17 @@ find-mem {A} to (x ∷ t) h e = go (to x) (find-mem to t h) e
     go Ordering·lt ih e = absurd (none≢some h e)
     go Ordering·eq ih e = here (sym (Option·some-injective x h e))
     go Ordering·gt ih e = there (ih e)
+
+-- what is found compares as the same
+pub find-same : {A : Type 0} (to : A → Ordering) (l : List A) (h : A) → findBy to l ≡ some h → to h ≡ Ordering·eq
+unfolding findBy
+find-same to [] h e = absurd (none≢some h e)
+find-same {A} to (x ∷ t) h e = go (to x) refl (find-same to t h) e
+  where
+    go : (o : Ordering) → to x ≡ o → (findBy to t ≡ some h → to h ≡ Ordering·eq) → findAt o x (findBy to t) ≡ some h → to h ≡ Ordering·eq
+    go Ordering·lt q ih e = absurd (none≢some h e)
+    go Ordering·eq q ih e = ap to (sym (Option·some-injective x h e)) ∙ q
+    go Ordering·gt q ih e = ih e
 
 -- what is held, through a map
 pub find-map : {A B : Type 0} (to : B → Ordering) (g : A → B) (l : List A) → findBy to (map g l) ≡ Option·map g (findBy (λ y. to (g y)) l)

@@ -7,5 +7,6 @@ pub mod SlotLaws
 pub mod JudgeLaws
 pub mod HeldLaws
 pub mod PlayoutLaws
+pub mod MarkLaws
 pub mod PremiseLaws
 pub mod SideLaws

@@ -9,20 +9,21 @@ use native.Mathlib.Omega.{arith}
 use lib.ListN.{length, length-map}
 use lib.Dec.{ltb}
 use borrow.Author.Tests.{lt-ltb}
+use Rattle.formats.specs.Tags.{eitherMark}
 use Rattle.playout.specs.declared.verdict.Verdict.{Verdict}
 use Rattle.playout.specs.declared.verdict.Verdict.the-variants.{Late, Far, Repeated, Better, NoRoom, Inserted}
 use Rattle.playout.specs.Sizes.{slots, storeSize}
 use Rattle.playout.specs.Pairs.{half, ahead}
-use Rattle.playout.specs.Copies.{Copy, side, rank, betterFrame, better}
+use Rattle.playout.specs.Copies.{Copy, Received, side, rank, betterFrame, better}
 use Rattle.playout.specs.Entries.{Entry, Held, view, views, entryOf, put, findBy, freeSlot}
-use Rattle.playout.specs.Verdicts.{allWithin, fits, judge, Counts, noCounts, counted, tally, Gathered, judgeAll}
-use Rattle.playout.specs.Lists.{Ascending, SamePair, Playout, WithinStretch, Distinct, AtMost}
+use Rattle.playout.specs.Verdicts.{allWithin, fits, judge, Counts, noCounts, counted, Judgement, tally, Gathered, judgeAll}
+use Rattle.playout.specs.Lists.{Ascending, SamePair, Playout, WithinStretch, Distinct, AtMost, copiesOf}
 use Rattle.playout.proofs.InsertionLaws.{Cmp, cmp, Ranks, byKey, Asc, Chain, Agree, asc-chain, chain-asc, asc-one, put-longer, put-same, find-map, put-cong, Bests, bests-none, bests-like, bests-put, bests-one}
 use Rattle.playout.proofs.RankLaws.{greater-self, greater-chain, greater-turn, better-equal}
 use Rattle.playout.proofs.WrapLaws.{Near, place, same-place, place-near, order-place}
-use Rattle.playout.proofs.SlotLaws.{laid-views}
-use Rattle.playout.proofs.JudgeLaws.{findPair, judge-cases, judge-last}
-use Rattle.playout.proofs.HeldLaws.{IsFrame, Frames, HeldFacts, fresh, fresh-facts, entryPlace, Sorted, rising-sorted, found-clash, free-clash, judge-facts}
+use Rattle.playout.proofs.SlotLaws.{laid-views, remarked-views}
+use Rattle.playout.proofs.JudgeLaws.{findPair, found-again, judge-cases, judge-last}
+use Rattle.playout.proofs.HeldLaws.{IsFrame, Frames, Marks, HeldFacts, fresh, fresh-facts, entryPlace, Sorted, rising-sorted, found-clash, free-clash, judge-facts}
 
 -- ---- a verdict after which the best of the copy's pair is held
 abbrev pub Settled : Verdict → Type 0
@@ -39,14 +40,14 @@ module _ (h : Held) (s : List ℕ) (c : Copy) where
   find-views = find-map (side c) (view s) (h .entries)
 
   -- the copies held, with this one in its place
-  pub judge-views : HeldFacts h s → IsFrame c → Settled (judge h s c .verdict) → views (judge h s c .store) (judge h s c .held .entries) ≡ put side better c (views s (h .entries))
-  judge-views S F =
-      judge-cases h s c (λ j. Settled (j .verdict) → views (j .store) (j .held .entries) ≡ put side better c (views s (h .entries)))
+  pub judge-views : (mark : ℕ) → HeldFacts h s → IsFrame c → Settled (judge h s c mark .verdict) → views (judge h s c mark .store) (judge h s c mark .held .entries) ≡ put side better c (views s (h .entries))
+  judge-views mark S F =
+      judge-cases h s c mark (λ j. Settled (j .verdict) → views (j .store) (j .held .entries) ≡ put side better c (views s (h .entries)))
       (λ u z. absurd z) (λ u v z. absurd z)
-      (λ u v e w q z. sym (put-same side better c (views s (h .entries)) (view s e) (find-views ∙ ap (Option·map (view s)) w) q))
-      (λ u v e w q z. let f = found-clash h s c S F e w in laid-views c (h .entries) s (S .room) (F .size) (e .slot) (f .0) (S .own-slots) (λ y m. S .each y m .size) (f .1) (λ y p. rw (← (Option·some-injective e y (sym w ∙ unfold entryOf in p))) q))
+      (λ u v e w q z. let m = eitherMark (e .primary) mark in remarked-views s m e (h .entries) (found-again c m (h .entries) e w) ∙ sym (put-same side better c (views s (h .entries)) (view s e) (find-views ∙ ap (Option·map (view s)) w) q))
+      (λ u v e w q z. let m = eitherMark mark (e .primary) in let f = found-clash h s c S F m e w in laid-views c (h .entries) s (S .room) (F .size) (e .slot) (f .0) m (S .own-slots) (λ y m. S .each y m .size) (f .1) (λ y p. rw (← (Option·some-injective e y (sym w ∙ unfold entryOf in p))) q))
       (λ u v w q z. absurd z)
-      (λ u v w q z. let f = free-clash h s c S F q in laid-views c (h .entries) s (S .room) (F .size) (freeSlot (h .entries)) (f .0) (S .own-slots) (λ y m. S .each y m .size) (f .1) (λ y p. absurd (none≢some y (sym w ∙ unfold entryOf in p))))
+      (λ u v w q z. let f = free-clash h s c S F mark q in laid-views c (h .entries) s (S .room) (F .size) (freeSlot (h .entries)) (f .0) mark (S .own-slots) (λ y m. S .each y m .size) (f .1) (λ y p. absurd (none≢some y (sym w ∙ unfold entryOf in p))))
 
 -- ---- copies within the stretch from b
 abbrev pub copyPlace : ℕ → Copy → ℕ
@@ -71,6 +72,10 @@ within-all b (h ∷ t) f = rw (lt-ltb (ahead (h .time) b) half (f h (here refl))
 pub mem-map : {A B : Type 0} (f : A → B) (l : List A) (a : A) → List·Memᴰ a l → List·Memᴰ (f a) (map f l)
 mem-map f (x ∷ l) a (here e) = here (ap f e)
 mem-map f (x ∷ l) a (there m) = there (mem-map f l a m)
+
+pub map-mem : {A B : Type 0} (f : A → B) (l : List A) (y : B) → List·Memᴰ y (map f l) → (a : A) × List·Memᴰ a l × (y ≡ f a)
+map-mem f (x ∷ l) y (here e) = (x, here refl, e)
+map-mem f (x ∷ l) y (there m) = let r = map-mem f l y m in (r .0, there (r .1), r .2)
 
 module _ (b : ℕ) (lb : b < 2 ^ 32) where
   pub place-same : (x y : Copy) → SamePair x y → copyPlace b x ≡ copyPlace b y
@@ -121,9 +126,9 @@ module _ (b : ℕ) (lb : b < 2 ^ 32) where
     pub put-is : put side better c (views s (h .entries)) ≡ put (byKey (copyPlace b)) better c (views s (h .entries))
     put-is = put-cong side (byKey (copyPlace b)) better c (views s (h .entries)) (λ y m. order-place b lb (near-copy b c okc) (near-copy b y (okl y m)))
 
-    pub settled : (findPair c (h .entries) ≡ none → length (h .entries) < slots) → Settled (judge h s c .verdict)
-    settled room =
-        judge-cases h s c (λ j. Settled (j .verdict))
+    pub settled : (mark : ℕ) → (findPair c (h .entries) ≡ none → length (h .entries) < slots) → Settled (judge h s c mark .verdict)
+    settled mark room =
+        judge-cases h s c mark (λ j. Settled (j .verdict))
         (λ u. true≢false (sym u ∙ rw fresh-one))
         (λ u v. true≢false (sym v ∙ rw (fresh-one, fits-stretch (c .time) (c .channel) (h .entries) (near-copy b c okc) sorted)))
         (λ u v e w q. tt) (λ u v e w q. tt)
@@ -159,35 +164,44 @@ settled-counts n Better z = (refl, refl, refl)
 settled-counts n NoRoom z = absurd z
 settled-counts n Inserted z = (refl, refl, refl)
 
+-- all verdicts were such
+abbrev pub AllSettled : List Judgement → Type 0
+AllSettled [] = Unit {0}
+AllSettled (j ∷ js) = Settled (j .verdict) × AllSettled js
+
+-- one more item before the others
+module _ {A : Type 0} (P : A → Type 0) (c : A) (cs : List A) where
+  pub merge : (x : A) → List·Memᴰ x cs ⊎ ((x ≡ c) ⊎ P x) → List·Memᴰ x (c ∷ cs) ⊎ P x
+  merge x (inl m) = inl (there m)
+  merge x (inr (inl e)) = inl (here e)
+  merge x (inr (inr p)) = inr p
+
+  pub split : (x : A) → List·Memᴰ x (c ∷ cs) ⊎ P x → List·Memᴰ x cs ⊎ ((x ≡ c) ⊎ P x)
+  split x (inl (here e)) = inr (inl e)
+  split x (inl (there m)) = inl m
+  split x (inr p) = inr (inr p)
+
 -- ---- copies judged in turn, where nothing was drawn
 module _ (b : ℕ) (lb : b < 2 ^ 32) (accepted : List Copy) (ok : (x : Copy) → List·Memᴰ x accepted → InStretch b x) where
   module _ (few : AtMost slots accepted) where
     abbrev Gathers : (Copy → Type 0) → List Copy → Counts → Gathered → Type 0
-    Gathers P cs n g = Best b lb (λ x. List·Memᴰ x cs ⊎ P x) (views (g .store) (g .held .entries)) × NoLoss n (tally n (g .judgements))
+    Gathers P cs n g = Best b lb (λ x. List·Memᴰ x cs ⊎ P x) (views (g .store) (g .held .entries)) × NoLoss n (tally n (g .judgements)) × AllSettled (g .judgements)
 
-    gathers : {P : Copy → Type 0} (cs : List Copy) (h : Held) (s : List ℕ) (n : Counts) → HeldFacts h s → h .drawn ≡ false → ((x : Copy) → List·Memᴰ x cs → List·Memᴰ x accepted) → ((x : Copy) → P x → List·Memᴰ x accepted) → Best b lb P (views s (h .entries)) → Gathers P cs n (judgeAll h s cs)
+    gathers : {P : Copy → Type 0} (xs : List Received) (h : Held) (s : List ℕ) (n : Counts) → HeldFacts h s → h .drawn ≡ false → Marks xs → ((x : Copy) → List·Memᴰ x (copiesOf xs) → List·Memᴰ x accepted) → ((x : Copy) → P x → List·Memᴰ x accepted) → Best b lb P (views s (h .entries)) → Gathers P (copiesOf xs) n (judgeAll h s xs)
     unfolding judgeAll tally
-    gathers [] h s n S d all own B = (bests-like (copyPlace b) better (ranks b lb) (λ x p. inr p) (λ x q. ⊎-elim (λ m. absurd (nowhere m)) (λ p. p) q) B, (refl, refl, refl))
-    gathers {P} (c ∷ cs) h s n S d all own B =
+    gathers [] h s n S d M all own B = (bests-like (copyPlace b) better (ranks b lb) (λ x p. inr p) (λ x q. ⊎-elim (λ m. absurd (nowhere m)) (λ p. p) q) B, (refl, refl, refl), tt)
+    gathers {P} (x ∷ xs) h s n S d M all own B =
+        let c = x .copy in
+        let j = judge h s c (x .primary) in
         let m = all c (here refl) in
-        let okp : (x : Copy) → P x → InStretch b x = λ x p. ok x (own x p) in
-        let z = settled b lb h s c S d (ok c m) okp B (room-for b lb h s c S d (ok c m) okp B accepted few m own) in
-        let N : Best b lb (λ x. (x ≡ c) ⊎ P x) (views (judge h s c .store) (judge h s c .held .entries)) = rw (judge-views h s c S (ok c m .frame) z) (more b lb h s c S d (ok c m) okp B) in
+        let okp : (y : Copy) → P y → InStretch b y = λ y p. ok y (own y p) in
+        let z = settled b lb h s c S d (ok c m) okp B (x .primary) (room-for b lb h s c S d (ok c m) okp B accepted few m own) in
+        let N : Best b lb (λ y. (y ≡ c) ⊎ P y) (views (j .store) (j .held .entries)) = rw (judge-views h s c (x .primary) S (ok c m .frame) z) (more b lb h s c S d (ok c m) okp B) in
         let r =
-        gathers cs (judge h s c .held) (judge h s c .store) (counted n (judge h s c .verdict)) (judge-facts h s c S (ok c m .frame)) (judge-last h s c .0 ∙ d) (λ x k. all x (there k))
-        (λ x o. ⊎-elim (λ (q : x ≡ c). Memᴰ·cast q m) (own x) o) N in
-        let k = settled-counts n (judge h s c .verdict) z in
-        (bests-like (copyPlace b) better (ranks b lb) (λ x. merge x) (λ x. split x) (r .0), (r .1 .0 ∙ k .0, r .1 .1 ∙ k .1, r .1 .2 ∙ k .2))
-      where
-        merge : (x : Copy) → List·Memᴰ x cs ⊎ ((x ≡ c) ⊎ P x) → List·Memᴰ x (c ∷ cs) ⊎ P x
-        merge x (inl m) = inl (there m)
-        merge x (inr (inl e)) = inl (here e)
-        merge x (inr (inr p)) = inr p
-
-        split : (x : Copy) → List·Memᴰ x (c ∷ cs) ⊎ P x → List·Memᴰ x cs ⊎ ((x ≡ c) ⊎ P x)
-        split x (inl (here e)) = inr (inl e)
-        split x (inl (there m)) = inl m
-        split x (inr p) = inr (inr p)
+        gathers xs (j .held) (j .store) (counted n (j .verdict)) (judge-facts h s c S (ok c m .frame) (x .primary) (M x (here refl))) (judge-last h s c (x .primary) .0 ∙ d) (λ y k. M y (there k)) (λ y k. all y (there k))
+        (λ y o. ⊎-elim (λ (q : y ≡ c). Memᴰ·cast q m) (own y) o) N in
+        let k = settled-counts n (j .verdict) z in
+        (bests-like (copyPlace b) better (ranks b lb) (merge P (x .copy) (copiesOf xs)) (split P (x .copy) (copiesOf xs)) (r .0), (r .1 .0 ∙ k .0, r .1 .1 ∙ k .1, r .1 .2 ∙ k .2), (z, r .2))
 
   -- the two forms of the playout list
   of-ascending : (l : List Copy) → Ascending l → Chain side l
@@ -221,24 +235,27 @@ module _ (b : ℕ) (lb : b < 2 ^ 32) (accepted : List Copy) (ok : (x : Copy) →
 
 -- ---- the statements
 -- copies judged from nothing held
-abbrev pub gathered : List ℕ → List Copy → Gathered
-gathered s cs = judgeAll fresh s cs
+abbrev pub gathered : List ℕ → List Received → Gathered
+gathered s xs = judgeAll fresh s xs
 
 pub in-stretch : (cs : List Copy) → Frames cs → (W : WithinStretch cs) → (x : Copy) → List·Memᴰ x cs → InStretch (W .base) x
 in-stretch cs F W x m = record { frame = F x m; near = W .within x m }
 
-module _ (s : List ℕ) (cs : List Copy) (l : storeSize ≤ length s) (F : Frames cs) (W : WithinStretch cs) (few : AtMost slots cs) where
-  whole : Gathers (W .base) (W .word) cs (in-stretch cs F W) few (λ x. ⊥) cs noCounts (gathered s cs)
-  whole = gathers (W .base) (W .word) cs (in-stretch cs F W) few cs fresh s noCounts (fresh-facts s l) refl (λ x m. m) (λ x p. absurd p) (bests-none (copyPlace (W .base)) better (ranks (W .base) (W .word)) (λ x p. p))
+module _ (s : List ℕ) (xs : List Received) (l : storeSize ≤ length s) (F : Frames (copiesOf xs)) (M : Marks xs) (W : WithinStretch (copiesOf xs)) (few : AtMost slots (copiesOf xs)) where
+  whole : Gathers (W .base) (W .word) (copiesOf xs) (in-stretch (copiesOf xs) F W) few (λ x. ⊥) (copiesOf xs) noCounts (gathered s xs)
+  whole = gathers (W .base) (W .word) (copiesOf xs) (in-stretch (copiesOf xs) F W) few xs fresh s noCounts (fresh-facts s l) refl M (λ x m. m) (λ x p. absurd p) (bests-none (copyPlace (W .base)) better (ranks (W .base) (W .word)) (λ x p. p))
 
-  pub playout-of : Playout cs (views (gathered s cs .store) (gathered s cs .held .entries))
+  pub playout-of : Playout (copiesOf xs) (views (gathered s xs .store) (gathered s xs .held .entries))
   playout-of =
-      to-playout (W .base) (W .word) cs (in-stretch cs F W) (views (gathered s cs .store) (gathered s cs .held .entries))
+      to-playout (W .base) (W .word) (copiesOf xs) (in-stretch (copiesOf xs) F W) (views (gathered s xs .store) (gathered s xs .held .entries))
       (bests-like (copyPlace (W .base)) better (ranks (W .base) (W .word)) (λ x o. ⊎-elim (λ m. m) (λ p. absurd p) o) (λ x m. inl m) (whole .0))
 
   -- and no copy is late, far or without room
-  pub premises-settled : NoLoss noCounts (tally noCounts (gathered s cs .judgements))
+  pub premises-settled : NoLoss noCounts (tally noCounts (gathered s xs .judgements))
   premises-settled = whole .1
+
+  pub all-settled : AllSettled (gathered s xs .judgements)
+  all-settled = whole .2
 
 -- the same copies, in whatever order and however often, have the same playout list
 pub playout-like : (a b l : List Copy) → ((x : Copy) → List·Memᴰ x a → List·Memᴰ x b) → ((x : Copy) → List·Memᴰ x b → List·Memᴰ x a) → Playout a l → Playout b l

@@ -13,7 +13,7 @@ use lib.Dec.{eqb}
 use borrow.Author.Tests.{eqb-true, eqb-false}
 use Rattle.playout.specs.Sizes.{slots, slotSize, storeSize}
 use Rattle.playout.specs.Copies.{Copy, side, better}
-use Rattle.playout.specs.Entries.{Entry, frameOf, view, views, entryOf, sideOfEntry, putAt, put, findAt, findBy, slotUsed, lowest, freeSlot, always, placed, stored}
+use Rattle.playout.specs.Entries.{Entry, frameOf, view, views, entryOf, remarked, sideOfEntry, putAt, put, findAt, findBy, slotUsed, lowest, freeSlot, always, placed, stored}
 use Rattle.playout.proofs.InsertionLaws.{put-from, find-mem, Cmp, cmp}
 use Rattle.playout.proofs.DistinctLaws.{no-more, Differ}
 use Rattle.playout.proofs.StoreLaws.{part-same, part-before, part-after}
@@ -136,9 +136,9 @@ module _ (c : Copy) (es : List Entry) (s : List ℕ) (room : storeSize ≤ lengt
   unfolding stored
   stored-length = length-paste s (slotSize * k) (c .bytes) (length (c .bytes)) in-store (omega arith)
 
-  view-stored : view (stored s k (c .bytes)) (entryOf c k) ≡ c
+  view-stored : (mark : ℕ) → view (stored s k (c .bytes)) (entryOf c mark k) ≡ c
   unfolding view entryOf stored
-  view-stored =
+  view-stored mark =
       let p : take (length (c .bytes)) (drop (slotSize * k) (paste s (slotSize * k) (c .bytes) (length (c .bytes)))) ≡ c .bytes =
       part-same s (slotSize * k) (c .bytes) (length (c .bytes)) in-store (omega arith) ∙ take-length (c .bytes) in
       λ i. record { time = c .time; channel = c .channel; class = c .class; bytes = p i }
@@ -154,6 +154,26 @@ module _ (c : Copy) (es : List Entry) (s : List ℕ) (room : storeSize ≤ lengt
       go Ordering·eq q = absurd (n (sym q))
       go Ordering·gt q = part-after s (slotSize * k) (c .bytes) (length (c .bytes)) in-store (omega arith) (slotSize * y .slot) (y .length) (omega arith)
 
-  pub laid-views : OwnSlots es → ((y : Entry) → List·Memᴰ y es → y .length ≤ slotSize) → Clash (entryOf c k) es → ((e : Entry) → findBy (sideOfEntry (entryOf c k)) es ≡ some e → better c (view s e) ≡ true) → views (stored s k (c .bytes)) (placed c k es) ≡ put side better c (views s es)
+  pub laid-views : (mark : ℕ) → OwnSlots es → ((y : Entry) → List·Memᴰ y es → y .length ≤ slotSize) → Clash (entryOf c mark k) es → ((e : Entry) → findBy (sideOfEntry (entryOf c mark k)) es ≡ some e → better c (view s e) ≡ true) → views (stored s k (c .bytes)) (placed (entryOf c mark k) es) ≡ put side better c (views s es)
   unfolding placed view entryOf
-  laid-views S l q b = put-view (entryOf c k) (view (stored s k (c .bytes))) (view s) c view-stored (λ y. refl) es S q b (λ y m. view-other y (l y m))
+  laid-views mark S l q b = put-view (entryOf c mark k) (view (stored s k (c .bytes))) (view s) c (view-stored mark) (λ y. refl) es S q b (λ y m. view-other y (l y m))
+
+-- ---- an entry with another mark holds the same copy
+pub remarked-view : (s : List ℕ) (mark : ℕ) (e : Entry) → view s (remarked mark e) ≡ view s e
+unfolding view remarked
+remarked-view s mark e = refl
+
+-- what does not see how an entry differs from the one of its pair sees no difference when it takes its place
+pub put-alike : {A : Type 0} (f : Entry → A) (e k : Entry) (es : List Entry) → findBy (sideOfEntry e) es ≡ some k → f e ≡ f k → map f (put sideOfEntry always e es) ≡ map f es
+unfolding put findBy
+put-alike f e k [] w q = absurd (none≢some k w)
+put-alike f e k (h ∷ t) w q = go (sideOfEntry e h) (λ w. put-alike f e k t w q) w
+  where
+    go : (o : Ordering) → (findBy (sideOfEntry e) t ≡ some k → map f (put sideOfEntry always e t) ≡ map f t) → findAt o h (findBy (sideOfEntry e) t) ≡ some k → map f (putAt sideOfEntry always o e h t (put sideOfEntry always e t)) ≡ f h ∷ map f t
+    go Ordering·lt ih w = absurd (none≢some k w)
+    go Ordering·eq ih w = ap (λ x. x ∷ map f t) (q ∙ sym (ap f (Option·some-injective h k w)))
+    go Ordering·gt ih w = ap (λ l. f h ∷ l) (ih w)
+
+pub remarked-views : (s : List ℕ) (mark : ℕ) (e : Entry) (es : List Entry) → findBy (sideOfEntry (remarked mark e)) es ≡ some e → views s (placed (remarked mark e) es) ≡ views s es
+unfolding placed
+remarked-views s mark e es w = put-alike (view s) (remarked mark e) e es w (remarked-view s mark e)

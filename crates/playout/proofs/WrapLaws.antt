@@ -4,6 +4,7 @@ use mathlib.Core.Bool.{Bool, true, false, cond}
 use Prim.Native.Nat.{ℕ, _+_, _-_, _*_, _^_, _<_, _≤_, compare, Ordering, Ordering·lt, Ordering·eq, Ordering·gt}
 use native.Mathlib.Omega.{arith}
 use lib.Dec.{ltb, eqb}
+use Rattle.rtp.proofs.TestLaws.{by-test}
 use borrow.Author.Tests.{ltb-true, lt-ltb, le-ltb, eqb-true, eqb-false}
 use Rattle.playout.specs.Pairs.{half, ahead, after, order}
 use Rattle.playout.proofs.InsertionLaws.{Cmp, cmp, compare-is}
@@ -54,6 +55,27 @@ after-near t c h d lt lc e = record { word = lt; octet = lc; near = by-time (eqb
     by-time : (p : Bool) → eqb t h ≡ p → cond p (compare c d) (cond (after t h) Ordering·gt Ordering·lt) ≡ Ordering·gt → ahead t h < half
     by-time true q e = rw (eqb-true t h q) (ahead-self h)
     by-time false q e = by-after (ltb 0 (ahead t h)) e
+
+-- pairs that compare as the same are the same
+pub order-same : (t c h d : ℕ) → order t c h d ≡ Ordering·eq → (t ≡ h) × (c ≡ d)
+unfolding order
+order-same t c h d e =
+    by-test (eqb t h)
+    (λ a. (eqb-true t h a, channels (rw a at e)))
+    (λ a. other (after t h) (rw a at e))
+  where
+    channels : compare c d ≡ Ordering·eq → c ≡ d
+    channels q = subst (λ (o : Ordering). Cmp o c d) q (cmp c d)
+
+    gt≢eq : Ordering·gt ≡ Ordering·eq → ⊥
+    gt≢eq z = let w : _≡_ {A = ℕ} 0 1 = cc in omega arith
+
+    lt≢eq : Ordering·lt ≡ Ordering·eq → ⊥
+    lt≢eq z = let w : _≡_ {A = ℕ} 0 1 = cc in omega arith
+
+    other : (p : Bool) → cond p Ordering·gt Ordering·lt ≡ Ordering·eq → (t ≡ h) × (c ≡ d)
+    other true q = absurd (gt≢eq q)
+    other false q = absurd (lt≢eq q)
 
 module _ (b : ℕ) (lb : b < 2 ^ 32) {t c h d : ℕ} (u : Near b t c) (v : Near b h d) where
   pub same-place : place b t c ≡ place b h d → (t ≡ h) × (c ≡ d)

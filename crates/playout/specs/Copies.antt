@@ -16,6 +16,11 @@ pub record Copy : Type 0 where
   pub class : ℕ
   pub bytes : List ℕ
 
+-- a copy as it was received, with the mark of one heard first-hand (document 02, P6); the mark takes no part in what is better
+pub record Received : Type 0 where
+  pub copy : Copy
+  pub primary : ℕ
+
 -- where the pair of c lies from the pair of h
 abbrev pub side : Copy → Copy → Ordering
 side c h = order (c .time) (c .channel) (h .time) (h .channel)

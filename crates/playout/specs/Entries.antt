@@ -10,12 +10,14 @@ use Rattle.playout.specs.Sizes.{slots, slotSize}
 use Rattle.playout.specs.Pairs.{order}
 use Rattle.playout.specs.Copies.{Copy}
 
+-- a frame held: its pair, class and length, its slot in the store, and the mark that some copy of it was heard first-hand
 pub record Entry : Type 0 where
   pub time : ℕ
   pub channel : ℕ
   pub class : ℕ
   pub length : ℕ
   pub slot : ℕ
+  pub primary : ℕ
 
 -- the entries in time order, and the last pair drawn, if any
 pub record Held : Type 0 where
@@ -35,9 +37,13 @@ view store e = record { time = e .time; channel = e .channel; class = e .class; 
 abbrev pub views : List ℕ → List Entry → List Copy
 views store es = map (view store) es
 
--- the entry of a copy in a slot
-unfoldable pub entryOf : Copy → ℕ → Entry
-entryOf c slot = record { time = c .time; channel = c .channel; class = c .class; length = length (c .bytes); slot = slot }
+-- the entry of a copy with a mark in a slot
+unfoldable pub entryOf : Copy → ℕ → ℕ → Entry
+entryOf c mark slot = record { time = c .time; channel = c .channel; class = c .class; length = length (c .bytes); slot = slot; primary = mark }
+
+-- an entry with another mark
+unfoldable pub remarked : ℕ → Entry → Entry
+remarked mark e = record { time = e .time; channel = e .channel; class = e .class; length = e .length; slot = e .slot; primary = mark }
 
 abbrev pub sideOfEntry : Entry → Entry → Ordering
 sideOfEntry e h = order (e .time) (e .channel) (h .time) (h .channel)
@@ -75,12 +81,12 @@ lowest (suc n) k es = cond (slotUsed k es) (lowest n (suc k) es) k
 unfoldable pub freeSlot : List Entry → ℕ
 freeSlot es = lowest slots 0 es
 
--- a copy's entry in its place, in a slot; an entry of the same pair gives way
+-- an entry in its place; one of the same pair gives way
 abbrev pub always : Entry → Entry → Bool
 always e h = true
 
-unfoldable pub placed : Copy → ℕ → List Entry → List Entry
-placed c slot es = put sideOfEntry always (entryOf c slot) es
+unfoldable pub placed : Entry → List Entry → List Entry
+placed e es = put sideOfEntry always e es
 
 -- the store with a frame's bytes in a slot; bytes past the frame's end stay
 unfoldable pub stored : List ℕ → ℕ → List ℕ → List ℕ

@@ -1,11 +1,13 @@
 -- Document 01, demand 3's terms: the draw list of the copies accepted (document 01: heard), and the two premises.
 use Prim.Native.Nat.{ℕ, _<_, _≤_, _^_, Ordering·gt}
 use mathlib.Core.Path.{_≡_}
-use mathlib.Core.List.{List, [], _∷_, List·Memᴰ}
+use mathlib.Core.List.{List, [], _∷_, map, List·Memᴰ}
+use mathlib.Core.Logic.{_⊎_}
 use mathlib.Core.Bool.{false}
 use lib.ListN.{length}
 use Rattle.playout.specs.Pairs.{half, ahead}
-use Rattle.playout.specs.Copies.{Copy, side, better}
+use Rattle.formats.specs.Tags.{primaryMark, redundantMark}
+use Rattle.playout.specs.Copies.{Copy, Received, side, better}
 
 -- each after the one before
 abbrev pub Ascending : List Copy → Type 0
@@ -41,3 +43,21 @@ pub record WithinStretch (accepted : List Copy) : Type 0 where
 -- no more than n distinct pairs: copies accepted of pairwise different pairs are at most n
 abbrev pub AtMost : ℕ → List Copy → Type 0
 AtMost n accepted = (ds : List Copy) → ((d : Copy) → List·Memᴰ d ds → List·Memᴰ d accepted) → Distinct ds → length ds ≤ n
+
+-- The marks (document 02, P6), beside the copies
+
+abbrev pub copiesOf : List Received → List Copy
+copiesOf xs = map (λ x. x .copy) xs
+
+-- some copy received of the pair was heard first-hand
+pub record HeardFirst (received : List Received) (d : Copy) : Type 0 where
+  pub one : Received
+  pub among : List·Memᴰ one received
+  pub pair : SamePair d (one .copy)
+  pub primary : one .primary ≡ primaryMark
+
+-- the playout list with marks: the playout list of the copies, each item marked exactly if some copy of its pair was heard first-hand
+pub record MarkedPlayout (received ds : List Received) : Type 0 where
+  pub playout : Playout (copiesOf received) (copiesOf ds)
+  pub set : (d : Received) → List·Memᴰ d ds → HeardFirst received (d .copy) → d .primary ≡ primaryMark
+  pub unset : (d : Received) → List·Memᴰ d ds → (d .primary ≡ redundantMark) ⊎ HeardFirst received (d .copy)

@@ -9,8 +9,9 @@ use Rattle.playout.specs.declared.verdict.Verdict.{Verdict}
 use Rattle.playout.specs.declared.verdict.Verdict.the-variants.{Late, Far, Repeated, Better, NoRoom, Inserted}
 use Rattle.playout.specs.Sizes.{slots}
 use Rattle.playout.specs.Pairs.{half, ahead, order, isAfter}
-use Rattle.playout.specs.Copies.{Copy, better}
-use Rattle.playout.specs.Entries.{Entry, Held, view, entryOf, sideOfEntry, findBy, freeSlot, placed, stored}
+use Rattle.formats.specs.Tags.{eitherMark}
+use Rattle.playout.specs.Copies.{Copy, Received, better}
+use Rattle.playout.specs.Entries.{Entry, Held, view, entryOf, remarked, sideOfEntry, findBy, freeSlot, placed, stored}
 
 -- a pair was drawn, and this one is not after it
 abbrev pub isLate : Held → Copy → Bool
@@ -39,24 +40,28 @@ pub record Judged : Type 0 where
 abbrev pub keeps : Held → List ℕ → Verdict → Judged
 keeps h s v = record { held = h; store = s; verdict = v }
 
--- the copy laid into a slot
-abbrev pub lays : Copy → ℕ → Held → List ℕ → Verdict → Judged
-lays c slot h s v = record {
-  held = record { entries = placed c slot (h .entries); drawn = h .drawn; lastTime = h .lastTime; lastChannel = h .lastChannel };
-  store = stored s slot (c .bytes);
-  verdict = v;
-}
+-- what is held with an entry in its place
+abbrev pub holding : Entry → Held → Held
+holding e h = record { entries = placed e (h .entries); drawn = h .drawn; lastTime = h .lastTime; lastChannel = h .lastChannel }
 
--- a copy whose pair is held, as this entry, or not
-unfoldable pub judgeHeld : Copy → Held → List ℕ → Option Entry → Judged
-judgeHeld c h s (some e) = cond (better c (view s e)) (lays c (e .slot) h s Better) (keeps h s Repeated)
-judgeHeld c h s none = cond (ltb (length (h .entries)) slots) (lays c (freeSlot (h .entries)) h s Inserted) (keeps h s NoRoom)
+-- the copy laid into a slot, its entry with a mark
+abbrev pub lays : Copy → ℕ → ℕ → Held → List ℕ → Verdict → Judged
+lays c mark slot h s v = record { held = holding (entryOf c mark slot) h; store = stored s slot (c .bytes); verdict = v }
 
-unfoldable pub judge : Held → List ℕ → Copy → Judged
-judge h s c =
+-- a repeat may mark the entry of its pair, and changes nothing else
+abbrev pub repeats : Entry → ℕ → Held → List ℕ → Judged
+repeats e mark h s = record { held = holding (remarked (eitherMark (e .primary) mark) e) h; store = s; verdict = Repeated }
+
+-- a copy with its mark, whose pair is held, as this entry, or not; a better copy keeps a mark already set
+unfoldable pub judgeHeld : Copy → ℕ → Held → List ℕ → Option Entry → Judged
+judgeHeld c mark h s (some e) = cond (better c (view s e)) (lays c (eitherMark mark (e .primary)) (e .slot) h s Better) (repeats e mark h s)
+judgeHeld c mark h s none = cond (ltb (length (h .entries)) slots) (lays c mark (freeSlot (h .entries)) h s Inserted) (keeps h s NoRoom)
+
+unfoldable pub judge : Held → List ℕ → Copy → ℕ → Judged
+judge h s c mark =
     cond (isLate h c) (keeps h s Late)
     (cond (isFar h c) (keeps h s Far)
-    (judgeHeld c h s (findBy (sideOfEntry (entryOf c 0)) (h .entries))))
+    (judgeHeld c mark h s (findBy (sideOfEntry (entryOf c mark 0)) (h .entries))))
 
 -- how often each verdict was given
 pub record Counts : Type 0 where
@@ -78,9 +83,9 @@ counted n Better = record { late = n .late; far = n .far; repeated = n .repeated
 counted n NoRoom = record { late = n .late; far = n .far; repeated = n .repeated; better = n .better; noRoom = n .noRoom + 1; inserted = n .inserted }
 counted n Inserted = record { late = n .late; far = n .far; repeated = n .repeated; better = n .better; noRoom = n .noRoom; inserted = n .inserted + 1 }
 
--- a copy and the verdict on it
+-- a copy as it was received, and the verdict on it
 pub record Judgement : Type 0 where
-  pub copy : Copy
+  pub received : Received
   pub verdict : Verdict
 
 -- the counts after more verdicts
@@ -94,9 +99,9 @@ pub record Gathered : Type 0 where
   pub store : List ℕ
   pub judgements : List Judgement
 
-unfoldable pub judgeAll : Held → List ℕ → List Copy → Gathered
+unfoldable pub judgeAll : Held → List ℕ → List Received → Gathered
 judgeAll h s [] = record { held = h; store = s; judgements = [] }
-judgeAll h s (c ∷ cs) =
-    let j = judge h s c in
-    let g = judgeAll (j .held) (j .store) cs in
-    record { held = g .held; store = g .store; judgements = record { copy = c; verdict = j .verdict } ∷ g .judgements }
+judgeAll h s (x ∷ xs) =
+    let j = judge h s (x .copy) (x .primary) in
+    let g = judgeAll (j .held) (j .store) xs in
+    record { held = g .held; store = g .store; judgements = record { received = x; verdict = j .verdict } ∷ g .judgements }

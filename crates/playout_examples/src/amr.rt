@@ -4,18 +4,28 @@ use crate::example;
 use drawing::draws;
 use drawing::draws::DrawAnswer;
 use drawing::draws::DrawnFrame;
+use formats::tagging::PRIMARY;
 use layout::buffer::Buffer;
 use reorder::calls;
 use rtp::refusal;
 use rtp::settings::AMR;
 use rtp::settings::AMR_WB;
 
-// The time and class of a frame drawn, and its bytes.
+// Whether a frame drawn was heard first-hand.
+fn print_heard(primary: u32) {
+    if primary == PRIMARY as u32 {
+        io::write_all(1, b" first-hand: ");
+    } else {
+        io::write_all(1, b" by redundancy: ");
+    }
+}
+
+// The time and class of a frame drawn, whether it was heard first-hand, and its bytes.
 fn print_frame(frame: DrawnFrame, area: &[u8]) {
     let length = frame.length as usize;
     example::print(b" ", frame.time);
     example::print(b" ", frame.class);
-    io::write_all(1, b" ");
+    print_heard(frame.primary);
     if length <= area.len() {
         io::write_all(1, &area[..length]);
     }

@@ -2,6 +2,7 @@
 use drawing::draws;
 use drawing::draws::DrawAnswer;
 use drawing::draws::DrawnFrame;
+use formats::tagging::PRIMARY;
 use layout::buffer::Buffer;
 use layout::buffer::SLOT_SIZE;
 use layout::buffer::STORE_SIZE;
@@ -123,12 +124,15 @@ fn print_other(byte: u8, number: u32) {
     }
 }
 
-// A frame-block's number by its time, and its first and last byte if they tell of another.
+// A frame-block's number by its time, its first and last byte if they tell of another, and a word if it was not heard first-hand.
 fn print_frame(base: u32, frame: DrawnFrame, area: &[u8; SLOT_SIZE]) {
     let number = std::num::wrapping_sub_u32(frame.time, base) / 960;
     print(b" ", number);
     print_other(area[0], number);
     print_other(area[79], number);
+    if frame.primary != PRIMARY as u32 {
+        io::write_all(1, b" by redundancy");
+    }
 }
 
 fn draw_one(buffer: Buffer, store: &[u8], base: u32) -> Buffer {

@@ -1,8 +1,9 @@
 // Document 001's six interleaved packets, each of four frame-blocks five apart, offered to a fresh buffer in several orders, then drawn
-// until the buffer is empty; then packets of AMR and AMR-WB, and some that are refused. Prints for each offer how often each verdict was
-// given, or the refusal and its offset in the packet, and the frame-blocks drawn.
+// until the buffer is empty; then packets of AMR and AMR-WB, some that are refused, and frames heard first-hand or not. Prints for each
+// offer how often each verdict was given, or the refusal and its offset in the packet, and the frame-blocks drawn.
 mod amr;
 mod example;
+mod marks;
 mod orders;
 mod refused;
 
@@ -18,4 +19,9 @@ fn main() {
     amr::times();
     amr::redundancy();
     refused::with_places();
+    marks::heard_both_ways();
+    marks::heard_one_way();
+    marks::better_copies();
+    marks::repeats();
+    marks::drawn_before();
 }

@@ -99,6 +99,7 @@ fn print_row(rows: &[u32; ROW_AREA], i: u32) {
         print(b" ", tagging::tag_channel(tag));
         print(b" ", rows[at + 2]);
         print(b" ", rows[at + 3]);
+        print(b" ", tagging::tag_mark(tag));
         io::write_all(1, b"\n");
     }
 }

@@ -85,7 +85,7 @@ fn print_drawn(state: State, buffer: Buffer, frame: DrawnFrame, bytes: &[u8; SLO
     let next = State {
         buffer,
         step: state.step,
-        totals: totals::add_frame(state.totals),
+        totals: totals::add_frame(state.totals, frame.primary),
         gaps: gaps::add(before, frame.time, missing),
         sources,
         more: state.more,

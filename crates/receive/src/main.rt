@@ -12,7 +12,7 @@ use console::arguments::Asked;
 fn main() {
     match arguments::read(
         b"receive",
-        b"Prints each frame once, in time order: time, channel, class, length and bytes; each gap; each packet refused; then a summary.\n",
+        b"Prints each frame once, in time order: time, channel, class, length, bytes, first-hand or by-redundancy; each gap; each packet refused; then a summary.\n",
     ) {
         Asked::Agreed(settings) => gathering::open(settings),
         Asked::Nothing => {}

@@ -11,6 +11,7 @@ use drawing::draws::DrawnFrame;
 use formats::frames::DAMAGED_SID;
 use formats::frames::DAMAGED_SOUND;
 use formats::frames::SID;
+use formats::tagging::PRIMARY;
 use layout::buffer::SLOT_SIZE;
 use libc::STDERR_FILENO;
 use libc::STDOUT_FILENO;
@@ -57,7 +58,15 @@ fn put_bytes(line: &mut [u8; LINE], at: usize, bytes: &[u8], n: usize) -> usize 
     at
 }
 
-// A line: time, channel, class, length, and the bytes in hexadecimal.
+// Whether a frame was heard first-hand.
+fn put_heard(line: &mut [u8; LINE], at: usize, primary: u32) -> usize {
+    if primary == PRIMARY as u32 {
+        return lines::put(line, at, b" first-hand");
+    }
+    lines::put(line, at, b" by-redundancy")
+}
+
+// A line: time, channel, class, length, the bytes in hexadecimal, and whether they were heard first-hand.
 pub(crate) fn print_frame(frame: DrawnFrame, bytes: &[u8; SLOT_SIZE]) -> bool {
     let mut line = lines::blank();
     let mut at = lines::put_number(&mut line, 0, b"", frame.time as u64);
@@ -66,6 +75,7 @@ pub(crate) fn print_frame(frame: DrawnFrame, bytes: &[u8; SLOT_SIZE]) -> bool {
     at = lines::put_number(&mut line, at, b" ", frame.length as u64);
     at = lines::put(&mut line, at, b" ");
     at = put_bytes(&mut line, at, bytes, frame.length as usize);
+    at = put_heard(&mut line, at, frame.primary);
     print(&mut line, at)
 }
 
@@ -120,6 +130,14 @@ fn print_counts(totals: Totals) -> bool {
     at = lines::put_number(&mut line, at, b", late ", totals.late);
     at = lines::put_number(&mut line, at, b", far ", totals.far);
     at = lines::put_number(&mut line, at, b", no room ", totals.no_room);
+    print(&mut line, at)
+}
+
+// How many of the frames were heard first-hand, and how many by redundancy only.
+fn print_heard(totals: Totals) -> bool {
+    let mut line = lines::blank();
+    let mut at = lines::put_number(&mut line, 0, b"heard first-hand ", totals.first_hand);
+    at = lines::put_number(&mut line, at, b", by redundancy ", totals.by_redundancy);
     print(&mut line, at)
 }
 
@@ -216,6 +234,7 @@ fn print_report(heard: Reception) -> bool {
 pub(crate) fn print_summary(totals: Totals, gaps: Gaps, sources: Sources) -> bool {
     let heard = sources.heard;
     print_counts(totals)
+        && print_heard(totals)
         && print_refusals(totals)
         && print_gaps(gaps)
         && print_sources(sources)

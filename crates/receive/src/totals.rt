@@ -1,4 +1,5 @@
 // What was counted over the whole stream.
+use formats::tagging::PRIMARY;
 use reorder::calls::OfferAnswer;
 use reorder::tally::Tally;
 use rtp::refusal;
@@ -11,6 +12,8 @@ pub(crate) struct Totals {
     pub packets: u64,
     pub refused: u64,
     pub frames: u64,
+    pub first_hand: u64,
+    pub by_redundancy: u64,
     pub inserted: u64,
     pub repeated: u64,
     pub better: u64,
@@ -26,6 +29,8 @@ pub(crate) fn none() -> Totals {
         packets: 0,
         refused: 0,
         frames: 0,
+        first_hand: 0,
+        by_redundancy: 0,
         inserted: 0,
         repeated: 0,
         better: 0,
@@ -82,10 +87,15 @@ pub(crate) fn was_read(answer: OfferAnswer) -> bool {
     }
 }
 
-// With one more frame drawn.
-pub(crate) fn add_frame(totals: Totals) -> Totals {
+// With one more frame drawn, heard first-hand or by redundancy only.
+pub(crate) fn add_frame(totals: Totals, primary: u32) -> Totals {
     let mut next = totals;
     next.frames = plus(totals.frames, 1);
+    if primary == PRIMARY as u32 {
+        next.first_hand = plus(totals.first_hand, 1);
+    } else {
+        next.by_redundancy = plus(totals.by_redundancy, 1);
+    }
     next
 }
 

@@ -17,8 +17,8 @@ use Rattle.layout.specs.declared.buffer.Buffer.{Buffer}
 use Rattle.layout.specs.Layout.{entryTag, padTo, column, encode, decode}
 use Rattle.layout.specs.WellFormed.{wellFormed}
 use Rattle.layout.specs.Arrays.{Column, Machine}
-use Rattle.layout.proofs.LayoutLaws.{column-length, decode-encode}
-use Rattle.layout.proofs.WellFormedLaws.{facts, times-word, well-formed}
+use Rattle.layout.proofs.LayoutLaws.{column-length}
+use Rattle.layout.proofs.WellFormedLaws.{facts, times-word, back, well-formed}
 use Rattle.reorder.proofs.StateLaws.{Good, good-facts}
 
 -- a well-formed buffer's model
@@ -58,7 +58,7 @@ module _ (st : Settings) (h : Held) (s : List ℕ) (g : Good st h s) where
       let S = good-facts st h s g in
       record {
         times = column-word (λ e. e .time) (h .entries) (g .words);
-        tags = column-word entryTag (h .entries) (λ e m. let i = S .each e m in omega (arith, i .octet, frame-class (e .class) (i .class) .1));
+        tags = column-word entryTag (h .entries) (λ e m. let i = S .each e m in omega (arith, i .octet, frame-class (e .class) (i .class) .1, i .mark));
         lengths = column-word (λ e. e .length) (h .entries) (λ e m. let i = S .each e m in omega (arith, i .size));
         slots-column = column-word (λ e. e .slot) (h .entries) (λ e m. let i = S .each e m in omega (arith, i .slot));
         occupied = refl;
@@ -69,4 +69,4 @@ module _ (st : Settings) (h : Held) (s : List ℕ) (g : Good st h s) where
   good-fine = well-formed st h (g .facts)
 
   pub good-back : decode (encode st h) ≡ h
-  good-back = decode-encode st h (g .facts .room) (λ e m. g .facts .each e m .octet) (g .facts .slot-facts)
+  good-back = back st h (g .facts)

@@ -2,7 +2,7 @@
 use mathlib.Core.Path.{_≡_, sym, subst}
 use mathlib.Core.List.{List, [], _∷_, _++_, List·Memᴰ·head as here, List·Memᴰ·tail as there, List·Memᴰ·not-nil as nowhere}
 use mathlib.Core.Bool.{true}
-use Prim.Native.Nat.{ℕ, _+_, _-_, _≤_}
+use Prim.Native.Nat.{ℕ, _+_, _-_, _≤_, _<_}
 use native.Mathlib.Omega.{arith}
 use lib.ListN.{length, take, drop, length-drop}
 use lib.Seq.{length-take-le}
@@ -17,10 +17,11 @@ use Rattle.payload.specs.Rows.{Row}
 use Rattle.payload.proofs.RowFactLaws.{RowFine, AllRows}
 use Rattle.packet.specs.Readings.{Outcome, refused, readAs, reading}
 use Rattle.packet.proofs.RowFactLaws.{rows-fine}
-use Rattle.playout.specs.Copies.{Copy}
-use Rattle.playout.proofs.HeldLaws.{IsFrame, Frames}
+use Rattle.playout.specs.Copies.{Received}
+use Rattle.playout.specs.Lists.{copiesOf}
+use Rattle.playout.proofs.HeldLaws.{IsFrame, Frames, Marks}
 use Rattle.layout.specs.Model.{allowed}
-use Rattle.reorder.specs.Rows.{copyOf, copiesOf, readCopies}
+use Rattle.reorder.specs.Rows.{copyOf, receivedIn, readReceived}
 use Rattle.reorder.specs.Judging.{RowAllowed, RowsAllowed}
 use Rattle.reorder.proofs.StateLaws.{Fit, Fits, fit-frame}
 
@@ -44,27 +45,33 @@ module _ (st : Settings) (few : st .channels ≤ 2) (packet : List ℕ) where
     word = f .word;
   }
 
-  pub copies-fit : (rs : List Row) → AllRows (RowFine (st .format) (st .channels) (length packet)) rs → Fits st (copiesOf packet rs)
-  unfolding copiesOf Fits
-  copies-fit [] f = tt
-  copies-fit (r ∷ rs) f =
+  pub received-fit : (rs : List Row) → AllRows (RowFine (st .format) (st .channels) (length packet)) rs → Fits st (receivedIn packet rs)
+  unfolding receivedIn Fits
+  received-fit [] f = tt
+  received-fit (r ∷ rs) f =
       by-test (eqb (r .class) noData)
-      (λ a. rw a (copies-fit rs (f .1)))
-      (λ a. rw a (copy-fit r (f .0) (eqb-false (r .class) noData a), copies-fit rs (f .1)))
+      (λ a. rw a (received-fit rs (f .1)))
+      (λ a. rw a (copy-fit r (f .0) (eqb-false (r .class) noData a), f .0 .mark, received-fit rs (f .1)))
 
 -- the copies of a packet that is read
-pub read-fit : (st : Settings) → inRange st ≡ true → (area : ℕ) (packet : List ℕ) (o : Outcome) → reading st area packet ≡ o → Fits st (readCopies packet o)
+pub read-fit : (st : Settings) → inRange st ≡ true → (area : ℕ) (packet : List ℕ) (o : Outcome) → reading st area packet ≡ o → Fits st (readReceived packet o)
 unfolding Fits
 read-fit st h area packet (refused f) q = tt
-read-fit st h area packet (readAs x rs request) q = copies-fit st (few-channels st h) packet rs (rows-fine st area packet x rs request q .0)
+read-fit st h area packet (readAs x rs request) q = received-fit st (few-channels st h) packet rs (rows-fine st area packet x rs request q .0)
 
-pub fits-frames : (st : Settings) (cs : List Copy) → Fits st cs → Frames cs
+pub fits-frames : (st : Settings) (xs : List Received) → Fits st xs → Frames (copiesOf xs)
 unfolding Fits
-fits-frames st [] f x m = absurd (nowhere m)
-fits-frames st (c ∷ cs) f x (here e) = subst IsFrame (sym e) (fit-frame st c (f .0))
-fits-frames st (c ∷ cs) f x (there m) = fits-frames st cs (f .1) x m
+fits-frames st [] f c m = absurd (nowhere m)
+fits-frames st (x ∷ xs) f c (here e) = subst IsFrame (sym e) (fit-frame st (x .copy) (f .0))
+fits-frames st (x ∷ xs) f c (there m) = fits-frames st xs (f .2) c m
 
-pub fits-append : (st : Settings) (xs ys : List Copy) → Fits st xs → Fits st ys → Fits st (xs ++ ys)
+pub fits-marks : (st : Settings) (xs : List Received) → Fits st xs → Marks xs
+unfolding Fits
+fits-marks st [] f y m = absurd (nowhere m)
+fits-marks st (x ∷ xs) f y (here e) = subst (λ (z : Received). z .primary < 2) (sym e) (f .1)
+fits-marks st (x ∷ xs) f y (there m) = fits-marks st xs (f .2) y m
+
+pub fits-append : (st : Settings) (xs ys : List Received) → Fits st xs → Fits st ys → Fits st (xs ++ ys)
 unfolding Fits
 fits-append st [] ys f g = g
-fits-append st (a ∷ xs) ys f g = (f .0, fits-append st xs ys (f .1) g)
+fits-append st (x ∷ xs) ys f g = (f .0, f .1, fits-append st xs ys (f .2) g)

@@ -2,7 +2,7 @@
 use mathlib.Core.Path.{_≡_, refl, ap, ap₂, sym, _∙_, subst}
 use mathlib.Core.List.{List, [], _∷_}
 use mathlib.Core.Bool.{true}
-use Prim.Native.Nat.{ℕ, zero, suc, _*_, _≤_, _<_}
+use Prim.Native.Nat.{ℕ, _*_, _≤_}
 use native.Mathlib.Omega.{arith}
 use lib.ListN.{length, take, drop}
 use lib.Seq.{take-append-seam}
@@ -14,8 +14,9 @@ use Rattle.rtp.specs.declared.refusal.Fault.{Fault}
 use Rattle.rtp.specs.declared.header.Header.{Header}
 use Rattle.rtp.proofs.RefusalLaws.{number-positive}
 use Rattle.rtp.proofs.RangeLaws.{few-channels}
+use Rattle.formats.proofs.CodeLaws.{code-small}
 use Rattle.payload.specs.Rows.{Row, words, rowsIn}
-use Rattle.payload.proofs.RowLaws.{length-words, channelAt, rows-words}
+use Rattle.payload.proofs.RowLaws.{length-words, TagsFit, rows-words}
 use Rattle.payload.proofs.RowFactLaws.{RowFine, AllRows}
 use Rattle.packet.specs.declared.reading.Packet.{Packet}
 use Rattle.packet.specs.declared.reading.Reading.{Reading}
@@ -29,7 +30,7 @@ use Rattle.reorder.specs.declared.judging.Judged.{Judged}
 use Rattle.reorder.specs.declared.tally.Tally.{Tally}
 use Rattle.layout.specs.Layout.{encode, decode}
 use Rattle.layout.specs.WellFormed.{wellFormed}
-use Rattle.reorder.specs.Rows.{copiesOf}
+use Rattle.reorder.specs.Rows.{receivedIn}
 use Rattle.layout.specs.Arrays.{Machine}
 use Rattle.reorder.specs.Judging.{noTally, RowsJudgeable, RowsJudged, OfferJudged}
 use Rattle.reorder.specs.Calls.{OfferNumbers, countNumbers, offerNumbers, offerRefused, offerCall}
@@ -74,10 +75,17 @@ rows-offer at occupied sum e b' packet rs t store store' k =
     let j = subst (λ (x : Judged). RowsJudged (at (x .occupied)) b' packet rs (x .tally) t store store') e k in
     record { answer = ap countNumbers (j .counts); buffer = j .buffer; store-left = j .store-left }
 
-channels-few : (format ch n : ℕ) (rs : List Row) → ch ≤ 2 → AllRows (RowFine format ch n) rs → (i : ℕ) → i < length rs → channelAt rs i < 256
-channels-few format ch n [] few f i l = absurd (omega arith)
-channels-few format ch n (r ∷ rs) few f zero l = omega (arith, f .0 .channel)
-channels-few format ch n (r ∷ rs) few f (suc i) l = channels-few format ch n rs few (f .1) i (omega arith)
+-- the tags of rows that were read hold all of their parts
+tags-fit : (format ch n : ℕ) (rs : List Row) → ch ≤ 2 → AllRows (RowFine format ch n) rs → TagsFit rs
+tags-fit format ch n [] few f = tt
+tags-fit format ch n (r ∷ rs) few f = (
+  record {
+    mark = f .0 .mark;
+    class = omega (arith, code-small format (r .class) (r .length) (f .0 .coded) .classes);
+    channel = omega (arith, f .0 .channel);
+  },
+  tags-fit format ch n rs few (f .1),
+)
 
 module _ (b : Buffer) (packet rows store : List ℕ) (h : inRange (b .settings) ≡ true) (w : wellFormed b ≡ true) (area : rowArea ≤ length rows) (room : storeSize ≤ length store)
     (p : Packet) (e : readingNumbers (Reading.Read p) ≡ outcomeNumbers (reading (b .settings) (length rows) packet))
@@ -104,7 +112,7 @@ module _ (b : Buffer) (packet rows store : List ℕ) (h : inRange (b .settings) 
       let n : rowWidth * p .rows ≡ length (words rs) = omega (arith, is .count, length-words rs) in
       ap₂ (λ (k : ℕ) (x : List ℕ). rowsIn (take k x)) n rows-are
       ∙ ap rowsIn (take-append-seam (words rs) (drop (length (words rs)) rows))
-      ∙ rows-words rs (channels-few (b .settings .format) (b .settings .channels) (length packet) rs (few-channels (b .settings) h) (fine .0))
+      ∙ rows-words rs (tags-fit (b .settings .format) (b .settings .channels) (length packet) rs (few-channels (b .settings) h) (fine .0))
 
   pub offer-asks : Machine b → RowsJudgeable b packet (rowsIn (take (rowWidth * p .rows) rows')) noTally store
   offer-asks m =
@@ -120,12 +128,12 @@ module _ (b : Buffer) (packet rows store : List ℕ) (h : inRange (b .settings) 
   pub offer-gives : (a : OfferAnswer) (b' : Buffer) (store' : List ℕ) → OfferJudged b b' packet (rowsIn (take (rowWidth * p .rows) rows')) a store store'
       → record { answer = offerNumbers a; buffer = b'; rows = rows'; store = store' } ≡ offerCall b packet rows store
   offer-gives a b' store' j =
-      let g : judgeAll (decode b) store (copiesOf packet (rowsIn (take (rowWidth * p .rows) rows'))) ≡ judgeAll (decode b) store (copiesOf packet rs) =
-      ap (λ (l : List Row). judgeAll (decode b) store (copiesOf packet l)) rows-back in
-      let c : offerNumbers a ≡ countNumbers (tally noCounts (judgeAll (decode b) store (copiesOf packet rs) .judgements)) =
+      let g : judgeAll (decode b) store (receivedIn packet (rowsIn (take (rowWidth * p .rows) rows'))) ≡ judgeAll (decode b) store (receivedIn packet rs) =
+      ap (λ (l : List Row). judgeAll (decode b) store (receivedIn packet l)) rows-back in
+      let c : offerNumbers a ≡ countNumbers (tally noCounts (judgeAll (decode b) store (receivedIn packet rs) .judgements)) =
       j .answer ∙ ap (λ (x : Gathered). countNumbers (tally noCounts (x .judgements))) g in
-      let u : b' ≡ encode (b .settings) (judgeAll (decode b) store (copiesOf packet rs) .held) = j .buffer ∙ ap (λ (x : Gathered). encode (b .settings) (x .held)) g in
-      let s : store' ≡ judgeAll (decode b) store (copiesOf packet rs) .store = j .store-left ∙ ap (λ (x : Gathered). x .store) g in
+      let u : b' ≡ encode (b .settings) (judgeAll (decode b) store (receivedIn packet rs) .held) = j .buffer ∙ ap (λ (x : Gathered). encode (b .settings) (x .held)) g in
+      let s : store' ≡ judgeAll (decode b) store (receivedIn packet rs) .store = j .store-left ∙ ap (λ (x : Gathered). x .store) g in
       let z : record { answer = offerNumbers a; buffer = b'; rows = rows'; store = store' } ≡ offerRead b packet rows store (readAs (is .head) rs (is .request)) =
       λ i. record { answer = c i; buffer = u i; rows = rows-are i; store = s i } in
       z ∙ sym (offer-reads b packet rows store h w area room ∙ ap (offerRead b packet rows store) (is .same))

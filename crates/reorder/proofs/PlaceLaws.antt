@@ -1,21 +1,21 @@
 -- The place search and the stretch test on the columns are those on the list of entries.
-use Prim.Native.Nat.{ℕ, suc, _+_, _≤_, _<_, compare, Ordering, Ordering·lt, Ordering·eq, Ordering·gt}
+use Prim.Native.Nat.{ℕ, suc, _+_, _≤_, _<_, Ordering, Ordering·lt, Ordering·eq, Ordering·gt}
 use mathlib.Core.Path.{_≡_, refl, sym, ap, ap₂, subst, _∙_}
 use mathlib.Core.List.{List, [], _∷_}
 use mathlib.Core.Bool.{Bool, true, false, cond, _&&_, _||_}
 use mathlib.Core.Option.{Option, none, some}
 use native.Mathlib.Nat.{zero-add}
 use native.Mathlib.Omega.{arith}
-use borrow.Author.Tests.{ne-eqb, eqb-true}
-use lib.Dec.{ltb, eqb}
+use borrow.Author.Tests.{ne-eqb}
+use lib.Dec.{ltb}
 use lib.ListN.{length, getD, set}
 use Rattle.formats.specs.Tags.{tagChannel}
 use Rattle.playout.specs.Sizes.{slots}
-use Rattle.playout.specs.Pairs.{half, ahead, after, order, sideOf}
+use Rattle.playout.specs.Pairs.{half, ahead, order, sideOf}
 use Rattle.playout.specs.declared.order.Side.{Side}
 use Rattle.playout.specs.Entries.{Entry, sideOfEntry, putAt, put, findAt, findBy, always}
 use Rattle.playout.specs.Verdicts.{allWithin, fits}
-use Rattle.playout.proofs.InsertionLaws.{Cmp, cmp}
+use Rattle.playout.proofs.WrapLaws.{order-same}
 use Rattle.placing.specs.declared.columns.Place.{Place}
 use Rattle.layout.specs.Columns.{withinFrom, fitsFrom}
 use Rattle.placing.specs.Places.{placeAt, placeFrom}
@@ -47,18 +47,6 @@ pub record AtPlace (e : Entry) (es : List Entry) (p : Place) : Type 0 where
   pub same : samePair e p es
   pub held : findBy (sideOfEntry e) es ≡ heldBy p es
   pub put : put sideOfEntry always e es ≡ putBy e p es
-
-order-same : (t c h d : ℕ) → order t c h d ≡ Ordering·eq → (t ≡ h) × (c ≡ d)
-unfolding order
-order-same t c h d q = go (eqb t h) refl q
-  where
-    other : (v : Bool) → cond v Ordering·gt Ordering·lt ≡ Ordering·eq → (t ≡ h) × (c ≡ d)
-    other true q = let z : _≡_ {A = ℕ} 0 1 = cc in absurd (omega arith)
-    other false q = let z : _≡_ {A = ℕ} 0 1 = cc in absurd (omega arith)
-
-    go : (v : Bool) → eqb t h ≡ v → cond v (compare c d) (cond (after t h) Ordering·gt Ordering·lt) ≡ Ordering·eq → (t ≡ h) × (c ≡ d)
-    go true e q = (eqb-true t h e, subst (λ (o : Ordering). Cmp o c d) q (cmp c d))
-    go false e q = other (after t h) q
 
 shift : ℕ → Place → Place
 shift i (Place.FoundAt j) = Place.FoundAt (i + j)

@@ -11,12 +11,13 @@ use Rattle.rtp.specs.Ranges.{inRange}
 use Rattle.rtp.proofs.AreaLaws.{part-to-end}
 use Rattle.rtp.proofs.RangeLaws.{few-channels}
 use Rattle.formats.specs.Frames.{noData}
+use Rattle.formats.proofs.TagLaws.{mark-small}
 use Rattle.payload.specs.Rows.{Row, rowOf, rowsIn}
 use Rattle.payload.proofs.RowLaws.{rows-more}
 use Rattle.playout.specs.declared.verdict.Verdict.{Verdict}
 use Rattle.playout.specs.declared.verdict.Verdict.the-variants.{Late, Far, Repeated, Better, NoRoom, Inserted}
 use Rattle.playout.specs.Sizes.{storeSize}
-use Rattle.playout.specs.Copies.{Copy}
+use Rattle.playout.specs.Copies.{Received}
 use Rattle.playout.specs.Entries.{Held}
 use Rattle.playout.specs.Verdicts.{Counts, counted, tally, Gathered, judge, judgeAll}
 use Rattle.layout.specs.declared.buffer.Buffer.{Buffer}
@@ -25,9 +26,9 @@ use Rattle.reorder.specs.declared.laying.FrameHead.{FrameHead}
 use Rattle.layout.specs.Layout.{encode, decode}
 use Rattle.layout.specs.Model.{allowed}
 use Rattle.layout.specs.WellFormed.{wellFormed}
-use Rattle.reorder.specs.Rows.{firstRow, restWords, copyOf, copiesOf}
+use Rattle.reorder.specs.Rows.{firstRow, restWords, receivedAs, receivedIn}
 use Rattle.layout.specs.Arrays.{Machine}
-use Rattle.reorder.specs.Laying.{copyIn}
+use Rattle.reorder.specs.Laying.{markIn, copyIn}
 use Rattle.reorder.specs.Judging.{Judgeable, JudgedAs, countsOf, RowsAllowed, RowsJudgeable, RowsJudged}
 use Rattle.reorder.proofs.StateLaws.{Good, judge-good}
 use Rattle.reorder.proofs.BufferLaws.{buffer-good, good-machine, good-fine, good-back}
@@ -51,10 +52,10 @@ total-counted n Inserted = omega arith
 module _ (b : Buffer) (packet : List ℕ) (t : Tally) (store : List ℕ) where
   -- no row is left
   pub rows-over : (rs : List Row) → RowsJudgeable b packet rs t store → rs ≡ [] → RowsJudged b b packet rs t t store store
-  unfolding judgeAll tally copiesOf
+  unfolding judgeAll tally receivedIn
   rows-over rs p e =
-      let q : judgeAll (decode b) store (copiesOf packet rs) ≡ record { held = decode b; store = store; judgements = [] } =
-      ap (λ (l : List Row). judgeAll (decode b) store (copiesOf packet l)) e in
+      let q : judgeAll (decode b) store (receivedIn packet rs) ≡ record { held = decode b; store = store; judgements = [] } =
+      ap (λ (l : List Row). judgeAll (decode b) store (receivedIn packet l)) e in
       record {
         counts = sym (ap (λ (g : Gathered). tally (countsOf t) (g .judgements)) q);
         buffer = sym (ap (λ (g : Gathered). encode (b .settings) (g .held)) q ∙ encode-decode b (p .machine) (p .fine));
@@ -72,14 +73,14 @@ module _ (b : Buffer) (packet : List ℕ) (t : Tally) (store : List ℕ) where
     skip-asks p = record { machine = p .machine; settings = p .settings; fine = p .fine; rows = p .rows .1; small = omega (arith, p .small); room = p .room }
 
     pub skip-gives : r .class ≡ noData → (b' : Buffer) (t' : Tally) (store' : List ℕ) → RowsJudged b b' packet rs t t' store store' → RowsJudged b b' packet (r ∷ rs) t t' store store'
-    unfolding copiesOf
+    unfolding receivedIn
     skip-gives z b' t' store' j =
-        let q : copiesOf packet rs ≡ copiesOf packet (r ∷ rs) =
-        sym (ap (λ (v : Bool). cond v (copiesOf packet rs) (copyOf packet r ∷ copiesOf packet rs)) (eq-eqb (r .class) noData z)) in
+        let q : receivedIn packet rs ≡ receivedIn packet (r ∷ rs) =
+        sym (ap (λ (v : Bool). cond v (receivedIn packet rs) (receivedAs packet r ∷ receivedIn packet rs)) (eq-eqb (r .class) noData z)) in
         record {
-          counts = j .counts ∙ ap (λ (l : List Copy). tally (countsOf t) (judgeAll (decode b) store l .judgements)) q;
-          buffer = j .buffer ∙ ap (λ (l : List Copy). encode (b .settings) (judgeAll (decode b) store l .held)) q;
-          store-left = j .store-left ∙ ap (λ (l : List Copy). judgeAll (decode b) store l .store) q;
+          counts = j .counts ∙ ap (λ (l : List Received). tally (countsOf t) (judgeAll (decode b) store l .judgements)) q;
+          buffer = j .buffer ∙ ap (λ (l : List Received). encode (b .settings) (judgeAll (decode b) store l .held)) q;
+          store-left = j .store-left ∙ ap (λ (l : List Received). judgeAll (decode b) store l .store) q;
         }
 
   -- a row of a frame
@@ -95,17 +96,17 @@ module _ (b : Buffer) (packet : List ℕ) (t : Tally) (store : List ℕ) where
       pub copy-asks : Judgeable b head frame store
       copy-asks = record { machine = p .machine; settings = p .settings; fine = p .fine; class = frame-allowed; channel = p .rows .0 z .1; room = p .room }
 
-      module _ (word : r .time < 2 ^ 32) (b' : Buffer) (store' : List ℕ) (v : Verdict) (j : JudgedAs b b' (copyIn head frame) store store' v) (t' : Tally) (more : countsOf t' ≡ counted (countsOf t) v) where
+      module _ (word : r .time < 2 ^ 32) (b' : Buffer) (store' : List ℕ) (v : Verdict) (j : JudgedAs b b' (copyIn head frame) (markIn head) store store' v) (t' : Tally) (more : countsOf t' ≡ counted (countsOf t) v) where
         abbrev next : Held
-        next = judge (decode b) store (copyIn head frame) .held
+        next = judge (decode b) store (copyIn head frame) (markIn head) .held
 
-        good : Good (b .settings) next (judge (decode b) store (copyIn head frame) .store)
-        good = judge-good (b .settings) (decode b) store (copyIn head frame) (buffer-good b (p .machine) (p .settings) (p .fine) store (p .room)) (record {
+        good : Good (b .settings) next (judge (decode b) store (copyIn head frame) (markIn head) .store)
+        good = judge-good (b .settings) (decode b) store (copyIn head frame) (markIn head) (buffer-good b (p .machine) (p .settings) (p .fine) store (p .room)) (record {
           frame = frame-allowed;
           channel = p .rows .0 z .1;
           octet = omega (arith, p .rows .0 z .1, few-channels (b .settings) (p .settings));
           word = word;
-        })
+        }) (mark-small (head .tag))
 
         pub next-asks : RowsJudgeable b' packet rs t' store'
         next-asks = record {
@@ -118,16 +119,16 @@ module _ (b : Buffer) (packet : List ℕ) (t : Tally) (store : List ℕ) where
         }
 
         pub next-gives : (b'' : Buffer) (t'' : Tally) (store'' : List ℕ) → RowsJudged b' b'' packet rs t' t'' store' store'' → RowsJudged b b'' packet (r ∷ rs) t t'' store store''
-        unfolding copiesOf judgeAll tally
+        unfolding receivedIn judgeAll tally
         next-gives b'' t'' store'' k =
             let h : decode b' ≡ next = ap decode (j .buffer) ∙ good-back (b .settings) next _ good in
-            let n : countsOf t' ≡ counted (countsOf t) (judge (decode b) store (copyIn head frame) .verdict) = more ∙ ap (counted (countsOf t)) (j .verdict) in
-            let one : judgeAll (decode b') store' (copiesOf packet rs) ≡ judgeAll next (judge (decode b) store (copyIn head frame) .store) (copiesOf packet rs) =
-            λ i. judgeAll (h i) (j .store-left i) (copiesOf packet rs) in
-            let cs : copyIn head frame ∷ copiesOf packet rs ≡ copiesOf packet (r ∷ rs) =
-            ap (λ (x : List ℕ). copyIn head x ∷ copiesOf packet rs) cut
-            ∙ sym (ap (λ (v : Bool). cond v (copiesOf packet rs) (copyOf packet r ∷ copiesOf packet rs)) (ne-eqb (r .class) noData z)) in
-            let all : judgeAll (decode b) store (copyIn head frame ∷ copiesOf packet rs) ≡ judgeAll (decode b) store (copiesOf packet (r ∷ rs)) =
+            let n : countsOf t' ≡ counted (countsOf t) (judge (decode b) store (copyIn head frame) (markIn head) .verdict) = more ∙ ap (counted (countsOf t)) (j .verdict) in
+            let one : judgeAll (decode b') store' (receivedIn packet rs) ≡ judgeAll next (judge (decode b) store (copyIn head frame) (markIn head) .store) (receivedIn packet rs) =
+            λ i. judgeAll (h i) (j .store-left i) (receivedIn packet rs) in
+            let cs : record { copy = copyIn head frame; primary = markIn head } ∷ receivedIn packet rs ≡ receivedIn packet (r ∷ rs) =
+            ap (λ (x : List ℕ). record { copy = copyIn head x; primary = markIn head } ∷ receivedIn packet rs) cut
+            ∙ sym (ap (λ (v : Bool). cond v (receivedIn packet rs) (receivedAs packet r ∷ receivedIn packet rs)) (ne-eqb (r .class) noData z)) in
+            let all : judgeAll (decode b) store (record { copy = copyIn head frame; primary = markIn head } ∷ receivedIn packet rs) ≡ judgeAll (decode b) store (receivedIn packet (r ∷ rs)) =
             ap (judgeAll (decode b) store) cs in
             record {
               counts = k .counts ∙ (λ i. tally (n i) (one i .judgements)) ∙ ap (λ (g : Gathered). tally (countsOf t) (g .judgements)) all;

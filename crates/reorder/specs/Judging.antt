@@ -20,7 +20,7 @@ use Rattle.layout.specs.Arrays.{Machine}
 use Rattle.layout.specs.Layout.{encode, decode}
 use Rattle.layout.specs.Model.{allowed}
 use Rattle.layout.specs.WellFormed.{wellFormed}
-use Rattle.reorder.specs.Rows.{copiesOf}
+use Rattle.reorder.specs.Rows.{receivedIn}
 use Rattle.reorder.specs.Laying.{classIn, channelIn}
 use Rattle.reorder.specs.Calls.{countNumbers, offerNumbers}
 
@@ -37,11 +37,11 @@ pub record Timely (b : Buffer) (c : Copy) : Type 0 where
   pub not-late : isLate (decode b) c ≡ false
   pub not-far : isFar (decode b) c ≡ false
 
--- what judging a frame against the buffer b leaves
-pub record JudgedAs (b b' : Buffer) (c : Copy) (store store' : List ℕ) (v : Verdict) : Type 0 where
-  pub verdict : v ≡ judge (decode b) store c .verdict
-  pub buffer : b' ≡ encode (b .settings) (judge (decode b) store c .held)
-  pub store-left : store' ≡ judge (decode b) store c .store
+-- what judging a frame with its mark against the buffer b leaves
+pub record JudgedAs (b b' : Buffer) (c : Copy) (mark : ℕ) (store store' : List ℕ) (v : Verdict) : Type 0 where
+  pub verdict : v ≡ judge (decode b) store c mark .verdict
+  pub buffer : b' ≡ encode (b .settings) (judge (decode b) store c mark .held)
+  pub store-left : store' ≡ judge (decode b) store c mark .store
 
 -- Judging the rows of a packet
 
@@ -73,9 +73,9 @@ pub record RowsJudgeable (b : Buffer) (packet : List ℕ) (rs : List Row) (t : T
   pub room : storeSize ≤ length store
 
 pub record RowsJudged (b b' : Buffer) (packet : List ℕ) (rs : List Row) (t t' : Tally) (store store' : List ℕ) : Type 0 where
-  pub counts : countsOf t' ≡ tally (countsOf t) (judgeAll (decode b) store (copiesOf packet rs) .judgements)
-  pub buffer : b' ≡ encode (b .settings) (judgeAll (decode b) store (copiesOf packet rs) .held)
-  pub store-left : store' ≡ judgeAll (decode b) store (copiesOf packet rs) .store
+  pub counts : countsOf t' ≡ tally (countsOf t) (judgeAll (decode b) store (receivedIn packet rs) .judgements)
+  pub buffer : b' ≡ encode (b .settings) (judgeAll (decode b) store (receivedIn packet rs) .held)
+  pub store-left : store' ≡ judgeAll (decode b) store (receivedIn packet rs) .store
 
 -- the first of the rows judged, or passed over: the others can be judged then, and so all are
 pub record RowJudged (b b' : Buffer) (packet : List ℕ) (r : Row) (rs : List Row) (t t' : Tally) (store store' : List ℕ) : Type 0 where
@@ -84,6 +84,6 @@ pub record RowJudged (b b' : Buffer) (packet : List ℕ) (r : Row) (rs : List Ro
 
 -- and of an offer: its answer in numbers, and what is left
 pub record OfferJudged (b b' : Buffer) (packet : List ℕ) (rs : List Row) (a : OfferAnswer) (store store' : List ℕ) : Type 0 where
-  pub answer : offerNumbers a ≡ countNumbers (tally noCounts (judgeAll (decode b) store (copiesOf packet rs) .judgements))
-  pub buffer : b' ≡ encode (b .settings) (judgeAll (decode b) store (copiesOf packet rs) .held)
-  pub store-left : store' ≡ judgeAll (decode b) store (copiesOf packet rs) .store
+  pub answer : offerNumbers a ≡ countNumbers (tally noCounts (judgeAll (decode b) store (receivedIn packet rs) .judgements))
+  pub buffer : b' ≡ encode (b .settings) (judgeAll (decode b) store (receivedIn packet rs) .held)
+  pub store-left : store' ≡ judgeAll (decode b) store (receivedIn packet rs) .store

@@ -6,7 +6,7 @@ use mathlib.Core.Bool.{Bool, false, cond, not}
 use lib.ListN.{length, getD, take, drop, set}
 use lib.Seq.{paste}
 use lib.Dec.{eqb}
-use Rattle.formats.specs.Tags.{tagClass, tagChannel}
+use Rattle.formats.specs.Tags.{tagMark, tagClass, tagChannel, joinedTag}
 use Rattle.playout.specs.declared.verdict.Verdict.{Verdict}
 use Rattle.playout.specs.declared.verdict.Verdict.the-variants.{Repeated, Better}
 use Rattle.playout.specs.Sizes.{slots, slotSize, storeSize}
@@ -17,12 +17,15 @@ use Rattle.reorder.specs.declared.laying.FrameHead.{FrameHead}
 use Rattle.layout.specs.Bits.{heldIn, lowestFree, marked}
 use Rattle.layout.specs.Columns.{insertAt, fitsFrom}
 
--- the class and the channel of a frame, and its copy
+-- the class, the channel and the mark of a frame, and its copy
 abbrev pub classIn : FrameHead → ℕ
 classIn h = tagClass (h .tag)
 
 abbrev pub channelIn : FrameHead → ℕ
 channelIn h = tagChannel (h .tag)
+
+abbrev pub markIn : FrameHead → ℕ
+markIn h = tagMark (h .tag)
 
 abbrev pub copyIn : FrameHead → List ℕ → Copy
 copyIn h frame = record { time = h .time; channel = channelIn h; class = classIn h; bytes = frame }
@@ -50,7 +53,7 @@ beats h frame tags lengths slots' at store =
 
 pub record Replaced (h : FrameHead) (frame tags tags' lengths lengths' slots' : List ℕ) (at : ℕ) (store store' : List ℕ) (v : Verdict) : Type 0 where
   pub verdict : v ≡ cond (beats h frame tags lengths slots' at store) Better Repeated
-  pub tags-left : tags' ≡ cond (beats h frame tags lengths slots' at store) (set tags at (h .tag)) tags
+  pub tags-left : tags' ≡ set tags at (cond (beats h frame tags lengths slots' at store) (joinedTag (h .tag) (getD tags at 0)) (joinedTag (getD tags at 0) (h .tag)))
   pub lengths-left : lengths' ≡ cond (beats h frame tags lengths slots' at store) (set lengths at (length frame)) lengths
   pub store-left : store' ≡ cond (beats h frame tags lengths slots' at store) (paste store (slotSize * getD slots' at 0) frame (length frame)) store
 

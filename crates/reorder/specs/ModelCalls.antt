@@ -14,7 +14,7 @@ use Rattle.playout.specs.Sizes.{storeSize}
 use Rattle.playout.specs.Entries.{Held}
 use Rattle.playout.specs.Verdicts.{Gathered, judgeAll}
 use Rattle.layout.specs.Model.{Model}
-use Rattle.reorder.specs.Rows.{copiesOf}
+use Rattle.reorder.specs.Rows.{receivedIn}
 
 -- a call refused, with the place of a packet's fault, or what it comes to
 pub data Result (A : Type 0) : Type 0 where
@@ -31,7 +31,7 @@ pub record Offered : Type 0 where
 -- a packet that was read, or not
 abbrev pub judgeRead : Held → List ℕ → List ℕ → Outcome → Result Offered
 judgeRead h packet store (unread f) = refused f
-judgeRead h packet store (readAs x rs request) = done (record { rows = rs; gathered = judgeAll h store (copiesOf packet rs) })
+judgeRead h packet store (readAs x rs request) = done (record { rows = rs; gathered = judgeAll h store (receivedIn packet rs) })
 
 -- a packet offered with a row area of so many words: 12, then reading's own refusals
 unfoldable pub offerTo : Model → List ℕ → ℕ → List ℕ → Result Offered

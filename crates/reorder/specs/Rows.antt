@@ -8,7 +8,7 @@ use Rattle.formats.specs.Frames.{noData}
 use Rattle.rtp.specs.Sizes.{rowWidth}
 use Rattle.payload.specs.Rows.{Row, rowOf}
 use Rattle.packet.specs.Readings.{Outcome, refused, readAs}
-use Rattle.playout.specs.Copies.{Copy}
+use Rattle.playout.specs.Copies.{Copy, Received}
 
 -- the row at the front of an area, and the area after it
 abbrev pub firstRow : List ℕ → Row
@@ -21,12 +21,16 @@ restWords ws = take (length ws - rowWidth) (drop rowWidth ws)
 abbrev pub copyOf : List ℕ → Row → Copy
 copyOf packet r = record { time = r .time; channel = r .channel; class = r .class; bytes = take (r .length) (drop (r .start) packet) }
 
+-- with its mark
+abbrev pub receivedAs : List ℕ → Row → Received
+receivedAs packet r = record { copy = copyOf packet r; primary = r .primary }
+
 -- no-data rows are passed over
-unfoldable pub copiesOf : List ℕ → List Row → List Copy
-copiesOf packet [] = []
-copiesOf packet (r ∷ rs) = cond (eqb (r .class) noData) (copiesOf packet rs) (copyOf packet r ∷ copiesOf packet rs)
+unfoldable pub receivedIn : List ℕ → List Row → List Received
+receivedIn packet [] = []
+receivedIn packet (r ∷ rs) = cond (eqb (r .class) noData) (receivedIn packet rs) (receivedAs packet r ∷ receivedIn packet rs)
 
 -- the copies of a packet that is read
-abbrev pub readCopies : List ℕ → Outcome → List Copy
-readCopies packet (refused f) = []
-readCopies packet (readAs h rs request) = copiesOf packet rs
+abbrev pub readReceived : List ℕ → Outcome → List Received
+readReceived packet (refused f) = []
+readReceived packet (readAs h rs request) = receivedIn packet rs

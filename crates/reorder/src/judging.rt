@@ -21,7 +21,7 @@ ghost use Rattle.playout.specs.Sizes.{slots as slotCount};
 ghost use Rattle.layout.specs.Bits.{heldIn};
 ghost use Rattle.layout.specs.Layout.{assembled};
 ghost use Rattle.reorder.specs.Rows.{firstRow, restWords};
-ghost use Rattle.reorder.specs.Laying.{isLateOf, isFarOf, copyIn};
+ghost use Rattle.reorder.specs.Laying.{isLateOf, isFarOf, markIn, copyIn};
 ghost use Rattle.reorder.specs.Judging.{noTally, Judgeable, Timely, JudgedAs, RowsJudgeable, RowsJudged, RowJudged};
 
 // The verdict on a frame, and the occupied slots after it.
@@ -86,7 +86,7 @@ fn lay_copy(
         × Timely (assembled (now times) (now tags) (now lengths) (now slots) occupied fixed) (copyIn head (now frame)) ⌝ }
     ensures { λ r. ⌜ JudgedAs (assembled (now (times .entry)) (now (tags .entry)) (now (lengths .entry)) (now (slots .entry)) occupied fixed)
         (assembled (now (times .exit)) (now (tags .exit)) (now (lengths .exit)) (now (slots .exit)) (r .occupied) fixed)
-        (copyIn head (now (frame .entry))) (now (store .entry)) (now (store .exit)) (r .verdict) ⌝ }
+        (copyIn head (now (frame .entry))) (markIn head) (now (store .entry)) (now (store .exit)) (r .verdict) ⌝ }
 {
     let channel = tagging::tag_channel(head.tag);
     let search = columns::find_place(times, tags, n, head.time, channel);
@@ -138,7 +138,7 @@ fn judge_copy(
     requires { ⌜ Judgeable (assembled (now times) (now tags) (now lengths) (now slots) occupied fixed) head (now frame) (now store) ⌝ }
     ensures { λ r. ⌜ JudgedAs (assembled (now (times .entry)) (now (tags .entry)) (now (lengths .entry)) (now (slots .entry)) occupied fixed)
         (assembled (now (times .exit)) (now (tags .exit)) (now (lengths .exit)) (now (slots .exit)) (r .occupied) fixed)
-        (copyIn head (now (frame .entry))) (now (store .entry)) (now (store .exit)) (r .verdict) ⌝ }
+        (copyIn head (now (frame .entry))) (markIn head) (now (store .entry)) (now (store .exit)) (r .verdict) ⌝ }
 {
     if is_late(fixed, head) {
         return Step {

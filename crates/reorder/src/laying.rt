@@ -19,7 +19,7 @@ pub struct FrameHead {
     pub tag: u32,
 }
 
-// A frame whose pair is held, as the entry at a place: a better copy replaces it in its slot.
+// A frame whose pair is held, as the entry at a place: a better copy replaces it in its slot, and the entry is marked if either is.
 pub(crate) fn replace_copy(
     tags: &mut [u32; SLOTS],
     lengths: &mut [u32; SLOTS],
@@ -35,18 +35,19 @@ pub(crate) fn replace_copy(
 {
     let start = SLOT_SIZE * (slots[at] as usize);
     let end = start + (lengths[at] as usize);
-    let class = tagging::tag_class(tags[at]);
+    let held = tags[at];
     if compare::is_better(
         tagging::tag_class(head.tag),
         frame,
-        class,
+        tagging::tag_class(held),
         &store[start..end],
     ) {
-        tags[at] = head.tag;
+        tags[at] = tagging::join_mark(head.tag, held);
         lengths[at] = frame.len() as u32;
         areas::copy_into(store, start, frame);
         return Verdict::Better;
     }
+    tags[at] = tagging::join_mark(held, head.tag);
     Verdict::Repeated
 }
 

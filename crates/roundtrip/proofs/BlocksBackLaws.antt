@@ -14,6 +14,7 @@ use Rattle.rtp.specs.declared.settings.Settings.{Settings}
 use Rattle.rtp.specs.declared.redundancy.Redundant.{Redundant}
 use Rattle.rtp.specs.declared.redundancy.BlockHeader.{BlockHeader}
 use Rattle.rtp.proofs.RedundancyLaws.{headers-step}
+use Rattle.formats.specs.Tags.{primaryMark, redundantMark}
 use Rattle.payload.specs.Rows.{Row}
 use Rattle.payload.specs.Payloads.{Rows, noRequest, requestOf}
 use Rattle.packet.specs.Blocks.{cut, typedBlockRows, thenRows, blocksRows, redundantRows}
@@ -22,11 +23,13 @@ use Rattle.packet.proofs.AnswerLaws.{then-none}
 use Rattle.packet.proofs.BlockLaws.{block}
 use Rattle.plans.specs.Lists.{outside, firstTime}
 use Rattle.sender.proofs.WordLaws.{outside-take, outside-drop}
+use Rattle.roundtrip.specs.Marks.{AllMarked, PrimaryLast}
 use Rattle.roundtrip.specs.ReadingBack.{readRequest, SameFrames}
 use Rattle.roundtrip.proofs.PlanRowLaws.{Times}
 use Rattle.sender.specs.Parts.{maxOffset, maxBlock, Part}
 use Rattle.sender.specs.Packets.{blockHeaderBytes, headersBytes, blocksBytes}
 use Rattle.roundtrip.proofs.SameFrameLaws.{same-length, same-append}
+use Rattle.roundtrip.proofs.MarkLaws.{firstCount, laterCounts, one-list, more-lists}
 use Rattle.roundtrip.proofs.PayloadBackLaws.{Back, Reads, payload-back}
 use Rattle.roundtrip.proofs.PartLaws.{Made, times-take, times-drop, first-small}
 
@@ -70,13 +73,13 @@ within-blocks type [] p = omega arith
 within-blocks type (b ∷ bs) p = let e = within-blocks type bs p in rw length-append (omega arith)
 
 module _ (st : Settings) (request : ℕ) (bytes : List ℕ) (time type : ℕ) (small : type < 128) where
-  headers-back : (bs : List Part) (p rest : List ℕ) (rs : List Row) → Made st request bytes time bs p rs → headers (headersBytes type bs ++ rest) ≡ headersOf (redundantsOf type bs) type
+  headers-back : (counts : List ℕ) (bs : List Part) (p rest : List ℕ) (rs : List Row) → Made st request bytes time counts bs p rs → headers (headersBytes type bs ++ rest) ≡ headersOf (redundantsOf type bs) type
   unfolding headersBytes
-  headers-back [] p rest rs m = rw (headers-step (type ∷ rest), last-header-back type rest small)
-  headers-back (b ∷ bs) p rest rs m =
+  headers-back counts [] p rest rs m = rw (headers-step (type ∷ rest), last-header-back type rest small)
+  headers-back counts (b ∷ bs) p rest rs m =
       let next = headersBytes type bs ++ rest in
-      let e = headers-back bs p rest (drop (m .0) rs) (m .2) in
-      rw (headers-step (blockHeaderBytes type (b .offset) (length (b .bytes)) ++ next), block-header-back type b next small (m .1 .near) (m .1 .short)) (ap (prepend (redundantOf type b)) e)
+      let e = headers-back (laterCounts counts) bs p rest (drop (firstCount counts) rs) (m .1) in
+      rw (headers-step (blockHeaderBytes type (b .offset) (length (b .bytes)) ++ next), block-header-back type b next small (m .0 .near) (m .0 .short)) (ap (prepend (redundantOf type b)) e)
 
 -- Blocks
 
@@ -86,20 +89,30 @@ difference-back time u t h = omega arith
 difference-none : (time : ℕ) → time < 2 ^ 32 → difference time 0 ≡ time
 difference-none time t = omega arith
 
--- the rows of a list's first n rows, and of the others after them
-back-then : (s bytes : List ℕ) (n : ℕ) (rs : List Row) (x : Rows) (next : ℕ → Rows) → Back s bytes (take n rs) x → Back s bytes (drop n rs) (next (length (take n rs))) → Back s bytes rs (thenRows x next)
-back-then s bytes n rs x next a b = record {
-  rows = a .rows ++ b .rows;
-  read = rw (a .read, same-length s bytes (a .rows) (take n rs) (a .same), b .read);
-  same = subst (SameFrames s bytes (a .rows ++ b .rows)) (take-append-drop n rs) (same-append s bytes (a .rows) (take n rs) (b .rows) (drop n rs) (a .same) (b .same));
-}
+-- the rows of one list are the primary block's
+pub back-last : (s bytes counts : List ℕ) (rs : List Row) (x : Rows) → length counts ≡ 1 → Back s bytes rs (AllMarked primaryMark) x → Back s bytes rs (PrimaryLast counts) x
+back-last s bytes counts rs x n b = record { rows = b .rows; read = b .read; same = b .same; heard = one-list counts (b .rows) n (b .heard) }
 
-last-block : (st : Settings) (done time type at : ℕ) (p : List ℕ) → blocksRows st done time (cut [] type at p) ≡ typedBlockRows st done time (block type 0 at p)
+-- the rows of the first list, a redundant block's, and those of the others after them
+back-then : (s bytes counts : List ℕ) (rs : List Row) (x : Rows) (next : ℕ → Rows) → 2 ≤ length counts → Back s bytes (take (firstCount counts) rs) (AllMarked redundantMark) x
+    → Back s bytes (drop (firstCount counts) rs) (PrimaryLast (laterCounts counts)) (next (length (take (firstCount counts) rs))) → Back s bytes rs (PrimaryLast counts) (thenRows x next)
+back-then s bytes counts rs x next h a b =
+    let n = firstCount counts in
+    let k = same-length s bytes (a .rows) (take n rs) (a .same) in
+    let l = same-length s bytes (b .rows) (drop n rs) (b .same) in
+    record {
+      rows = a .rows ++ b .rows;
+      read = rw (a .read, k, b .read);
+      same = subst (SameFrames s bytes (a .rows ++ b .rows)) (take-append-drop n rs) (same-append s bytes (a .rows) (take n rs) (b .rows) (drop n rs) (a .same) (b .same));
+      heard = more-lists counts rs (a .rows) (b .rows) h k l (a .heard) (b .heard);
+    }
+
+last-block : (st : Settings) (done time type at : ℕ) (p : List ℕ) → blocksRows st done time (cut [] type at p) ≡ typedBlockRows st done time (block primaryMark type 0 at p)
 unfolding blocksRows cut
-last-block st done time type at p = then-none (typedBlockRows st done time (block type 0 at p))
+last-block st done time type at p = then-none (typedBlockRows st done time (block primaryMark type 0 at p))
 
 first-block : (st : Settings) (done time type at : ℕ) (b : Part) (hs : List Redundant) (c : List ℕ) → blocksRows st done time (cut (redundantOf type b ∷ hs) type at (b .bytes ++ c))
-    ≡ thenRows (typedBlockRows st done time (block type (b .offset) at (b .bytes))) (λ n. blocksRows st (done + n) time (cut hs type (at + length (b .bytes)) c))
+    ≡ thenRows (typedBlockRows st done time (block redundantMark type (b .offset) at (b .bytes))) (λ n. blocksRows st (done + n) time (cut hs type (at + length (b .bytes)) c))
 unfolding blocksRows cut
 first-block st done time type at b hs c = rw (take-append-seam (b .bytes) c, drop-append-seam (b .bytes) c)
 
@@ -113,65 +126,66 @@ blocks-request st found at (b ∷ bs) p h =
 
 module _ (st : Settings) (request : ℕ) (bytes : List ℕ) (time : ℕ) (some : 1 ≤ st .channels) (t : time < 2 ^ 32) where
   -- a block whose time is its list's, anywhere
-  block-back : (offset : ℕ) (p : List ℕ) (rs : List Row) → Reads st request bytes p rs → difference time offset ≡ firstTime rs → (front rest : List ℕ) (done : ℕ) → done + length rs ≤ maxRows
-      → Back (front ++ (p ++ rest)) bytes rs (typedBlockRows st done time (block (st .«payload_type») offset (length front) p))
+  block-back : (mark offset : ℕ) (p : List ℕ) (rs : List Row) → Reads st request bytes p rs → difference time offset ≡ firstTime rs → (front rest : List ℕ) (done : ℕ) → done + length rs ≤ maxRows
+      → Back (front ++ (p ++ rest)) bytes rs (AllMarked mark) (typedBlockRows st done time (block mark (st .«payload_type») offset (length front) p))
   unfolding typedBlockRows
-  block-back offset p rs r e front rest done few =
-      let b = r .back front rest done few in
-      record { rows = b .rows; read = rw (eq-eqb (st .«payload_type») (st .«payload_type») refl, ne-eqb (length p) 0 (omega (arith, r .some)), e) (b .read); same = b .same }
+  block-back mark offset p rs r e front rest done few =
+      let b = r .back mark front rest done few in
+      record { rows = b .rows; read = rw (eq-eqb (st .«payload_type») (st .«payload_type») refl, ne-eqb (length p) 0 (omega (arith, r .some)), e) (b .read); same = b .same; heard = b .heard }
 
-  blocks-back : (bs : List Part) (p : List ℕ) (rs : List Row) → Made st request bytes time bs p rs → Times rs → outside (length bytes) rs ≡ false
+  blocks-back : (counts : List ℕ) (bs : List Part) (p : List ℕ) (rs : List Row) → Made st request bytes time counts bs p rs → Times rs → outside (length bytes) rs ≡ false
       → (front : List ℕ) (done : ℕ) → done + length rs ≤ maxRows
-      → Back (front ++ blocksBytes bs p) bytes rs (blocksRows st done time (cut (redundantsOf (st .«payload_type») bs) (st .«payload_type») (length front) (blocksBytes bs p)))
+      → Back (front ++ blocksBytes bs p) bytes rs (PrimaryLast counts) (blocksRows st done time (cut (redundantsOf (st .«payload_type») bs) (st .«payload_type») (length front) (blocksBytes bs p)))
   unfolding blocksBytes
-  blocks-back [] p rs m times inside front done few =
-      let x = block-back 0 p rs (payload-back st request bytes p rs some times inside (m .0)) (difference-none time t ∙ sym (m .1)) front [] done few in
-      rw (last-block st done time (st .«payload_type») (length front) p) (rw (append-nil p) at x)
-  blocks-back (b ∷ bs) p rs m times inside front done few =
-      let n = m .0 in
+  blocks-back counts [] p rs m times inside front done few =
+      let x = block-back primaryMark 0 p rs (payload-back st request bytes p rs some times inside (m .0)) (difference-none time t ∙ sym (m .1)) front [] done few in
+      rw (last-block st done time (st .«payload_type») (length front) p) (back-last _ bytes counts rs _ (m .2) (rw (append-nil p) at x))
+  blocks-back counts (b ∷ bs) p rs m times inside front done few =
+      let n = firstCount counts in
       let c = blocksBytes bs p in
       let first : Times (take n rs) = times-take n rs times in
       let size : length (take n rs) + length (drop n rs) ≡ length rs = sym (length-append (take n rs) (drop n rs)) ∙ ap (λ (l : List Row). length l) (take-append-drop n rs) in
       let x =
-      block-back (b .offset) (b .bytes) (take n rs)
-      (payload-back st request bytes (b .bytes) (take n rs) some first (outside-take (length bytes) n rs inside) (m .1 .payload))
-      (ap (difference time) (m .1 .offset) ∙ difference-back time (firstTime (take n rs)) t (first-small (take n rs) first)) front c done (omega arith) in
+      block-back redundantMark (b .offset) (b .bytes) (take n rs)
+      (payload-back st request bytes (b .bytes) (take n rs) some first (outside-take (length bytes) n rs inside) (m .0 .payload))
+      (ap (difference time) (m .0 .offset) ∙ difference-back time (firstTime (take n rs)) t (first-small (take n rs) first)) front c done (omega arith) in
       let y =
-      blocks-back bs p (drop n rs) (m .2) (times-drop n rs times) (outside-drop (length bytes) n rs inside) (front ++ b .bytes) (done + length (take n rs)) (omega arith) in
+      blocks-back (laterCounts counts) bs p (drop n rs) (m .1) (times-drop n rs times) (outside-drop (length bytes) n rs inside) (front ++ b .bytes) (done + length (take n rs)) (omega arith) in
       rw (first-block st done time (st .«payload_type») (length front) b (redundantsOf (st .«payload_type») bs) c)
-      (back-then (front ++ (b .bytes ++ c)) bytes n rs _ _ x (rw (append-assoc front (b .bytes) c, length-append front (b .bytes)) at y))
+      (back-then (front ++ (b .bytes ++ c)) bytes counts rs _ _ (m .2) x (rw (append-assoc front (b .bytes) c, length-append front (b .bytes)) at y))
 
   -- the whole payload, after a front
-  pub redundant-back : (bs : List Part) (p : List ℕ) (rs : List Row) → Made st request bytes time bs p rs → Times rs → outside (length bytes) rs ≡ false → st .«payload_type» < 128
+  pub redundant-back : (counts : List ℕ) (bs : List Part) (p : List ℕ) (rs : List Row) → Made st request bytes time counts bs p rs → Times rs → outside (length bytes) rs ≡ false → st .«payload_type» < 128
       → length rs ≤ maxRows → length (headersBytes (st .«payload_type») bs ++ blocksBytes bs p) ≤ maxPacket → (front : List ℕ)
-      → Back (front ++ (headersBytes (st .«payload_type») bs ++ blocksBytes bs p)) bytes rs (redundantRows st time (length front) (headersBytes (st .«payload_type») bs ++ blocksBytes bs p))
+      → Back (front ++ (headersBytes (st .«payload_type») bs ++ blocksBytes bs p)) bytes rs (PrimaryLast counts) (redundantRows st time (length front) (headersBytes (st .«payload_type») bs ++ blocksBytes bs p))
   unfolding redundantRows redundancyHeaders
-  redundant-back bs p rs m times inside small few short front =
+  redundant-back counts bs p rs m times inside small few short front =
       let type = st .«payload_type» in
       let a = headersBytes type bs in
       let c = blocksBytes bs p in
       let hs = redundantsOf type bs in
       let n = length-headers type bs in
       let room : redundantSize hs ≤ length (a ++ c) - headersSize hs = rw (length-append a c, ← n) (omega (arith, within-blocks type bs p)) in
-      let x = blocks-back bs p rs m times inside (front ++ a) 0 (omega arith) in
-      rw (le-ltb maxPacket (length (a ++ c)) short, headers-back st request bytes time type small bs p c rs m)
+      let x = blocks-back counts bs p rs m times inside (front ++ a) 0 (omega arith) in
+      rw (le-ltb maxPacket (length (a ++ c)) short, headers-back st request bytes time type small counts bs p c rs m)
       (rw (le-ltb (length (a ++ c) - headersSize hs) (redundantSize hs) room, ← n, drop-append-seam a c) (rw (append-assoc front a c, length-append front a) at x))
 
   -- the mode request of a made packet is that of its primary payload, the last
-  pub primary-request : (bs : List Part) (p : List ℕ) (rs : List Row) → Made st request bytes time bs p rs → Times rs → outside (length bytes) rs ≡ false
+  pub primary-request : (counts : List ℕ) (bs : List Part) (p : List ℕ) (rs : List Row) → Made st request bytes time counts bs p rs → Times rs → outside (length bytes) rs ≡ false
       → (1 ≤ length p) × (requestOf (st .format) p ≡ readRequest (st .format) request)
-  primary-request [] p rs m times inside = let r = payload-back st request bytes p rs some times inside (m .0) in (r .some, r .asked)
-  primary-request (b ∷ bs) p rs m times inside =
-      primary-request bs p (drop (m .0) rs) (m .2) (times-drop (m .0) rs times) (outside-drop (length bytes) (m .0) rs inside)
+  primary-request counts [] p rs m times inside = let r = payload-back st request bytes p rs some times inside (m .0) in (r .some, r .asked)
+  primary-request counts (b ∷ bs) p rs m times inside =
+      let n = firstCount counts in
+      primary-request (laterCounts counts) bs p (drop n rs) (m .1) (times-drop n rs times) (outside-drop (length bytes) n rs inside)
 
-  pub redundant-request : (bs : List Part) (p : List ℕ) (rs : List Row) → Made st request bytes time bs p rs → Times rs → outside (length bytes) rs ≡ false → st .«payload_type» < 128
+  pub redundant-request : (counts : List ℕ) (bs : List Part) (p : List ℕ) (rs : List Row) → Made st request bytes time counts bs p rs → Times rs → outside (length bytes) rs ≡ false → st .«payload_type» < 128
       → length (headersBytes (st .«payload_type») bs ++ blocksBytes bs p) ≤ maxPacket
       → redundantRequest st (headersBytes (st .«payload_type») bs ++ blocksBytes bs p) ≡ readRequest (st .format) request
   unfolding redundantRequest redundancyHeaders
-  redundant-request bs p rs m times inside small short =
+  redundant-request counts bs p rs m times inside small short =
       let type = st .«payload_type» in
       let a = headersBytes type bs in
       let c = blocksBytes bs p in
-      let r = primary-request bs p rs m times inside in
-      rw (le-ltb maxPacket (length (a ++ c)) short, headers-back st request bytes time type small bs p c rs m, ← (length-headers type bs), drop-append-seam a c)
+      let r = primary-request counts bs p rs m times inside in
+      rw (le-ltb maxPacket (length (a ++ c)) short, headers-back st request bytes time type small counts bs p c rs m, ← (length-headers type bs), drop-append-seam a c)
       (blocks-request st noRequest 0 bs p (r .0) ∙ r .1)

@@ -1,4 +1,4 @@
--- Laws of rows but for their starts, and of their frames laid one after another.
+-- Laws of rows but for their starts and marks, and of their frames laid one after another.
 use mathlib.Core.Path.{_≡_, refl, ap, sym, _∙_, subst}
 use mathlib.Core.List.{List, [], _∷_, _++_, append-assoc}
 use mathlib.Core.Bool.{false}
@@ -17,9 +17,9 @@ use Rattle.plans.specs.Room.{lengthsIn}
 use Rattle.roundtrip.specs.ReadingBack.{SameFrames}
 use Rattle.roundtrip.proofs.TableBlockLaws.{Laid}
 
--- a row but for its start
+-- a row but for its start and its mark
 abbrev pub plain : Row → Row
-plain r = record { time = r .time; class = r .class; channel = r .channel; start = 0; length = r .length }
+plain r = record { time = r .time; class = r .class; channel = r .channel; start = 0; length = r .length; primary = 0 }
 
 abbrev pub plains : List Row → List Row
 plains [] = []
@@ -29,7 +29,7 @@ pub plains-append : (a b : List Row) → plains (a ++ b) ≡ plains a ++ plains 
 plains-append [] b = refl
 plains-append (r ∷ a) b = rw (plains-append a b)
 
--- rows that are the same but for their starts
+-- rows that are the same but for their starts and marks
 pub record Alike (q r : Row) : Type 0 where
   pub time : q .time ≡ r .time
   pub class : q .class ≡ r .class
@@ -54,7 +54,7 @@ pub same-plains : (p bytes : List ℕ) (qs rs : List Row) → SameFrames p bytes
 same-plains p bytes [] [] h = refl
 same-plains p bytes [] (r ∷ rs) h = absurd h
 same-plains p bytes (q ∷ qs) [] h = absurd h
-same-plains p bytes (q ∷ qs) (r ∷ rs) h = let e = same-plains p bytes qs rs (h .1) in λ i. record { time = h .0 .time i; class = h .0 .class i; channel = h .0 .channel i; start = 0; length = h .0 .length i } ∷ e i
+same-plains p bytes (q ∷ qs) (r ∷ rs) h = let e = same-plains p bytes qs rs (h .1) in λ i. record { time = h .0 .time i; class = h .0 .class i; channel = h .0 .channel i; start = 0; length = h .0 .length i; primary = 0 } ∷ e i
 
 pub lengths-plains : (rs : List Row) → lengthsIn (plains rs) ≡ lengthsIn rs
 unfolding lengthsIn

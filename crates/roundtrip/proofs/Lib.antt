@@ -3,6 +3,7 @@ pub mod TableBackLaws
 pub mod ByteLaws
 pub mod TableBlockLaws
 pub mod FrameLaws
+pub mod MarkLaws
 pub mod AttachLaws
 pub mod ShortestLaws
 pub mod TickLaws
@@ -19,4 +20,6 @@ pub mod BlocksBackLaws
 pub mod PacketTheorem
 pub mod UnfoldingTheorems
 pub mod MeasureTheorem
+pub mod MarkTheorems
+pub mod BitAboveTheorems
 pub mod ZeroBitsTheorem

@@ -11,6 +11,7 @@ use Rattle.rtp.specs.Sizes.{maxPacket, maxRows, rowWidth}
 use Rattle.rtp.specs.declared.settings.Settings.{Settings}
 use Rattle.rtp.specs.declared.refusal.Refusal.{Refusal}
 use Rattle.rtp.proofs.TestLaws.{both, either}
+use Rattle.formats.specs.Tags.{primaryMark}
 use Rattle.payload.specs.Rows.{Row}
 use Rattle.packet.specs.Readings.{typedRows}
 use Rattle.packet.specs.Requests.{typedRequest}
@@ -23,13 +24,14 @@ use Rattle.plans.proofs.ListLaws.{length-rows}
 use Rattle.roundtrip.proofs.PlanRowLaws.{Times}
 use Rattle.sender.specs.Parts.{maxRedundant, total, primaryTime, Part, Parts, noParts, partsOf, parts}
 use Rattle.sender.specs.Packets.{Heading, headerBytes, bodyBytes, packetType, redundancyMissing, assembledFrom, assembled, countsFit, sending}
+use Rattle.roundtrip.specs.Marks.{PrimaryLast}
 use Rattle.roundtrip.specs.ReadingBack.{readRequest}
 use Rattle.roundtrip.specs.PacketClaims.{ReadsBack, PacketRoundTrip}
 use Rattle.rtp.proofs.RangeLaws.{Ranged, ranged}
 use Rattle.roundtrip.proofs.HeaderBackLaws.{headOf, header-back, payload-after}
 use Rattle.roundtrip.proofs.PayloadBackLaws.{Back, payload-back}
 use Rattle.roundtrip.proofs.PartLaws.{Made, made, primary-small}
-use Rattle.roundtrip.proofs.BlocksBackLaws.{redundant-back, primary-request, redundant-request}
+use Rattle.roundtrip.proofs.BlocksBackLaws.{back-last, redundant-back, primary-request, redundant-request}
 
 -- What the counts say
 
@@ -97,26 +99,26 @@ type-small st [] g k = g .plain
 type-small st (b ∷ bs) g k = g .redundant k .0
 
 -- a packet of the list rs gives its rows, plain or redundant
-module _ (st : Settings) (request : ℕ) (h : Heading) (bytes : List ℕ) (rs : List Row) (time : ℕ) (g : Ranged st) (t : time < 2 ^ 32) (ts : Times rs) (inside : outside (length bytes) rs ≡ false) (few : length rs ≤ maxRows) where
-  typed-back : (bs : List Part) (p : List ℕ) → Made st request bytes time bs p rs → redundancyMissing st bs ≡ false → length (packet st h time bs p) ≤ maxPacket → (n : ℕ)
-      → Back (packet st h time bs p) bytes rs (typedRows st (headOf h (packetType st bs) time n) (bodyBytes st bs p))
+module _ (st : Settings) (request : ℕ) (h : Heading) (counts bytes : List ℕ) (rs : List Row) (time : ℕ) (g : Ranged st) (t : time < 2 ^ 32) (ts : Times rs) (inside : outside (length bytes) rs ≡ false) (few : length rs ≤ maxRows) where
+  typed-back : (bs : List Part) (p : List ℕ) → Made st request bytes time counts bs p rs → redundancyMissing st bs ≡ false → length (packet st h time bs p) ≤ maxPacket → (n : ℕ)
+      → Back (packet st h time bs p) bytes rs (PrimaryLast counts) (typedRows st (headOf h (packetType st bs) time n) (bodyBytes st bs p))
   unfolding typedRows bodyBytes
   typed-back [] p m k l n =
-      let x = payload-back st request bytes p rs (g .channels) ts inside (m .0) .back (headerBytes h (st .«payload_type») time) [] 0 (omega arith) in
-      rw (eq-eqb (st .«payload_type») (st .«payload_type») refl) (rw (append-nil p, m .1) at x)
+      let x = payload-back st request bytes p rs (g .channels) ts inside (m .0) .back primaryMark (headerBytes h (st .«payload_type») time) [] 0 (omega arith) in
+      rw (eq-eqb (st .«payload_type») (st .«payload_type») refl) (back-last _ bytes counts rs _ (m .2) (rw (append-nil p, m .1) at x))
   typed-back (b ∷ bs) p m k l n =
       let type = st .«redundancy_type» in
       rw (ne-eqb type (st .«payload_type») (g .redundant k .1), eq-eqb type type refl)
-      (redundant-back st request bytes time (g .channels) t (b ∷ bs) p rs m ts inside (g .plain) few (omega arith) (headerBytes h type time))
+      (redundant-back st request bytes time (g .channels) t counts (b ∷ bs) p rs m ts inside (g .plain) few (omega arith) (headerBytes h type time))
 
-  typed-request : (bs : List Part) (p : List ℕ) → Made st request bytes time bs p rs → redundancyMissing st bs ≡ false → length (packet st h time bs p) ≤ maxPacket
+  typed-request : (bs : List Part) (p : List ℕ) → Made st request bytes time counts bs p rs → redundancyMissing st bs ≡ false → length (packet st h time bs p) ≤ maxPacket
       → typedRequest st (packetType st bs) (bodyBytes st bs p) ≡ readRequest (st .format) request
   unfolding typedRequest bodyBytes
-  typed-request [] p m k l = rw (eq-eqb (st .«payload_type») (st .«payload_type») refl) (primary-request st request bytes time (g .channels) t [] p rs m ts inside .1)
+  typed-request [] p m k l = rw (eq-eqb (st .«payload_type») (st .«payload_type») refl) (primary-request st request bytes time (g .channels) t counts [] p rs m ts inside .1)
   typed-request (b ∷ bs) p m k l =
       let type = st .«redundancy_type» in
       rw (ne-eqb type (st .«payload_type») (g .redundant k .1), eq-eqb type type refl)
-      (redundant-request st request bytes time (g .channels) t (b ∷ bs) p rs m ts inside (g .plain) (omega arith))
+      (redundant-request st request bytes time (g .channels) t counts (b ∷ bs) p rs m ts inside (g .plain) (omega arith))
 
 pub packet-round-trip : PacketRoundTrip
 packet-round-trip st request h counts ws bytes area rows q words sequence source room k =
@@ -131,14 +133,15 @@ packet-round-trip st request h counts ws bytes area rows q words sequence source
     let body = bodyBytes st (a .blocks) (a .primary) in
     let head = headOf h type time (length (headerBytes h type time ++ body)) in
     let m = made st request bytes time counts rs (a .blocks) (a .primary) refl (a .are) in
-    let x = typed-back st request h bytes rs time g t ts (s .inside) (few-rows counts ws (s .fits)) (a .blocks) (a .primary) m (a .typed) (a .short) (head .end) in
-    let y = typed-request st request h bytes rs time g t ts (s .inside) (few-rows counts ws (s .fits)) (a .blocks) (a .primary) m (a .typed) (a .short) in
+    let x = typed-back st request h counts bytes rs time g t ts (s .inside) (few-rows counts ws (s .fits)) (a .blocks) (a .primary) m (a .typed) (a .short) (head .end) in
+    let y = typed-request st request h counts bytes rs time g t ts (s .inside) (few-rows counts ws (s .fits)) (a .blocks) (a .primary) m (a .typed) (a .short) in
     let read = header-back h type time body (type-small st (a .blocks) g (a .typed)) sequence t source (a .short) in
     subst (λ (l : List ℕ). ReadsBack st request h counts ws bytes l rows) (a .same) (record {
       head = head;
       rows = x .rows;
       read = reading-headed st rows (headerBytes h type time ++ body) (asked st request (s .range) .settings) room head read ∙ rw (payload-after h type time body, x .read, y);
       same = x .same;
+      heard = x .heard;
       marker = refl;
       sequence = refl;
       timestamp = refl;

@@ -12,6 +12,7 @@ use Rattle.rtp.specs.declared.settings.Settings.{Settings}
 use Rattle.payload.specs.Rows.{Row}
 use Rattle.encoder.specs.Writings.{Encoded, noBytes, bytesOf, encoded}
 use Rattle.plans.specs.Lists.{firstTime}
+use Rattle.roundtrip.proofs.MarkLaws.{firstCount, laterCounts}
 use Rattle.roundtrip.proofs.PlanRowLaws.{Times}
 use Rattle.sender.specs.Parts.{maxOffset, maxBlock, primaryTime, Part, Parts, noParts, partsOf, primaryPart, prependPart, redundantPart, parts}
 
@@ -44,10 +45,11 @@ pub record Redundancy (st : Settings) (request : ℕ) (bytes : List ℕ) (time :
   pub near : b .offset ≤ maxOffset
   pub short : length (b .bytes) ≤ maxBlock
 
--- the redundant blocks bs and the primary payload p of the list rs, with this mode request: each block has some of its first rows
-abbrev pub Made : Settings → ℕ → List ℕ → ℕ → List Part → List ℕ → List Row → Type 0
-Made st request bytes time [] p rs = (encoded st request bytes rs ≡ bytesOf p) × (firstTime rs ≡ time)
-Made st request bytes time (b ∷ bs) p rs = (n : ℕ) × Redundancy st request bytes time b (take n rs) × Made st request bytes time bs p (drop n rs)
+-- the redundant blocks bs and the primary payload p of the lists of so many rows in rs, with this mode request
+abbrev pub Made : Settings → ℕ → List ℕ → ℕ → List ℕ → List Part → List ℕ → List Row → Type 0
+Made st request bytes time counts [] p rs = (encoded st request bytes rs ≡ bytesOf p) × (firstTime rs ≡ time) × (length counts ≡ 1)
+Made st request bytes time counts (b ∷ bs) p rs =
+    Redundancy st request bytes time b (take (firstCount counts) rs) × Made st request bytes time (laterCounts counts) bs p (drop (firstCount counts) rs) × (2 ≤ length counts)
 
 record Same (bs : List Part) (p : List ℕ) (cs : List Part) (q : List ℕ) : Type 0 where
   blocks : bs ≡ cs
@@ -61,40 +63,40 @@ past true x bs p h = let z : _≡_ {A = ℕ} 0 1 = cc in absurd (omega arith)
 past false x bs p h = (refl, h)
 
 module _ (st : Settings) (request : ℕ) (bytes : List ℕ) (time : ℕ) where
-  made-last : (rs : List Row) (bs : List Part) (p : List ℕ) → time ≡ firstTime rs → primaryPart (encoded st request bytes rs) ≡ partsOf bs p → Made st request bytes time bs p rs
-  made-last rs bs p t h = go (encoded st request bytes rs) refl h
+  made-last : (n : ℕ) (rs : List Row) (bs : List Part) (p : List ℕ) → time ≡ firstTime rs → primaryPart (encoded st request bytes rs) ≡ partsOf bs p → Made st request bytes time (n ∷ []) bs p rs
+  made-last n rs bs p t h = go (encoded st request bytes rs) refl h
     where
-      go : (x : Encoded) → encoded st request bytes rs ≡ x → primaryPart x ≡ partsOf bs p → Made st request bytes time bs p rs
+      go : (x : Encoded) → encoded st request bytes rs ≡ x → primaryPart x ≡ partsOf bs p → Made st request bytes time (n ∷ []) bs p rs
       go (noBytes r) e k = let z : _≡_ {A = ℕ} 0 1 = cc in absurd (omega arith)
       go (bytesOf q) e k =
           let s = same-parts [] bs q p k in
-          subst (λ (l : List Part). Made st request bytes time l p rs) (s .blocks) (e ∙ ap bytesOf (s .primary), sym t)
+          subst (λ (l : List Part). Made st request bytes time (n ∷ []) l p rs) (s .blocks) (e ∙ ap bytesOf (s .primary), sym t, refl)
 
-  made-more : (n : ℕ) (rs : List Row) (rest : Parts) (bs : List Part) (p : List ℕ) → ((cs : List Part) (q : List ℕ) → rest ≡ partsOf cs q → Made st request bytes time cs q (drop n rs))
-      → redundantPart (difference time (firstTime (take n rs))) (encoded st request bytes (take n rs)) rest ≡ partsOf bs p → Made st request bytes time bs p rs
-  made-more n rs rest bs p ih h = go (encoded st request bytes (take n rs)) refl h
+  made-more : (n m : ℕ) (ns : List ℕ) (rs : List Row) (rest : Parts) (bs : List Part) (p : List ℕ) → ((cs : List Part) (q : List ℕ) → rest ≡ partsOf cs q → Made st request bytes time (m ∷ ns) cs q (drop n rs))
+      → redundantPart (difference time (firstTime (take n rs))) (encoded st request bytes (take n rs)) rest ≡ partsOf bs p → Made st request bytes time (n ∷ m ∷ ns) bs p rs
+  made-more n m ns rs rest bs p ih h = go (encoded st request bytes (take n rs)) refl h
     where
       offset : ℕ
       offset = difference time (firstTime (take n rs))
 
       put : (q : List ℕ) → encoded st request bytes (take n rs) ≡ bytesOf q → length q ≤ maxBlock → offset ≤ maxOffset → (x : Parts) → rest ≡ x
-          → prependPart (record { offset = offset; bytes = q }) x ≡ partsOf bs p → Made st request bytes time bs p rs
+          → prependPart (record { offset = offset; bytes = q }) x ≡ partsOf bs p → Made st request bytes time (n ∷ m ∷ ns) bs p rs
       put q e short near noParts r k = let z : _≡_ {A = ℕ} 0 1 = cc in absurd (omega arith)
       put q e short near (partsOf cs d) r k =
           let b : Part = record { offset = offset; bytes = q } in
           let s = same-parts (b ∷ cs) bs d p k in
-          subst (λ (l : List Part). Made st request bytes time l p rs) (s .blocks)
-          (n, record { payload = e; offset = refl; near = near; short = short }, ih cs p (r ∙ ap (partsOf cs) (s .primary)))
+          subst (λ (l : List Part). Made st request bytes time (n ∷ m ∷ ns) l p rs) (s .blocks)
+          (record { payload = e; offset = refl; near = near; short = short }, ih cs p (r ∙ ap (partsOf cs) (s .primary)), omega arith)
 
-      go : (x : Encoded) → encoded st request bytes (take n rs) ≡ x → redundantPart offset x rest ≡ partsOf bs p → Made st request bytes time bs p rs
+      go : (x : Encoded) → encoded st request bytes (take n rs) ≡ x → redundantPart offset x rest ≡ partsOf bs p → Made st request bytes time (n ∷ m ∷ ns) bs p rs
       go (noBytes r) e k = let z : _≡_ {A = ℕ} 0 1 = cc in absurd (omega arith)
       go (bytesOf q) e k =
           let a = past (ltb maxBlock (length q)) _ bs p k in
           let b = past (ltb maxOffset offset) _ bs p (a .1) in
           put q e (ltb-false _ _ (a .0)) (ltb-false _ _ (b .0)) rest refl (b .1)
 
-  pub made : (counts : List ℕ) (rs : List Row) (bs : List Part) (p : List ℕ) → time ≡ primaryTime counts rs → parts st request bytes time counts rs ≡ partsOf bs p → Made st request bytes time bs p rs
+  pub made : (counts : List ℕ) (rs : List Row) (bs : List Part) (p : List ℕ) → time ≡ primaryTime counts rs → parts st request bytes time counts rs ≡ partsOf bs p → Made st request bytes time counts bs p rs
   unfolding primaryTime parts
   made [] rs bs p t h = let z : _≡_ {A = ℕ} 0 1 = cc in absurd (omega arith)
-  made (n ∷ []) rs bs p t h = made-last rs bs p t h
-  made (n ∷ m ∷ ns) rs bs p t h = made-more n rs (parts st request bytes time (m ∷ ns) (drop n rs)) bs p (λ cs q k. made (m ∷ ns) (drop n rs) cs q t k) h
+  made (n ∷ []) rs bs p t h = made-last n rs bs p t h
+  made (n ∷ m ∷ ns) rs bs p t h = made-more n m ns rs (parts st request bytes time (m ∷ ns) (drop n rs)) bs p (λ cs q k. made (m ∷ ns) (drop n rs) cs q t k) h

@@ -13,7 +13,7 @@ use Rattle.rtp.specs.Sizes.{maxRows}
 use Rattle.rtp.specs.declared.settings.Settings.{Settings}
 use Rattle.formats.specs.Formats.{formatOf, stepOf}
 use Rattle.contents.specs.Contents.{Group, Contents, refused, groups, contents, rowCount, sizeIn, framesIn}
-use Rattle.payload.specs.Rows.{Row, tableRows}
+use Rattle.payload.specs.Rows.{Row, tableRows, marked}
 use Rattle.payload.specs.Payloads.{body, payload, requestOf, Rows, rowsOf, placedRows, payloadRows}
 use Rattle.payload.proofs.PayloadLaws.{length-table}
 use Rattle.plans.specs.Lists.{outside, firstTime}
@@ -24,27 +24,30 @@ use Rattle.contents.proofs.EntryLaws.{size-some}
 use Rattle.encoder.proofs.EntryLaws.{length-table as length-table-bytes}
 use Rattle.encoder.proofs.FrameBytesLaws.{length-frames}
 use Rattle.encoder.proofs.RequestLaws.{length-request}
+use Rattle.roundtrip.specs.Marks.{AllMarked}
 use Rattle.roundtrip.specs.ReadingBack.{readRequest, SameFrames}
 use Rattle.roundtrip.proofs.TableBackLaws.{Runs, table-back}
 use Rattle.roundtrip.proofs.TableBlockLaws.{blocksIn, table-blocks, Laid, laid-blocks}
 use Rattle.roundtrip.proofs.FrameLaws.{length-plains, laid-same}
+use Rattle.roundtrip.proofs.MarkLaws.{all-marked, same-marked}
 use Rattle.roundtrip.proofs.ReadLaws.{pass-none}
 use Rattle.roundtrip.proofs.PlanRowLaws.{Times}
 use Rattle.roundtrip.proofs.PlanTableLaws.{Tabled, plan-table, frames-same}
 use Rattle.roundtrip.proofs.SameFrameLaws.{same-longer}
 
--- x is rows of the packet s, and they are the rows of the list rs
-pub record Back (s bytes : List ℕ) (rs : List Row) (x : Rows) : Type 0 where
+-- x is rows of the packet s, and they are the rows of the list rs and heard as H says
+pub record Back (s bytes : List ℕ) (rs : List Row) (H : List Row → Type 0) (x : Rows) : Type 0 where
   pub rows : List Row
   pub read : x ≡ rowsOf rows
   pub same : SameFrames s bytes rows rs
+  pub heard : H rows
 
 -- the payload p gives the rows of the list, at any place of a packet and after any rows that leave room, and the mode request
 pub record Reads (st : Settings) (request : ℕ) (bytes p : List ℕ) (rs : List Row) : Type 0 where
   pub some : 1 ≤ length p
   pub asked : requestOf (st .format) p ≡ readRequest (st .format) request
-  pub back : (front rest : List ℕ) (done : ℕ) → done + length rs ≤ maxRows
-      → Back (front ++ (p ++ rest)) bytes rs (payloadRows (st .format) (st .channels) done (firstTime rs) (length front) p)
+  pub back : (mark : ℕ) (front rest : List ℕ) (done : ℕ) → done + length rs ≤ maxRows
+      → Back (front ++ (p ++ rest)) bytes rs (AllMarked mark) (payloadRows mark (st .format) (st .channels) done (firstTime rs) (length front) p)
 
 pub some-table : (format : ℕ) (gs : List Group) → 1 ≤ length gs → 1 ≤ sizeIn format gs
 unfolding sizeIn
@@ -86,9 +89,9 @@ module _ (format request ch : ℕ) (bytes : List ℕ) (rs : List Row) (gs : List
       go [] r n few = absurd (omega arith)
       go (g ∷ gs) r n few = table-back format ch done g gs (frames bytes rs) r few
 
-  planned-read : (done at : ℕ) → done + length rs ≤ maxRows → payloadRows format ch done (firstTime rs) at Planned ≡ rowsOf (PlannedRows (at + formatOf format .header))
+  planned-read : (mark done at : ℕ) → done + length rs ≤ maxRows → payloadRows mark format ch done (firstTime rs) at Planned ≡ rowsOf (marked mark (PlannedRows (at + formatOf format .header)))
   unfolding payloadRows payload placedRows
-  planned-read done at h = rw (after-request format request Table, planned-contents done h, pass-none gs (v .first), eq-eqb (sizeIn format gs + framesIn ch gs) (length Table) (sym table-length))
+  planned-read mark done at h = rw (after-request format request Table, planned-contents done h, pass-none gs (v .first), eq-eqb (sizeIn format gs + framesIn ch gs) (length Table) (sym table-length))
 
   planned-laid : (at : ℕ) → Laid (at + sizeIn format gs) (PlannedRows at)
   planned-laid at =
@@ -128,9 +131,10 @@ payload-back st request bytes p rs some times inside h = go (plan (st .format) (
         subst (λ (q : List ℕ). Reads st request bytes q rs) (same _ k) (record {
           some = omega (arith, length-append (requestBytes (st .format) request) (tableBytes (st .format) gs ++ frames bytes rs), table-length (st .format) request (st .channels) bytes rs gs v inside, some-table (st .format) gs (v .some));
           asked = request-back (st .format) request (tableBytes (st .format) gs ++ frames bytes rs);
-          back = λ front rest done few. record {
-            rows = PlannedRows (st .format) request (st .channels) bytes rs gs v inside (length front + formatOf (st .format) .header);
-            read = planned-read (st .format) request (st .channels) bytes rs gs v inside done (length front) few;
-            same = planned-same (st .format) request (st .channels) bytes rs gs v inside front rest;
+          back = λ mark front rest done few. let qs = PlannedRows (st .format) request (st .channels) bytes rs gs v inside (length front + formatOf (st .format) .header) in record {
+            rows = marked mark qs;
+            read = planned-read (st .format) request (st .channels) bytes rs gs v inside mark done (length front) few;
+            same = same-marked _ bytes mark qs rs (planned-same (st .format) request (st .channels) bytes rs gs v inside front rest);
+            heard = all-marked mark qs;
           };
         })

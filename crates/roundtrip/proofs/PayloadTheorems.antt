@@ -16,7 +16,8 @@ use Rattle.rtp.specs.declared.refusal.Refusal.the-variants.{Unwritable, AreaToo
 use Rattle.rtp.proofs.TestLaws.{by-test}
 use Rattle.formats.specs.Formats.{formatOf, stepOf}
 use Rattle.contents.specs.Contents.{Group, Contents, refused, groups, contents, passFirst, rowCount, sizeIn, framesIn, sizesAnswer}
-use Rattle.payload.specs.Rows.{Row, tableRows}
+use Rattle.formats.specs.Tags.{primaryMark}
+use Rattle.payload.specs.Rows.{Row, tableRows, marked}
 use Rattle.payload.specs.Payloads.{exact, body, tableStart, startingAt, payload, requestOf, rowsOf, placedRows, payloadRows}
 use Rattle.contents.proofs.ContentsLaws.{Small, Within, within}
 use Rattle.payload.proofs.FirstLaws.{sizes-passed}
@@ -33,6 +34,7 @@ use Rattle.roundtrip.specs.ReadingBack.{Bytes, Words, SameFrames, ReadsT
 use Rattle.roundtrip.specs.PayloadClaims.{RoundTrip, PayloadOf, Longer, Unreadable, Answer, written, unwritable, too-short, Writing}
 use Rattle.roundtrip.proofs.ByteLaws.{bytes-append, bytes-request, bytes-table, bytes-frames}
 use Rattle.roundtrip.proofs.FrameLaws.{plains, same-plains}
+use Rattle.roundtrip.proofs.MarkLaws.{plains-marked}
 use Rattle.roundtrip.proofs.PlanRowLaws.{Times}
 use Rattle.roundtrip.proofs.PlanTableLaws.{Only, only-plan, plan-table, Plan, table-plan}
 use Rattle.roundtrip.proofs.PayloadBackLaws.{some-table, request-back, payload-back}
@@ -60,8 +62,8 @@ module _ (st : Settings) (request : ℕ) (ws bytes : List ℕ) (words : Words ws
     written-reads w =
         let p = requestBytes (st .format) request ++ (tableBytes (st .format) gs ++ frames bytes (rowsIn ws)) in
         let few : 0 + length (rowsIn ws) ≤ maxRows = omega (arith, length-rows ws, listed (st .format) (st .channels) ws gs h .few) in
-        let b = payload-back st request bytes p (rowsIn ws) (in-range-some st range) (times ws words) inside (rw h) .back [] [] 0 few in
-        record { whole-rows = w; rows = b .rows; read = b .read; same = subst (λ (q : List ℕ). SameFrames q bytes (b .rows) (rowsIn ws)) (append-nil p) (b .same) }
+        let b = payload-back st request bytes p (rowsIn ws) (in-range-some st range) (times ws words) inside (rw h) .back primaryMark [] [] 0 few in
+        record { whole-rows = w; rows = b .rows; read = b .read; same = subst (λ (q : List ℕ). SameFrames q bytes (b .rows) (rowsIn ws)) (append-nil p) (b .same); heard = b .heard }
 
     written-bytes : request ≤ maxRequest → Bytes bytes → Bytes (requestBytes (st .format) request ++ (tableBytes (st .format) gs ++ frames bytes (rowsIn ws)))
     written-bytes small bs =
@@ -120,16 +122,16 @@ record Parsed (format ch time : ℕ) (p : List ℕ) (rows : List Row) : Type 0 w
   table : List Group
   is : passFirst (contents format ch 0 (body format p)) ≡ groups table
   size : sizeIn format table + framesIn ch table ≡ length (body format p)
-  same : tableRows (stepOf format) ch time (0 + formatOf format .header + sizeIn format table) table ≡ rows
+  same : marked primaryMark (tableRows (stepOf format) ch time (0 + formatOf format .header + sizeIn format table) table) ≡ rows
 
-parsed : (format ch time : ℕ) (p : List ℕ) (rows : List Row) → payloadRows format ch 0 time 0 p ≡ rowsOf rows → Parsed format ch time p rows
+parsed : (format ch time : ℕ) (p : List ℕ) (rows : List Row) → payloadRows primaryMark format ch 0 time 0 p ≡ rowsOf rows → Parsed format ch time p rows
 unfolding payloadRows payload placedRows
 parsed format ch time p rows h = go (passFirst (contents format ch 0 (body format p))) refl h
   where
     same-rows : (a b : List Row) → rowsOf a ≡ rowsOf b → a ≡ b
     same-rows a b e = cc
 
-    go : (x : Contents) → passFirst (contents format ch 0 (body format p)) ≡ x → placedRows format ch time 0 (startingAt (tableStart format p) (exact format ch (length (body format p)) x)) ≡ rowsOf rows → Parsed format ch time p rows
+    go : (x : Contents) → passFirst (contents format ch 0 (body format p)) ≡ x → placedRows primaryMark format ch time 0 (startingAt (tableStart format p) (exact format ch (length (body format p)) x)) ≡ rowsOf rows → Parsed format ch time p rows
     go (refused q) e k = let z : _≡_ {A = ℕ} 0 1 = cc in absurd (omega arith)
     go (groups gs) e k =
         by-test (eqb (sizeIn format gs + framesIn ch gs) (length (body format p)))
@@ -152,7 +154,7 @@ readable-plan st ws bytes p words range bs l r =
     let v = read-passed (st .format) (st .channels) 0 q (k .table) (bytes-drop (formatOf (st .format) .header) p bs) (k .is) in
     table-plan (st .format) (st .channels) (0 + formatOf (st .format) .header + sizeIn (st .format) (k .table)) (rowsIn ws) (k .table) (in-range-some st range) (times ws words) (v .0) (v .1)
     (few-rows (st .format) (st .channels) q (k .table) (k .is))
-    (omega (arith, k .size, some-table (st .format) (k .table) (v .1), length-drop (formatOf (st .format) .header) p)) (sym (same-plains p bytes (r .rows) (rowsIn ws) (r .same)) ∙ ap plains (sym (k .same)))
+    (omega (arith, k .size, some-table (st .format) (k .table) (v .1), length-drop (formatOf (st .format) .header) p)) (sym (same-plains p bytes (r .rows) (rowsIn ws) (r .same)) ∙ ap plains (sym (k .same)) ∙ plains-marked primaryMark _)
 
 -- Writing
 

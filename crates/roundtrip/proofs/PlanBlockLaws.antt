@@ -1,4 +1,4 @@
--- Laws of a plan: it goes by what rows say but for their starts, and of a table's rows it is the table of their frame-blocks.
+-- Laws of a plan: it goes by what rows say but for their starts and marks, and of a table's rows it is the table of their frame-blocks.
 use mathlib.Core.Path.{_≡_, refl, ap, sym, _∙_}
 use mathlib.Core.List.{List, [], _∷_, _++_}
 use mathlib.Core.Bool.{true, cond}
@@ -23,10 +23,10 @@ use Rattle.roundtrip.proofs.TickLaws.{next, ticks}
 
 -- What a plan goes by: of the row before, the time, the class and the length
 
-abbrev rowLike : ℕ → ℕ → ℕ → Row
-rowLike time class len = record { time = time; class = class; channel = 0; start = 0; length = len }
+abbrev pub rowLike : ℕ → ℕ → ℕ → Row
+rowLike time class len = record { time = time; class = class; channel = 0; start = 0; length = len; primary = 0 }
 
-plan-like : (format ch c : ℕ) (p : Row) (rs : List Row) → planFrom format ch c p rs ≡ planFrom format ch c (rowLike (p .time) (p .class) (p .length)) rs
+pub plan-like : (format ch c : ℕ) (p : Row) (rs : List Row) → planFrom format ch c p rs ≡ planFrom format ch c (rowLike (p .time) (p .class) (p .length)) rs
 unfolding planFrom
 plan-like format ch c p [] = refl
 plan-like format ch c p (r ∷ rs) = refl
@@ -37,7 +37,7 @@ attach-like format gap r (refused q) = refl
 attach-like format gap r (groups []) = refl
 attach-like format gap r (groups (g ∷ gs)) = refl
 
--- and of the rows, all but their starts
+-- and of the rows, all but their starts and marks
 pub plan-plain : (format ch c : ℕ) (p : Row) (rs : List Row) → planFrom format ch c p rs ≡ planFrom format ch c p (plains rs)
 unfolding planFrom
 plan-plain format ch c p [] = refl
@@ -83,7 +83,7 @@ module _ (format ch : ℕ) where
       let a : c ≡ ch → ⊥ = omega arith in
       let b : c ≡ 0 → ⊥ = omega arith in
       rw (ne-eqb c ch a, eq-eqb c c refl, ne-eqb c 0 b, eq-eqb time time refl, eq-eqb class class refl, eq-eqb len len refl)
-      (plan-like format ch (standing ch (c + 1)) (record { time = time; class = class; channel = c; start = start; length = len }) (blockRows n (c + 1) time class (start + len) len ++ rs)
+      (plan-like format ch (standing ch (c + 1)) (record { time = time; class = class; channel = c; start = start; length = len; primary = 0 }) (blockRows n (c + 1) time class (start + len) len ++ rs)
       ∙ block-rest n (c + 1) time class (start + len) len rs (omega arith) (omega arith))
 
   -- a frame-block's first row puts it before what follows
@@ -92,7 +92,7 @@ module _ (format ch : ℕ) where
       ≡ attach format (rowFor (record { gap = 0; class = class; length = len })) (gapBetween (stepOf format) (p .time) time) (planFrom format ch 0 (rowLike time class len) rs)
   unfolding blockRows planFrom
   block-first n time class start len p rs e s =
-      let r : Row = record { time = time; class = class; channel = 0; start = start; length = len } in
+      let r : Row = record { time = time; class = class; channel = 0; start = start; length = len; primary = 0 } in
       let gap = gapBetween (stepOf format) (p .time) time in
       let rest = blockRows n 1 time class (start + len) len ++ rs in
       rw s

@@ -1,4 +1,4 @@
--- Laws of the rows of a plan: those that it was made of, but for their starts.
+-- Laws of the rows of a plan: those that it was made of, but for their starts and marks.
 use mathlib.Core.Path.{_≡_, refl, ap, sym, _∙_, subst}
 use mathlib.Core.List.{List, [], _∷_, _++_}
 use mathlib.Core.Bool.{Bool, true, false, cond}
@@ -18,11 +18,11 @@ use Rattle.roundtrip.proofs.AttachLaws.{Later, same-groups, Attached, a
 use Rattle.roundtrip.proofs.PlanBlockLaws.{standing}
 use Rattle.roundtrip.proofs.TickLaws.{next, placed-back}
 
--- Rows of frame-blocks but for their starts
+-- Rows of frame-blocks but for their starts and marks
 
 unfoldable pub blockPlains : ℕ → ℕ → ℕ → ℕ → ℕ → List Row
 blockPlains zero c time class len = []
-blockPlains (suc n) c time class len = record { time = time; class = class; channel = c; start = 0; length = len } ∷ blockPlains n (c + 1) time class len
+blockPlains (suc n) c time class len = record { time = time; class = class; channel = c; start = 0; length = len; primary = 0 } ∷ blockPlains n (c + 1) time class len
 
 unfoldable pub blocksPlains : ℕ → ℕ → ℕ → List Block → List Row
 blocksPlains step ch time [] = []
@@ -38,7 +38,7 @@ unfolding blocksRows blocksPlains
 plain-blocks step ch time start [] = refl
 plain-blocks step ch time start (b ∷ bs) = rw (plains-append, plain-block, plain-blocks step ch (nextPlace step time (b .gap)) (start + ch * b .length) bs)
 
-block-ahead : (ch time class len : ℕ) → 1 ≤ ch → blockPlains ch 0 time class len ≡ record { time = time; class = class; channel = 0; start = 0; length = len } ∷ blockPlains (ch - 1) 1 time class len
+block-ahead : (ch time class len : ℕ) → 1 ≤ ch → blockPlains ch 0 time class len ≡ record { time = time; class = class; channel = 0; start = 0; length = len; primary = 0 } ∷ blockPlains (ch - 1) 1 time class len
 unfolding blockPlains
 block-ahead ch time class len h = let n : ch ≡ suc (ch - 1) = omega arith in ap (λ (m : ℕ). blockPlains m 0 time class len) n
 
@@ -71,11 +71,11 @@ begun format ch p r rs gs h =
     go (groups table) e i j k m = record { code = i; steps = j; channel = k; table = table; rest = e; put = attached format r _ table gs m }
 
 -- a frame-block that goes on with the row r
-record Gone-on (format ch c : ℕ) (p r : Row) (rs : List Row) (gs : List Group) : Type 0 where
-  same : Alike r (record { time = p .time; class = p .class; channel = c; start = 0; length = p .length })
-  rest : planFrom format ch (standing ch (c + 1)) r rs ≡ groups gs
+pub record Gone-on (format ch c : ℕ) (p r : Row) (rs : List Row) (gs : List Group) : Type 0 where
+  pub same : Alike r (record { time = p .time; class = p .class; channel = c; start = 0; length = p .length; primary = 0 })
+  pub rest : planFrom format ch (standing ch (c + 1)) r rs ≡ groups gs
 
-gone-on : (format ch c : ℕ) (p r : Row) (rs : List Row) (gs : List Group) → (c ≡ 0 → ⊥) → planFrom format ch c p (r ∷ rs) ≡ groups gs → Gone-on format ch c p r rs gs
+pub gone-on : (format ch c : ℕ) (p r : Row) (rs : List Row) (gs : List Group) → (c ≡ 0 → ⊥) → planFrom format ch c p (r ∷ rs) ≡ groups gs → Gone-on format ch c p r rs gs
 unfolding planFrom
 gone-on format ch c p r rs gs n h =
     let a = passed (follows format c p r) _ gs h in
@@ -111,8 +111,8 @@ module _ (format ch : ℕ) (some : 1 ≤ ch) where
       let gap = gapBetween step (p .time) (r .time) in
       let e : placed step (next step (p .time)) gap ≡ r .time = placed-back format (p .time) (r .time) t u (b .steps) in
       let rest = blocksPlains step ch (next step (r .time)) (blocksIn (b .table)) in
-      let first : Row = record { time = r .time; class = r .class; channel = 0; start = 0; length = r .length } in
-      let f : plain r ≡ first = λ i. record { time = r .time; class = r .class; channel = b .channel i; start = 0; length = r .length } in
+      let first : Row = record { time = r .time; class = r .class; channel = 0; start = 0; length = r .length; primary = 0 } in
+      let f : plain r ≡ first = λ i. record { time = r .time; class = r .class; channel = b .channel i; start = 0; length = r .length; primary = 0 } in
       record {
         rows = ap (λ (x : Row). x ∷ plains rs) f ∙ ap (λ (l : List Row). first ∷ l) (k .rows)
             ∙ ap (λ (l : List Row). l ++ rest) (sym (block-ahead ch (r .time) (r .class) (r .length) some))
@@ -126,8 +126,8 @@ module _ (format ch : ℕ) (some : 1 ≤ ch) where
   unfolding blockPlains
   planned-gone-on n c p r rs gs g k =
       let s = g .same in
-      let first : Row = record { time = p .time; class = p .class; channel = c; start = 0; length = p .length } in
-      let f : plain r ≡ first = λ i. record { time = s .time i; class = s .class i; channel = s .channel i; start = 0; length = s .length i } in
+      let first : Row = record { time = p .time; class = p .class; channel = c; start = 0; length = p .length; primary = 0 } in
+      let f : plain r ≡ first = λ i. record { time = s .time i; class = s .class i; channel = s .channel i; start = 0; length = s .length i; primary = 0 } in
       record {
         rows = ap (λ (x : Row). x ∷ plains rs) f
             ∙ ap (λ (l : List Row). first ∷ l)

@@ -83,7 +83,7 @@ pub record Tabled (format ch : ℕ) (rs : List Row) (gs : List Group) : Type 0 w
   pub few : rowCount ch gs ≤ maxRows
   pub fits : payloadSize format ch gs ≤ maxPayload
 
-passed : (t : Bool) (x : Contents) (gs : List Group) → cond t (refused unwritable) x ≡ groups gs → (t ≡ false) × (x ≡ groups gs)
+pub passed : (t : Bool) (x : Contents) (gs : List Group) → cond t (refused unwritable) x ≡ groups gs → (t ≡ false) × (x ≡ groups gs)
 passed true x gs h = let z : _≡_ {A = ℕ} 0 1 = cc in absurd (omega arith)
 passed false x gs h = (refl, h)
 

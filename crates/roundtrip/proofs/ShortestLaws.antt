@@ -18,7 +18,7 @@ use Rattle.roundtrip.proofs.AttachLaws.{joins-so, firstGap}
 
 -- a row of a frame-block; its class and length are what counts
 abbrev pub rowFor : Block → Row
-rowFor b = record { time = 0; class = b .class; channel = 0; start = 0; length = b .length }
+rowFor b = record { time = 0; class = b .class; channel = 0; start = 0; length = b .length; primary = 0 }
 
 -- frame-blocks put one before another
 abbrev pub attachAll : ℕ → List Block → Contents

@@ -2,23 +2,29 @@
 use Prim.Native.Nat.{ℕ, _/_, _≤_, _<_, _^_}
 use mathlib.Core.Path.{_≡_}
 use mathlib.Core.List.{List}
+use mathlib.Core.Bool.{true, false}
+use lib.ListN.{length}
 use Rattle.rtp.specs.Sizes.{rowArea}
 use Rattle.rtp.specs.declared.settings.Settings.{Settings}
 use Rattle.rtp.specs.declared.header.Header.{Header}
+use Rattle.rtp.specs.declared.refusal.Refusal.the-variants.{Unwritable}
 use Rattle.payload.specs.Rows.{Row}
 use Rattle.packet.specs.Readings.{readAs, reading}
-use Rattle.plans.specs.Lists.{rowsIn}
-use Rattle.encoder.specs.Writings.{bytesOf}
+use Rattle.plans.specs.Lists.{rowsIn, outside}
+use Rattle.encoder.specs.Writings.{noBytes, bytesOf, askable}
 use Rattle.sender.specs.Parts.{primaryTime}
 use Rattle.sender.specs.Packets.{Heading, markerBit, sending}
+use Rattle.roundtrip.specs.Marks.{PrimaryLast, cleared, BitAbove}
 use Rattle.roundtrip.specs.ReadingBack.{Words, readRequest, SameFrames}
 
--- reading the packet p gives the lists' rows in order, starts aside, and the marker, sequence, timestamp, source and mode request given
+-- reading the packet p gives the lists' rows in order, starts and marks aside, and the marker, sequence, timestamp, source and mode request given; the rows
+-- of the last list, and no others, come back with the mark of what was heard first-hand
 pub record ReadsBack (st : Settings) (request : ℕ) (h : Heading) (counts ws bytes p : List ℕ) (area : ℕ) : Type 0 where
   pub head : Header
   pub rows : List Row
   pub read : reading st area p ≡ readAs head rows (readRequest (st .format) request)
   pub same : SameFrames p bytes rows (rowsIn ws)
+  pub heard : PrimaryLast counts rows
   pub marker : head .marker ≡ markerBit (h .marker) / 128
   pub sequence : head .sequence ≡ h .sequence
   pub timestamp : head .timestamp ≡ primaryTime counts (rowsIn ws)
@@ -29,3 +35,13 @@ abbrev pub PacketRoundTrip : Type 0
 PacketRoundTrip = (st : Settings) (request : ℕ) (h : Heading) (counts ws bytes : List ℕ) (area rows : ℕ) (p : List ℕ)
     → Words ws → h .sequence < 2 ^ 16 → h .source < 2 ^ 32 → rowArea ≤ rows
     → sending st request h counts ws bytes area ≡ bytesOf p → ReadsBack st request h counts ws bytes p rows
+
+-- The mark that rows are given with is ignored (document 02, P6): words are written as the same with bit 16 of each row's second word cleared are
+abbrev pub PacketMarkIgnored : Type 0
+PacketMarkIgnored = (st : Settings) (request : ℕ) (h : Heading) (counts ws bytes : List ℕ) (area : ℕ)
+    → sending st request h counts (cleared ws) bytes area ≡ sending st request h counts ws bytes area
+
+-- and with a bit above it in some row the packet is 13
+abbrev pub PacketBitAboveRefused : Type 0
+PacketBitAboveRefused = (st : Settings) (request : ℕ) (h : Heading) (counts ws bytes : List ℕ) (area : ℕ) → askable st request ≡ true → outside (length bytes) (rowsIn ws) ≡ false
+    → BitAbove ws → sending st request h counts ws bytes area ≡ noBytes Unwritable

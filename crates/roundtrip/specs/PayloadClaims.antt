@@ -16,6 +16,7 @@ use Rattle.payload.specs.Payloads.{body, requestOf}
 use Rattle.plans.specs.Lists.{rowsIn, outside}
 use Rattle.plans.specs.Plans.{maxPayload}
 use Rattle.encoder.specs.Writings.{noBytes, bytesOf, maxRequest, askable, encoded, writing, encodedNumbers, measured}
+use Rattle.roundtrip.specs.Marks.{cleared, BitAbove}
 use Rattle.roundtrip.specs.ReadingBack.{Bytes, Words, readRequest, ReadsTo}
 
 -- Round trip: whatever is written is a payload of at most 2,036 bytes that reads back to the list and to the mode request
@@ -73,6 +74,19 @@ pub record Measures (st : Settings) (request : ℕ) (ws bytes : List ℕ) (area 
 abbrev pub Measuring : Type 0
 Measuring = (st : Settings) (request : ℕ) (ws bytes : List ℕ) (area : ℕ) → request ≤ maxRequest → outside (length bytes) (rowsIn ws) ≡ false
     → Measures st request ws bytes area
+
+-- Marks that are ignored
+
+-- whether rows are given as heard first-hand makes no difference (document 02, P6): words are written and measured as the same with bit 16 of each row's
+-- second word cleared are
+abbrev pub MarkIgnored : Type 0
+MarkIgnored = (st : Settings) (request : ℕ) (ws bytes : List ℕ) (area : ℕ)
+    → (writing st request (cleared ws) bytes area ≡ writing st request ws bytes area) × (measured st (cleared ws) ≡ measured st ws)
+
+-- that one bit alone is: with a bit above it a row is of no class, and its list is 13
+abbrev pub BitAboveRefused : Type 0
+BitAboveRefused = (st : Settings) (request : ℕ) (ws bytes : List ℕ) (area : ℕ) → askable st request ≡ true → outside (length bytes) (rowsIn ws) ≡ false
+    → BitAbove ws → writing st request ws bytes area ≡ noBytes Unwritable
 
 -- Bits that are 0
 

@@ -7,10 +7,12 @@ use lib.ListN.{getD}
 use lib.Dec.{eqb}
 use Rattle.rtp.specs.declared.settings.Settings.{Settings}
 use Rattle.formats.specs.Formats.{formatOf}
+use Rattle.formats.specs.Tags.{primaryMark}
 use Rattle.payload.specs.Rows.{Row}
 use Rattle.payload.specs.Payloads.{noRequest, rowsOf, payloadRows}
 use Rattle.plans.specs.Lists.{rowsIn, firstTime, whole}
 use Rattle.encoder.specs.Bytes.{frameIn}
+use Rattle.roundtrip.specs.Marks.{AllMarked}
 
 -- each element is a byte
 abbrev pub Bytes : List ℕ → Type 0
@@ -20,7 +22,7 @@ Bytes s = (i : ℕ) → getD s i 0 < 256
 abbrev pub Words : List ℕ → Type 0
 Words ws = (i : ℕ) → getD ws i 0 < 2 ^ 32
 
--- a row q of the payload p is the row r of the list: the same time, class, channel, length and frame bytes; starts may differ
+-- a row q of the payload p is the row r of the list: the same time, class, channel, length and frame bytes; starts and marks may differ
 pub record SameFrame (p bytes : List ℕ) (q r : Row) : Type 0 where
   pub time : q .time ≡ r .time
   pub class : q .class ≡ r .class
@@ -39,9 +41,10 @@ SameFrames p bytes (q ∷ qs) (r ∷ rs) = SameFrame p bytes q r × SameFrames p
 unfoldable pub readRequest : ℕ → ℕ → ℕ
 readRequest format request = cond (eqb (formatOf format .header) 0) noRequest request
 
--- p is a plain payload that reads to the frame list in the words ws
+-- p is a plain payload that reads to the frame list in the words ws, every row with the mark of what was heard first-hand
 pub record ReadsTo (st : Settings) (p bytes ws : List ℕ) : Type 0 where
   pub whole-rows : whole ws ≡ true
   pub rows : List Row
-  pub read : payloadRows (st .format) (st .channels) 0 (firstTime (rowsIn ws)) 0 p ≡ rowsOf rows
+  pub read : payloadRows primaryMark (st .format) (st .channels) 0 (firstTime (rowsIn ws)) 0 p ≡ rowsOf rows
   pub same : SameFrames p bytes rows (rowsIn ws)
+  pub heard : AllMarked primaryMark rows

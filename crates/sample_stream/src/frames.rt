@@ -1,5 +1,6 @@
 // The frame-blocks of the stream, interleaved as in document 001: packet k has those numbered 4k + 1, 4k + 6, 4k + 11 and 4k + 16. It has
 // eight rows: those of the packet before it, which it repeats, then its own.
+use formats::tagging;
 
 // The time of frame-block 0, by which frame-block 92 stands at time 0.
 const BASE: u32 = 4294878976;
@@ -44,11 +45,11 @@ fn length_of(packet: u8) -> u32 {
     if packet % 7 == 3 { LONG } else { SHORT }
 }
 
-// A word of a row: time, class and channel (sound of channel 0), start or length.
+// A word of a row: time, tag (sound of channel 0; the writer ignores the mark), start or length.
 fn row_word(k: u8, row: u8, part: usize) -> u32 {
     match part {
         0 => time_of(number_of(k, row)),
-        1 => formats::tagging::pack_tag(1, 0),
+        1 => tagging::pack_tag(tagging::PRIMARY, 1, 0),
         2 => LONG * (row as u32),
         _ => length_of(packet_of(k, row)),
     }

@@ -110,7 +110,7 @@ fn print_first(start: u32, packet: &[u8]) {
     }
 }
 
-// A row read: its time, class, channel, start and length, and its first byte.
+// A row read: its time, class, channel, start and length, whether it was heard first-hand, and its first byte.
 fn print_row(rows: &[u32], i: usize, packet: &[u8]) {
     if i < MAX_ROWS {
         if 4 * i + 3 < rows.len() {
@@ -120,6 +120,7 @@ fn print_row(rows: &[u32], i: usize, packet: &[u8]) {
             print(b" ", tagging::tag_channel(tag));
             print(b" ", rows[4 * i + 2]);
             print(b" ", rows[4 * i + 3]);
+            print(b" primary ", tagging::tag_mark(tag));
             print_first(rows[4 * i + 2], packet);
             io::write_all(1, b"\n");
         }

@@ -1,8 +1,9 @@
-// Writes payloads and packets and prints their bytes, or the refusal; and reads each packet back and prints its rows, each with the first
-// byte of its frame, in AMR and AMR-WB the mode request too.
+// Writes payloads and packets and prints their bytes, or the refusal; and reads each packet back and prints its rows, each with whether it
+// was heard first-hand and the first byte of its frame, in AMR and AMR-WB the mode request too.
 mod amr;
 mod example;
 mod groups;
+mod marks;
 mod packets;
 mod payloads;
 
@@ -24,4 +25,7 @@ fn main() {
     amr::redundancy();
     amr::requests();
     amr::refused();
+    marks::payloads();
+    marks::packets();
+    marks::refused();
 }

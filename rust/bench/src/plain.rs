@@ -107,8 +107,8 @@ fn walk(s: Settings, p: &[u8], place: usize, before: usize) -> Result<Table, Fau
     Ok(Table { sound: at, rows: rows - before })
 }
 
-/// Writes the rows of a payload that was walked, which stands at `place` of the packet.
-fn put_rows(s: Settings, p: &[u8], place: usize, mut time: u32, table: &Table, out: &mut [u32]) {
+/// Writes the rows of a payload that was walked, which stands at `place` of the packet; `mark` is `PRIMARY` or 0.
+fn put_rows(s: Settings, p: &[u8], place: usize, mut time: u32, mark: u32, table: &Table, out: &mut [u32]) {
     let mut at = mode_bytes(s);
     let step = step_ticks(s.format);
     let mut start = (place + table.sound) as u32;
@@ -132,7 +132,7 @@ fn put_rows(s: Settings, p: &[u8], place: usize, mut time: u32, table: &Table, o
             }
             first = false;
             for channel in 0..s.channels as u32 {
-                rows.next().unwrap().copy_from_slice(&[time, 256 * class + channel, start, length]);
+                rows.next().unwrap().copy_from_slice(&[time, mark | class << 8 | channel, start, length]);
                 start += length;
             }
         }
@@ -187,7 +187,7 @@ fn read_checked(s: Settings, packet: &[u8], out: &mut [u32]) -> Result<Reading, 
     let (rows, mode_request) = if payload_type == s.payload_type {
         let payload = &packet[start..end];
         let table = walk(s, payload, start, 0)?;
-        put_rows(s, payload, start, timestamp, &table, out);
+        put_rows(s, payload, start, timestamp, PRIMARY, &table, out);
         (table.rows, mode_of(s, payload))
     } else if payload_type == s.redundancy_type {
         read_redundancy(s, packet, start, end, timestamp, out)?
@@ -235,7 +235,8 @@ fn read_redundancy(s: Settings, packet: &[u8], start: usize, end: usize, timesta
                 let payload = &packet[block..block_end];
                 let table = walk(s, payload, block, rows)?;
                 if write {
-                    put_rows(s, payload, block, timestamp.wrapping_sub(head >> 10 & 16383), &table, &mut out[ROW_WORDS * rows..]);
+                    let (time, mark) = (timestamp.wrapping_sub(head >> 10 & 16383), if last { PRIMARY } else { 0 });
+                    put_rows(s, payload, block, time, mark, &table, &mut out[ROW_WORDS * rows..]);
                 }
                 rows += table.rows;
                 mode_request = mode_of(s, payload);
@@ -294,10 +295,10 @@ fn plan(s: Settings, words: &[u32]) -> Option<usize> {
     let (mut size, mut run, mut previous) = (mode_bytes(s), 0usize, None);
     for block in words.chunks_exact(ROW_WORDS * channels) {
         let (time, length) = (block[0], block[3]);
-        let class = block[1] / 256;
+        let class = (block[1] & !PRIMARY) / 256;
         code(s.format, class, length)?;
         for (channel, row) in block.chunks_exact(ROW_WORDS).enumerate() {
-            if row[0] != time || row[1] != 256 * class + channel as u32 || row[3] != length {
+            if row[0] != time || row[1] & !PRIMARY != 256 * class + channel as u32 || row[3] != length {
                 return None;
             }
         }
@@ -337,7 +338,7 @@ fn put_payload(s: Settings, mode_request: u8, words: &[u32], bytes: &[u8], out: 
         }
         let shift = if s.format == 3 { 4 } else { 2 };
         for row in words.chunks_exact(width) {
-            out[at] = F_BIT | code(s.format, row[1] / 256, row[3]).unwrap_or(0) << shift;
+            out[at] = F_BIT | code(s.format, row[1] % PRIMARY / 256, row[3]).unwrap_or(0) << shift;
             at += 1;
         }
         out[at - 1] &= !F_BIT;
@@ -350,7 +351,7 @@ fn put_payload(s: Settings, mode_request: u8, words: &[u32], bytes: &[u8], out: 
                 to += width;
             }
             let blocks = (to - from) / width;
-            out[at] = if to < words.len() { F_BIT } else { 0 } | code(s.format, words[from + 1] / 256, length).unwrap_or(0) << 2;
+            out[at] = if to < words.len() { F_BIT } else { 0 } | code(s.format, words[from + 1] % PRIMARY / 256, length).unwrap_or(0) << 2;
             out[at + 1] = blocks as u8;
             at += 2;
             if s.format == 2 {
@@ -472,6 +473,7 @@ struct Held {
     channel: u8,
     class: u8,
     slot: u8,
+    primary: bool,
 }
 
 pub struct Take {
@@ -496,7 +498,7 @@ impl Take {
         let reading = read_checked(self.settings, packet, rows)?;
         let mut verdicts = Verdicts::default();
         for row in rows.chunks_exact(ROW_WORDS).take(reading.rows as usize) {
-            if row[1] < 256 {
+            if row[1] % PRIMARY < 256 {
                 continue;
             }
             let bytes = &packet[row[2] as usize..(row[2] + row[3]) as usize];
@@ -506,7 +508,7 @@ impl Take {
     }
 
     fn judge<'a>(&mut self, time: u32, tag: u32, bytes: &[u8], store: &mut [u8], v: &'a mut Verdicts) -> &'a mut u32 {
-        let (channel, class) = (tag as u8, (tag >> 8) as u8);
+        let (channel, class, primary) = (tag as u8, (tag >> 8) as u8, tag & PRIMARY != 0);
         if let Some((last, last_channel)) = self.last {
             let ahead = time.wrapping_sub(last) as i32;
             if ahead < 0 || (ahead == 0 && channel <= last_channel) {
@@ -521,7 +523,7 @@ impl Take {
         // from the end, where a new frame mostly belongs
         let mut at = self.held.len();
         while at > 0 {
-            let held = self.held[at - 1];
+            let held = &mut self.held[at - 1];
             let ahead = time.wrapping_sub(held.time) as i32;
             if ahead > 0 || (ahead == 0 && channel > held.channel) {
                 break;
@@ -537,11 +539,12 @@ impl Take {
                 } else {
                     *bytes > copy[..bytes.len()]
                 };
+                held.primary |= primary;
                 if !better {
                     return &mut v.repeated;
                 }
                 copy[..bytes.len()].copy_from_slice(bytes);
-                self.held[at - 1] = Held { class, length: bytes.len() as u16, ..held };
+                (held.class, held.length) = (class, bytes.len() as u16);
                 return &mut v.better;
             }
             at -= 1;
@@ -553,7 +556,7 @@ impl Take {
         self.occupied[word] |= 1 << bit;
         let slot = 64 * word + bit as usize;
         store[slot * SLOT_BYTES..slot * SLOT_BYTES + bytes.len()].copy_from_slice(bytes);
-        self.held.insert(at, Held { time, length: bytes.len() as u16, channel, class, slot: slot as u8 });
+        self.held.insert(at, Held { time, length: bytes.len() as u16, channel, class, slot: slot as u8, primary });
         &mut v.inserted
     }
 
@@ -568,7 +571,8 @@ impl Take {
         area[..length].copy_from_slice(&store[slot * SLOT_BYTES..slot * SLOT_BYTES + length]);
         self.occupied[slot / 64] &= !(1 << (slot % 64));
         self.last = Some((first.time, first.channel));
-        Ok(Drawn::Frame { time: first.time, channel: first.channel as u32, class: first.class as u32, length: first.length as u32 })
+        let Held { time, primary, .. } = first;
+        Ok(Drawn::Frame { time, channel: first.channel as u32, class: first.class as u32, length: first.length as u32, primary })
     }
 }
 

@@ -13,7 +13,7 @@ mod receptions;
 mod spoiled;
 
 pub use faults::{faults, header_faults, Judged};
-pub use lists::{counts_of, damage_list, groups_apart, list_from_packet, lists_for_packet, made_list, List};
+pub use lists::{counts_of, damage_list, groups_apart, list_from_packet, lists_for_packet, made_list, remark, List};
 pub use packets::{bad_settings, damage, mode_request, other_settings, packet, packet_at, payload, payload_start, settings, Shape};
 pub use random::Random;
 pub use receptions::{any_reception, change_reception, reception_before_report, Arrival, Source};

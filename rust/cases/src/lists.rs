@@ -2,7 +2,7 @@
 
 use crate::{Random, Shape};
 use reference::{
-    step_ticks, Row, Settings, AMR_LENGTHS, AMR_WB_LENGTHS, MAX_BLOCK, MAX_OFFSET, MAX_PAYLOAD, MAX_REDUNDANT, MAX_ROWS, ROW_AREA,
+    step_ticks, Row, Settings, AMR_LENGTHS, AMR_WB_LENGTHS, MAX_BLOCK, MAX_OFFSET, MAX_PAYLOAD, MAX_REDUNDANT, MAX_ROWS, PRIMARY, ROW_AREA,
     ROW_WORDS, SLOT_BYTES,
 };
 
@@ -95,7 +95,8 @@ pub fn made_list(r: &mut Random, s: Settings, time: u32, most_rows: usize, aim: 
                 1 => 0,
                 _ => r.below(size - length + 1),
             };
-            words.extend(Row { time: now, class, channel, start: start as u32, length: length as u32 }.words());
+            let primary = r.percent(50);
+            words.extend(Row { time: now, class, channel, primary, start: start as u32, length: length as u32 }.words());
         }
     }
     List { words, bytes }
@@ -132,6 +133,13 @@ pub fn groups_apart(s: Settings, words: &[u32]) -> u64 {
     }
 }
 
+/// Sets the primary bit of each row or clears it, at random: the writers are to ignore it.
+pub fn remark(r: &mut Random, list: &mut List) {
+    for row in list.words.chunks_exact_mut(ROW_WORDS) {
+        row[1] = row[1] & !PRIMARY | if r.percent(50) { PRIMARY } else { 0 };
+    }
+}
+
 /// Damages the rows of a list: one field, or the order, number or wholeness of the rows.
 pub fn damage_list(r: &mut Random, s: Settings, list: &mut List) {
     let rows = list.rows();
@@ -141,7 +149,7 @@ pub fn damage_list(r: &mut Random, s: Settings, list: &mut List) {
     }
     let row = ROW_WORDS * r.below(rows);
     let step = step_ticks(s.format);
-    match r.below(14) {
+    match r.below(15) {
         0 => list.words[row] = r.word(),
         1 => {
             let change = r.pick(&[1, u32::MAX, step, step.wrapping_neg(), 15 * step, 16 * step, 17 * step, 1 << 31, MAX_OFFSET + 1]);
@@ -152,31 +160,33 @@ pub fn damage_list(r: &mut Random, s: Settings, list: &mut List) {
             }
         }
         2 => {
-            list.words[row + 1] = r.pick(&[0, 1, 2, 255, 256, 257, 258, 512, 513, 768, 1024, 1280, 1281, 1536, 1792, 65536 + 256, u32::MAX])
+            list.words[row + 1] = r.pick(&[0, 1, 2, 255, 256, 257, 258, 512, 513, 768, 1024, 1280, 1281, 1536, 1792, u32::MAX]);
+            list.words[row + 1] ^= r.pick(&[0, PRIMARY, 2 * PRIMARY, 3 * PRIMARY]);
         }
-        3 => list.words[row + 1] ^= r.pick(&[1, 2, 128, 256, 512, 1024, 1 << 16, 1 << 31]),
-        4 => list.words[row + 2] = r.pick(&[0, list.bytes.len() as u32, list.bytes.len() as u32 + 1, u32::MAX, 1 << 31]),
-        5 => {
+        3 => list.words[row + 1] ^= r.pick(&[1, 2, 128, 256, 512, 1024, PRIMARY, 2 * PRIMARY, 1 << 31]),
+        4 => list.words[row + 1] ^= 1 << r.within(16, 31),
+        5 => list.words[row + 2] = r.pick(&[0, list.bytes.len() as u32, list.bytes.len() as u32 + 1, u32::MAX, 1 << 31]),
+        6 => {
             let beyond = list.bytes.len() as u32 - list.words[row + 3].min(list.bytes.len() as u32);
             list.words[row + 2] = beyond.wrapping_add(r.pick(&[0, 1, u32::MAX]));
         }
-        6 => list.words[row + 3] = r.pick(&[0, 5, 12, 13, 14, 15, 17, 31, 32, 60, 61, 79, 80, 90, 220, 230, 240, 250, 320, 340, u32::MAX]),
-        7 => list.words[row + 3] = list.words[row + 3].wrapping_add(r.pick(&[1, u32::MAX, 10, 20])),
-        8 => {
+        7 => list.words[row + 3] = r.pick(&[0, 5, 12, 13, 14, 15, 17, 31, 32, 60, 61, 79, 80, 90, 220, 230, 240, 250, 320, 340, u32::MAX]),
+        8 => list.words[row + 3] = list.words[row + 3].wrapping_add(r.pick(&[1, u32::MAX, 10, 20])),
+        9 => {
             let other = ROW_WORDS * r.below(rows);
             for i in 0..ROW_WORDS {
                 list.words.swap(row + i, other + i);
             }
         }
-        9 => {
+        10 => {
             list.words.drain(row..row + ROW_WORDS);
         }
-        10 => {
+        11 => {
             let copy: Vec<u32> = list.words[row..row + ROW_WORDS].to_vec();
             list.words.splice(row..row, copy);
         }
-        11 => list.words.truncate(list.words.len() - r.within(1, 3)),
-        12 => {
+        12 => list.words.truncate(list.words.len() - r.within(1, 3)),
+        13 => {
             for _ in 0..r.within(1, 5) {
                 list.words.push(r.word() >> r.below(32));
             }

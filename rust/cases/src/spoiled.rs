@@ -1,10 +1,10 @@
 //! Buffers spoiled: each clause of document 01's sound take broken, or bent to its edge.
 
 use crate::{other_settings, Random};
-use reference::{Buffer, SLOTS};
+use reference::{Buffer, PRIMARY, SLOTS};
 
 /// The number of ways to spoil a buffer.
-pub const SPOILS: usize = 24;
+pub const SPOILS: usize = 25;
 
 /// Spoils a buffer in one way; some ways leave it well-formed, at the edge of a clause.
 pub fn spoil(r: &mut Random, b: &mut Buffer, way: usize) {
@@ -59,7 +59,7 @@ pub fn spoil(r: &mut Random, b: &mut Buffer, way: usize) {
         // unused entries zero
         15 => match r.below(4) {
             0 => b.times[unused] = r.word(),
-            1 => b.tags[unused] = 256,
+            1 => b.tags[unused] = r.pick(&[1, 256, PRIMARY, PRIMARY + 256, 1 << 31]),
             2 => b.lengths[unused] = 1,
             _ => b.slots[unused] = r.pick(&[1, 1 << 31]),
         },
@@ -84,6 +84,13 @@ pub fn spoil(r: &mut Random, b: &mut Buffer, way: usize) {
             let column = [&mut b.times, &mut b.tags, &mut b.lengths, &mut b.slots].into_iter().nth(r.below(4)).unwrap();
             column[some] = r.word();
         }
+        // marks: another one, which is as well-formed, and what is none
+        24 => match r.below(4) {
+            0 => b.tags[some] ^= PRIMARY,
+            1 => b.tags[some] ^= 1 << r.within(17, 31),
+            2 => b.tags[some] = b.tags[some] % PRIMARY + PRIMARY * r.pick(&[0, 1, 2, 3, 256, 65_535]),
+            _ => b.tags[some] = b.tags[some].wrapping_add(PRIMARY),
+        },
         _ => {}
     }
 }

@@ -7,7 +7,7 @@
 mod convert;
 
 use cases::{Random, Shape};
-use convert::{raw_reception, settings, to_raw};
+use convert::{raw_drawn, raw_reception, settings, to_raw};
 use heolstorpit::raw;
 use reference::{DRAW_AREA, MAX_PACKET, MAX_PAYLOAD, MAX_ROWS, ROW_AREA, ROW_WORDS, STORE_BYTES};
 
@@ -127,7 +127,8 @@ fn buffer(r: &mut Random, cases: usize) {
             let (mut one, mut two) = (exact(&vec![7; bytes]), exact(&vec![7; bytes]));
             let answer = raw::draw(state, &one_store, &mut one);
             let (after, expected) = reference::draw(&given, &two_store, &mut two);
-            assert!(answer.refusal == expected.err().unwrap_or(0) && answer.buffer == to_raw(&after) && one == two);
+            assert_eq!(answer, raw_drawn(expected, &after));
+            assert!(one == two);
             if given == buffer {
                 buffer = after;
             }

@@ -49,6 +49,8 @@ pub struct Frame {
     pub class: Class,
     /// bytes of the frame
     pub length: usize,
+    /// heard first-hand: some copy of it came in a plain payload or as the primary block of a redundancy payload
+    pub primary: bool,
 }
 
 /// A source's reception report: the numbers of RFC 3550's report block.
@@ -114,9 +116,10 @@ impl raw::Drawn {
     /// The frame drawn, whatever its class; nothing where none was held; or the refusal.
     #[inline]
     pub fn result(&self) -> Result<Option<Frame>, Refusal> {
-        let raw::Drawn { refusal, empty, time, channel, frame_class, length, .. } = *self;
+        let raw::Drawn { refusal, empty, time, channel, frame_class, length, primary, .. } = *self;
         // a channel has 8 bits of a row's second word
-        let frame = Frame { time, channel: channel as u8, class: Class::from(frame_class), length: length as usize };
+        let (channel, class) = (channel as u8, Class::from(frame_class));
+        let frame = Frame { time, channel, class, length: length as usize, primary: primary != 0 };
         accepted(refusal, (empty == 0).then_some(frame))
     }
 }

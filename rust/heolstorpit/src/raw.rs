@@ -88,6 +88,7 @@ pub struct Drawn {
     pub channel: u32,
     pub frame_class: u32,
     pub length: u32,
+    pub primary: u32,
     pub buffer: Buffer,
 }
 

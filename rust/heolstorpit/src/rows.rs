@@ -1,6 +1,6 @@
-use crate::{Class, Refusal, ROW_WORDS};
+use crate::{Class, Refusal, PRIMARY, ROW_WORDS};
 
-/// A row's second word is this times the class, and the channel.
+/// A row's second word is this times the class, and the channel; and the bit [`PRIMARY`].
 const CLASS_UNIT: u32 = 256;
 
 /// A frame row: four words of a row area, taken apart.
@@ -12,6 +12,9 @@ pub struct Row {
     pub class: Class,
     /// channels count from 0
     pub channel: u8,
+    /// reading: the row is of a plain payload or of the primary block of a redundancy payload, not of a redundant block; writing
+    /// ignores it
+    pub primary: bool,
     /// place of the frame's first byte: in the packet read, or in the bytes that a row to be written points into
     pub start: u32,
     /// bytes of the frame
@@ -19,11 +22,12 @@ pub struct Row {
 }
 
 impl Row {
-    /// The words of the row. The second has 24 bits for the class: a greater number is no class of any format, and is refused as the
-    /// writers refuse those, with [`Refusal::Unwritable`].
+    /// The words of the row. The second has 24 bits for the class, without the one that is [`PRIMARY`]: a number that does not fit there
+    /// is no class of any format, and is refused as the writers refuse those, with [`Refusal::Unwritable`].
     pub fn words(self) -> Result<[u32; ROW_WORDS], Refusal> {
-        let class = self.class.number().checked_mul(CLASS_UNIT).ok_or(Refusal::Unwritable)?;
-        Ok([self.time, class + u32::from(self.channel), self.start, self.length])
+        let class = self.class.number().checked_mul(CLASS_UNIT).filter(|class| class & PRIMARY == 0).ok_or(Refusal::Unwritable)?;
+        let primary = if self.primary { PRIMARY } else { 0 };
+        Ok([self.time, primary | class | u32::from(self.channel), self.start, self.length])
     }
 
     /// The rows at the front of a row area that reading wrote `count` rows to: all of them, whatever their class.
@@ -34,6 +38,7 @@ impl Row {
 
 impl From<[u32; ROW_WORDS]> for Row {
     fn from([time, tag, start, length]: [u32; ROW_WORDS]) -> Row {
-        Row { time, class: Class::from(tag / CLASS_UNIT), channel: (tag % CLASS_UNIT) as u8, start, length }
+        let class = Class::from((tag & !PRIMARY) / CLASS_UNIT);
+        Row { time, class, channel: (tag % CLASS_UNIT) as u8, primary: tag & PRIMARY != 0, start, length }
     }
 }

@@ -22,6 +22,8 @@ pub const STORE_BYTES: usize = SLOTS * SLOT_BYTES;
 pub const DRAW_AREA: usize = SLOT_BYTES;
 /// Redundant lists of a packet written, at most.
 pub const MAX_REDUNDANT: usize = 4;
+/// The bit of a row's second word, and of a tag in a buffer, that says: primary.
+pub const PRIMARY: u32 = 65_536;
 /// The redundancy type that says: none.
 pub const NO_REDUNDANCY: u8 = 128;
 /// The mode request that says: none. It is the greatest.

@@ -4,10 +4,11 @@
 mod common;
 
 use cases::{Judged, Random, Shape};
-use common::{around, settings, to_raw, Seen, Twice};
+use common::{around, raw_drawn, settings, to_raw, Seen, Twice};
 use heolstorpit::{raw, Buffer, Class, Format, Refusal};
 use reference::{
-    step_ticks, Drawn, Fault, Settings, Verdicts, DRAW_AREA, MAX_PAYLOAD, MAX_ROWS, NO_REDUNDANCY, ROW_AREA, SLOTS, STORE_BYTES,
+    step_ticks, Drawn, Fault, Settings, Verdicts, DRAW_AREA, MAX_PAYLOAD, MAX_ROWS, NO_REDUNDANCY, PRIMARY, ROW_AREA, ROW_WORDS, SLOTS,
+    STORE_BYTES,
 };
 
 /// Counted: offers that leave as many frames held as there may be.
@@ -15,6 +16,12 @@ const FULL: &str = "offers that leave all slots in use";
 
 /// Counted: offers refused with an offset.
 const OFFSET: &str = "offers refused with an offset";
+
+/// Counted: frames drawn by mark; and, of offers of one copy of a frame held, those that mark it, and those that leave it marked though the
+/// copy is second-hand, by verdict.
+const DRAWN: [&str; 2] = ["drawn, heard second-hand only", "drawn, heard first-hand"];
+const MARKED: [&str; 2] = ["marked by a repeat", "marked by a better copy"];
+const KEPT: [&str; 2] = ["mark kept at a repeat", "mark kept at a better copy"];
 
 /// A buffer with its lent areas, held by the library and by the reference.
 struct Pair {
@@ -75,7 +82,23 @@ impl Pair {
         {
             self.seen.add(name, n as u64);
         }
+        if refusal == 0 && repeated + better == 1 && inserted + late + far + no_room == 0 {
+            self.count_marks(&buffer, &after, better);
+        }
         after
+    }
+
+    /// Counts what became of the mark where one copy of a frame held was offered.
+    fn count_marks(&mut self, before: &reference::Buffer, after: &reference::Buffer, better: u32) {
+        let (mine, _) = self.rows.lend(ROW_AREA);
+        let row = mine.chunks_exact(ROW_WORDS).find(|row| row[1] % PRIMARY >= 256).expect("a row with data");
+        let (time, channel, primary) = (row[0], row[1] % 256, row[1] & PRIMARY != 0);
+        let at = (0..before.held()).find(|i| (before.times[*i], before.tags[*i] % 256) == (time, channel)).expect("a frame held");
+        match (before.tags[at] / PRIMARY, after.tags[at] / PRIMARY) {
+            (0, 1) => self.seen.add(MARKED[better as usize], 1),
+            (1, 1) if !primary => self.seen.add(KEPT[better as usize], 1),
+            _ => {}
+        }
     }
 
     fn draw_from(&mut self, buffer: reference::Buffer, store: usize, area: usize) -> (reference::Buffer, Result<Drawn, u32>) {
@@ -83,17 +106,11 @@ impl Pair {
         let (my_area, their_area) = self.area.lend(area);
         let answer = raw::draw(to_raw(&buffer), my_store, my_area);
         let (after, expected) = reference::draw(&buffer, their_store, their_area);
-        let mut numbers = raw::Drawn { refusal: 0, empty: 0, time: 0, channel: 0, frame_class: 0, length: 0, buffer: to_raw(&after) };
+        let numbers = raw_drawn(expected, &after);
         match expected {
-            Ok(Drawn::Frame { time, channel, class, length }) => {
-                numbers = raw::Drawn { time, channel, frame_class: class, length, ..numbers };
-                self.seen.add("drawn", 1);
-            }
-            Ok(Drawn::Empty) => {
-                numbers.empty = 1;
-                self.seen.add("empty", 1);
-            }
-            Err(refusal) => numbers.refusal = refusal,
+            Ok(Drawn::Frame { primary, .. }) => self.seen.add(DRAWN[primary as usize], 1),
+            Ok(Drawn::Empty) => self.seen.add("empty", 1),
+            Err(_) => {}
         }
         let areas = self.store.same() && self.area.same() && self.store.unchanged();
         let kept = matches!(expected, Ok(Drawn::Frame { .. })) || self.area.unchanged();
@@ -233,12 +250,13 @@ fn histories() {
             "better",
             "no room",
             "inserted",
-            "drawn",
             "empty",
             FULL,
             OFFSET,
         ],
     );
+    p.seen.at_least(1000, &DRAWN);
+    p.seen.at_least(100, &[MARKED, KEPT].concat());
     p.seen.at_least(100, &["refusal  1", "refusal  2", "refusal  3", "refusal  4", "refusal  5", "refusal  6", "refusal  7", "refusal 11"]);
 }
 
@@ -340,7 +358,200 @@ fn copies_of_amr() {
         }
     }
     p.seen.report("buffer, copies of AMR");
-    p.seen.at_least(500, &["late", "repeated", "better", "inserted", "drawn"]);
+    p.seen.at_least(500, &["late", "repeated", "better", "inserted", DRAWN[1]]);
+}
+
+/// The payload, first-hand or in a redundant block (of offset 0), under settings of types 97 and 98; its length is at most 255.
+fn heard(first_hand: bool, time: u32, payload: &[u8]) -> Vec<u8> {
+    let mut packet = vec![0x80, if first_hand { 97 } else { 98 }, 0, 1];
+    packet.extend(time.to_be_bytes());
+    packet.extend([0, 0, 0, 3]);
+    if !first_hand {
+        packet.extend([0x80 | 97, 0, 0, payload.len() as u8, 97]);
+    }
+    packet.extend(payload);
+    packet
+}
+
+/// P6: lists of up to four copies of a frame, each first-hand or not, equal to the others, better or worse; drawn, the frame is marked if any
+/// of them was first-hand. Before it and after it frames of which all copies are second-hand, which stay unmarked.
+#[test]
+fn marks_of_copies() {
+    let mut r = Random::new(27);
+    let mut p = Pair::new(&mut r);
+    for format in 1..=5u8 {
+        let s = Settings { format, channels: 1, payload_type: 97, redundancy_type: 98 };
+        // of one frame each, worst first: shorter, damaged or SID; sound; sound of greater bytes
+        let copies: [Vec<u8>; 3] = match format {
+            1 => [(vec![0x20, 1], 80, 1), (vec![0x24, 1], 90, 1), (vec![0x24, 1], 90, 2)],
+            2 => [(vec![0x20, 1, 0], 80, 1), (vec![0x24, 1, 0], 90, 1), (vec![0x24, 1, 0], 90, 2)],
+            3 => [(vec![0x20], 14, 9), (vec![0], 14, 1), (vec![0], 14, 2)],
+            4 => [(vec![0, 0], 12, 9), (vec![0, 0x04], 12, 1), (vec![0, 0x04], 12, 2)],
+            _ => [(vec![0, 0x4C], 5, 9), (vec![0, 0x04], 17, 1), (vec![0, 0x04], 17, 2)],
+        }
+        .map(|(table, length, value)| [&table[..], &vec![value; length]].concat());
+        let step = step_ticks(format);
+        for count in 1..=4u32 {
+            for number in 0..6u32.pow(count) {
+                p.fresh(s);
+                p.offer(&heard(false, 0u32.wrapping_sub(step), &copies[1]));
+                p.offer(&heard(false, step, &copies[1]));
+                let chosen: Vec<u32> = (0..count).map(|i| number / 6u32.pow(i) % 6).collect();
+                for choice in &chosen {
+                    p.offer(&heard(choice % 2 == 1, 0, &copies[*choice as usize / 2]));
+                }
+                let marks = [0; 3].map(|_| match p.draw() {
+                    Ok(Drawn::Frame { primary, .. }) => primary,
+                    other => panic!("{other:?}"),
+                });
+                assert_eq!(marks, [false, chosen.iter().any(|choice| choice % 2 == 1), false]);
+            }
+        }
+    }
+    p.seen.report("buffer, marks of copies");
+    p.seen.at_least(1000, &["repeated", "better", "inserted", DRAWN[0], DRAWN[1]]);
+    p.seen.at_least(500, &[MARKED, KEPT].concat());
+}
+
+/// P6: copies that are late, far or find no room leave all marks, and so does no data; one that is held can still be marked.
+#[test]
+fn copies_that_leave_the_marks() {
+    let mut r = Random::new(28);
+    let mut p = Pair::new(&mut r);
+    let s = Settings { format: 3, channels: 1, payload_type: 97, redundancy_type: 98 };
+    let sound = [0; 15];
+    for base in [0u32, 5, 0u32.wrapping_sub(160 * 90), 1 << 31] {
+        let at = |i: u32| base.wrapping_add(160 * i);
+        for first_hand in [false, true] {
+            p.fresh(s);
+            for i in 0..SLOTS as u32 {
+                p.offer(&heard(i % 3 == 0, at(i), &sound));
+            }
+            let leaves = |p: &mut Pair, name: &str, time: u32, payload: &[u8]| {
+                let (before, given) = (p.seen.get(name), p.buffer);
+                p.offer(&heard(first_hand, time, payload));
+                assert!(p.seen.get(name) == before + (payload.len() > 1) as u64 && p.buffer == given, "{name}");
+            };
+            leaves(&mut p, "far", base.wrapping_add(1 << 31), &sound);
+            leaves(&mut p, "no room", at(SLOTS as u32), &sound);
+            leaves(&mut p, "repeated", at(7), &[0x70]);
+            p.offer(&heard(first_hand, at(7), &sound));
+            let expected = |i: u32| i % 3 == 0 || (i == 7 && first_hand);
+            for i in 0..SLOTS as u32 {
+                assert!(matches!(p.draw(), Ok(Drawn::Frame { time, primary, .. }) if time == at(i) && primary == expected(i)));
+                leaves(&mut p, "late", at(i), &sound);
+                leaves(&mut p, "late", at(i).wrapping_sub(160), &sound);
+            }
+        }
+    }
+    p.seen.report("buffer, copies that leave the marks");
+}
+
+/// P6: every mark of a tag: bit 16 is the mark, and is drawn as it is; each of 17 to 31 is 15, and any in an entry that is not used.
+#[test]
+fn marks_of_spoiled_buffers() {
+    let mut r = Random::new(29);
+    let mut p = Pair::new(&mut r);
+    let s = Settings { format: 1, channels: 2, payload_type: 97, redundancy_type: 98 };
+    let mut payload = vec![0x20, 1];
+    payload.extend([3; 160]);
+    for frames in [1u32, 2, 40] {
+        p.fresh(s);
+        for i in 0..frames {
+            p.offer(&heard(i % 2 == 0, 960 * i, &payload));
+        }
+        let (held, given) = (p.buffer.held(), p.buffer);
+        let offered = heard(true, 960 * frames, &payload);
+        for place in 0..SLOTS {
+            for bit in 16..32 {
+                let mut spoiled = given;
+                spoiled.tags[place] ^= 1 << bit;
+                let fine = bit == 16 && place < held;
+                let refusal = if fine { 0 } else { 15 };
+                p.offer_to(spoiled, &offered, ROW_AREA, STORE_BYTES);
+                assert_eq!(p.fault, (refusal, 0), "bit {bit} of tag {place}");
+                let (_, drawn) = p.draw_from(spoiled, STORE_BYTES, DRAW_AREA);
+                assert_eq!(drawn.err().unwrap_or(0), refusal);
+                if place == 0 && fine {
+                    assert!(matches!(drawn, Ok(Drawn::Frame { primary: false, .. })));
+                }
+            }
+        }
+    }
+    p.seen.report("buffer, marks of spoiled buffers");
+}
+
+/// P6 and demand 3: the same packets in another order, some of them again, draw the same frames with the same marks: those that some copy
+/// gives, as reading shows it. Through the friendly functions too.
+#[test]
+fn any_order_draws_the_same_marks() {
+    let mut r = Random::new(30);
+    let mut p = Pair::new(&mut r);
+    let mut judged = 0;
+    for _ in 0..1500 {
+        let s = loop {
+            let s = cases::settings(&mut r);
+            if s.redundancy_type != NO_REDUNDANCY {
+                break s;
+            }
+        };
+        let base = if r.percent(50) { 0u32.wrapping_sub(960 * 20) } else { r.word() };
+        let reach = r.pick(&[3, 10, 40]);
+        let mut packets: Vec<Vec<u8>> = Vec::new();
+        for _ in 0..r.within(1, 16) {
+            let time = base.wrapping_add(960 * r.below(reach) as u32);
+            let rows = r.pick(&[1, 4]);
+            packets.push(cases::packet_at(&mut r, s, Shape { bytes: 900, rows, alike: true }, time));
+        }
+        // pairs with a copy that is first-hand, and all pairs
+        let (mut all, mut first_hand) = (std::collections::HashSet::new(), std::collections::HashSet::new());
+        let mut area = vec![0; ROW_AREA];
+        for packet in &packets {
+            let rows = reference::read(s, packet, &mut area).map_or(0, |reading| reading.rows);
+            for row in heolstorpit::Row::list(&area, rows).filter(|row| row.class != Class::NoData) {
+                all.insert((row.time, row.channel as u32));
+                if row.primary {
+                    first_hand.insert((row.time, row.channel as u32));
+                }
+            }
+        }
+        if all.len() > SLOTS {
+            continue;
+        }
+        judged += 1;
+        let mut lists: Vec<Vec<_>> = Vec::new();
+        for _ in 0..3 {
+            let mut order: Vec<usize> = (0..packets.len()).collect();
+            for i in (1..order.len()).rev() {
+                order.swap(i, r.below(i + 1));
+            }
+            for _ in 0..r.below(5) {
+                order.insert(r.below(order.len() + 1), r.below(packets.len()));
+            }
+            p.fresh(s);
+            let mut friendly = Buffer::new(settings(s).into()).unwrap();
+            let (mut rows, mut store, mut area) = (vec![0; ROW_AREA], vec![0; STORE_BYTES], vec![0; DRAW_AREA]);
+            for i in order {
+                p.offer(&packets[i]);
+                friendly.offer(&packets[i], &mut rows, &mut store).ok();
+            }
+            let mut list = Vec::new();
+            while let Ok(Drawn::Frame { time, channel, class, length, primary }) = p.draw() {
+                assert_eq!(primary, first_hand.contains(&(time, channel)));
+                let frame = friendly.draw(&store, &mut area).unwrap().unwrap();
+                assert_eq!((frame.time, frame.channel as u32, frame.class.number()), (time, channel, class));
+                assert_eq!((frame.length, frame.primary), (length as usize, primary));
+                list.push((time, channel, class, area[..length as usize].to_vec(), primary));
+            }
+            assert_eq!(friendly.draw(&store, &mut area), Ok(None));
+            assert_eq!(list.len(), all.len());
+            lists.push(list);
+        }
+        assert!(lists.windows(2).all(|two| two[0] == two[1]));
+    }
+    assert!(judged > 1000, "{judged}");
+    p.seen.report("buffer, any order");
+    p.seen.at_least(10_000, &DRAWN);
 }
 
 /// P2: an offer says where, as worked out by hand, to a buffer fresh or filled, through the friendly function too; 1 to 5, 11, 12 and 15
@@ -426,6 +637,7 @@ fn six_interleaved_packets() {
         for number in expected {
             let frame = buffer.draw(&store, &mut area).unwrap().unwrap();
             assert_eq!((frame.time, frame.channel, frame.class, frame.length), (base.wrapping_add(960 * number), 0, Class::Sound, 80));
+            assert!(frame.primary);
             assert!(area[..80].iter().all(|byte| *byte as u32 == number));
         }
         assert_eq!(buffer.draw(&store, &mut area), Ok(None));

@@ -104,8 +104,9 @@ fn rows() {
     let rows: Vec<Row> = Row::list(&area, tags.len() as u32).collect();
     assert_eq!(rows.len(), tags.len());
     for (row, words) in rows.iter().zip(area.chunks_exact(ROW_WORDS)) {
-        let class = Class::from(words[1] / 256);
-        assert_eq!((row.time, row.class, row.channel as u32, row.start, row.length), (words[0], class, words[1] % 256, words[2], words[3]));
+        let (class, channel, primary) = (Class::from(words[1] / 256 & !256), words[1] % 256, words[1] >> 16 & 1 == 1);
+        assert_eq!((row.time, row.class, row.channel as u32, row.start, row.length), (words[0], class, channel, words[2], words[3]));
+        assert_eq!(row.primary, primary);
         assert_eq!(row.words().unwrap(), *words);
     }
     // no more than the count, and no more than the area has
@@ -113,13 +114,17 @@ fn rows() {
     assert_eq!(Row::list(&area[..4 * ROW_WORDS - 1], u32::MAX).count(), 3);
 }
 
-/// A class has 24 bits in a row: one that does not fit is refused, and not taken for another.
+/// A class has 24 bits in a row, without the primary one: one that does not fit is refused, and not taken for another or for a mark.
 #[test]
 fn rows_of_classes_that_do_not_fit() {
-    let row = |class| Row { time: 1, class: Class::from(class), channel: 255, start: 2, length: 3 };
-    assert_eq!(row((1 << 24) - 1).words(), Ok([1, u32::MAX, 2, 3]));
-    for class in [1 << 24, (1 << 24) + 1, 1 << 31, u32::MAX] {
-        assert_eq!(row(class).words(), Err(Refusal::Unwritable));
+    let row = |class, primary| Row { time: 1, class: Class::from(class), channel: 255, primary, start: 2, length: 3 };
+    assert_eq!(row((1 << 24) - 1 - 256, true).words(), Ok([1, u32::MAX, 2, 3]));
+    assert_eq!(row((1 << 24) - 1 - 256, false).words(), Ok([1, u32::MAX - 65_536, 2, 3]));
+    assert_eq!([false, true].map(|primary| row(1, primary).words().unwrap()[1]), [511, 65_536 + 511]);
+    for class in [256, 257, 511, 768, (1 << 24) - 1, 1 << 24, (1 << 24) + 1, 1 << 31, u32::MAX] {
+        for primary in [false, true] {
+            assert_eq!(row(class, primary).words(), Err(Refusal::Unwritable));
+        }
     }
 }
 
@@ -130,13 +135,14 @@ fn buffer() -> raw::Buffer {
 /// A frame drawn is a frame whatever its class; only an answer that says so is empty.
 #[test]
 fn frames_drawn() {
-    let drawn = raw::Drawn { refusal: 0, empty: 0, time: 9, channel: 1, frame_class: 0, length: 80, buffer: buffer() };
+    let drawn = raw::Drawn { refusal: 0, empty: 0, time: 9, channel: 1, frame_class: 0, length: 80, primary: 1, buffer: buffer() };
     for frame_class in numbers() {
-        let frame = Frame { time: 9, channel: 1, class: Class::from(frame_class), length: 80 };
+        let frame = Frame { time: 9, channel: 1, class: Class::from(frame_class), length: 80, primary: true };
         assert_eq!(raw::Drawn { frame_class, ..drawn }.result(), Ok(Some(frame)));
+        assert_eq!(raw::Drawn { frame_class, primary: 0, ..drawn }.result(), Ok(Some(Frame { primary: false, ..frame })));
         assert_eq!(frame.class.number(), frame_class);
     }
-    let none = raw::Drawn { refusal: 0, empty: 1, time: 0, channel: 0, frame_class: 0, length: 0, buffer: buffer() };
+    let none = raw::Drawn { refusal: 0, empty: 1, time: 0, channel: 0, frame_class: 0, length: 0, primary: 0, buffer: buffer() };
     assert_eq!(none.result(), Ok(None));
 }
 
@@ -149,7 +155,7 @@ fn answers() {
     let fresh = raw::Fresh { refusal: 0, buffer: buffer() };
     let offered =
         raw::Offered { refusal: 0, offset: 0, late: 1, far: 2, repeated: 3, better: 4, no_room: 5, inserted: 6, buffer: buffer() };
-    let drawn = raw::Drawn { refusal: 0, empty: 0, time: 0, channel: 0, frame_class: 0, length: 0, buffer: buffer() };
+    let drawn = raw::Drawn { refusal: 0, empty: 0, time: 0, channel: 0, frame_class: 0, length: 0, primary: 0, buffer: buffer() };
     let reception = raw_reception(&reference::Reception { jitter: 1, started: 1, ..Default::default() });
     let received = raw::Received { refusal: 0, valid: 1, reception };
     let reported = raw::Reported { refusal: 0, fraction_lost: 255, cumulative_lost: -1, highest_sequence: 2, jitter: 3, reception };
@@ -230,6 +236,6 @@ fn figures() {
     macro_rules! same {
         ($($name:ident)*) => { $(assert_eq!([heolstorpit::$name as usize, reference::$name as usize], [defined(stringify!($name)); 2]);)* };
     }
-    same!(MAX_PACKET MAX_PAYLOAD MAX_ROWS ROW_WORDS ROW_AREA SLOTS SLOT_BYTES STORE_BYTES DRAW_AREA MAX_REDUNDANT NO_REDUNDANCY NO_MODE_REQUEST);
+    same!(MAX_PACKET MAX_PAYLOAD MAX_ROWS ROW_WORDS ROW_AREA SLOTS SLOT_BYTES STORE_BYTES DRAW_AREA PRIMARY MAX_REDUNDANT NO_REDUNDANCY NO_MODE_REQUEST);
     assert_eq!(heolstorpit::MIN_PACKET, reference::MIN_PACKET);
 }

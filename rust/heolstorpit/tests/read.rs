@@ -5,7 +5,7 @@ mod common;
 use cases::{Judged, Random, Shape};
 use common::{around, settings, Seen, Twice};
 use heolstorpit::{raw, Refusal};
-use reference::{Fault, Settings, F_BIT, MAX_PACKET, MAX_PAYLOAD, MAX_ROWS, ROW_AREA, ROW_WORDS};
+use reference::{Fault, Settings, F_BIT, MAX_PACKET, MAX_PAYLOAD, MAX_ROWS, PRIMARY, ROW_AREA, ROW_WORDS};
 
 struct Comparer {
     area: Twice<u32>,
@@ -37,7 +37,9 @@ impl Comparer {
             self.seen.add(APART, cases::groups_apart(s, rows));
         }
         for row in rows.chunks_exact(ROW_WORDS) {
-            self.classes[row[1] as usize / 256] += 1;
+            let (class, primary) = (row[1] % PRIMARY / 256, row[1] / PRIMARY == 1);
+            self.classes[class as usize] += 1;
+            self.seen.add(MARKS[2 * (class == 0) as usize + primary as usize], 1);
         }
         if expected.is_ok() && s.format >= 4 {
             self.requests[numbers.mode_request as usize] += 1;
@@ -69,6 +71,9 @@ fn amr_seen(c: &Comparer, least: u64) {
 
 /// Counted: packets of as many rows as there may be.
 const FULL: &str = "packets of the most rows";
+
+/// Counted: rows by mark; with data, without.
+const MARKS: [&str; 4] = ["rows of redundant blocks", "primary rows", "no-data rows of redundant blocks", "primary no-data rows"];
 
 /// Counted: groups of another length than the one before and apart from it, in plain packets.
 const APART: &str = "groups apart";
@@ -139,6 +144,7 @@ fn packets_valid_and_damaged() {
     c.seen.at_least(100, &[FULL]);
     c.seen.at_least(100, &LATER);
     c.seen.at_least(10_000, &[APART]);
+    c.seen.at_least(10_000, &MARKS);
     amr_seen(&c, 10_000);
 }
 
@@ -406,6 +412,55 @@ fn faults() {
     c.seen.report("read, faults");
     c.seen.at_least(100, &REFUSALS);
     c.seen.at_least(100, &LATER);
+}
+
+/// P6: in each format, every number of blocks, each of them of sound, no data, nothing or another type: the rows of the last one and of a
+/// plain payload are marked, through the friendly function too.
+#[test]
+fn marks() {
+    let mut r = Random::new(9);
+    let mut c = Comparer::new(&mut r);
+    // a payload of sound and then no data in each format, and one of no data
+    let payloads: [(&[u8], usize, &[u8]); 5] = [
+        (&[0xA0, 1, 0, 1], 80, &[0, 1]),
+        (&[0xA0, 1, 0, 0, 1, 0], 80, &[0, 1, 0]),
+        (&[0x80, 0x70], 14, &[0x70]),
+        (&[0x20, 0x84, 0x7C], 12, &[0x20, 0x7C]),
+        (&[0x20, 0xC8, 0x70], 5, &[0x20, 0x74]),
+    ];
+    for (format, (table, sound, none)) in (1..=5u8).zip(payloads) {
+        let s = Settings { format, channels: 1, payload_type: 97, redundancy_type: 98 };
+        let both = [table, &r.bytes(sound)].concat();
+        // payload type, bytes, rows
+        let choices: [(u8, &[u8], usize); 4] = [(97, &both, 2), (97, none, 1), (97, &[], 0), (96, &both, 0)];
+        for blocks in 0..=5u32 {
+            for number in 0..choices.len().pow(blocks + 1) {
+                let chosen: Vec<_> = (0..=blocks).map(|i| choices[number >> (2 * i) & 3]).collect();
+                let (last, redundant) = chosen.split_last().unwrap();
+                let mut packet = vec![0x80, 98, 0, 1, 0, 0, 0, 2, 0, 0, 0, 3];
+                for (payload_type, bytes, _) in redundant {
+                    packet.extend([F_BIT | payload_type, r.byte(), r.byte() & 0xFC, bytes.len() as u8]);
+                }
+                packet.push(last.0);
+                chosen.iter().for_each(|(_, bytes, _)| packet.extend(*bytes));
+                assert_eq!(c.compare(s, &packet, ROW_AREA), (0, 0));
+                let second_hand = redundant.iter().map(|(_, _, rows)| rows).sum::<usize>();
+                let mut area = [0; ROW_AREA];
+                let reading = heolstorpit::read(settings(s).into(), &packet, &mut area).unwrap();
+                let marks: Vec<bool> = heolstorpit::Row::list(&area, reading.rows).map(|row| row.primary).collect();
+                assert_eq!(marks, [vec![false; second_hand], vec![true; last.2]].concat(), "{packet:02x?}");
+            }
+        }
+        for payload in [&both[..], none] {
+            let packet = [&[0x80, 97, 0, 1, 0, 0, 0, 2, 0, 0, 0, 3][..], payload].concat();
+            assert_eq!(c.compare(s, &packet, ROW_AREA), (0, 0));
+            let mut area = [0; ROW_AREA];
+            let reading = heolstorpit::read(settings(s).into(), &packet, &mut area).unwrap();
+            assert!(reading.rows > 0 && heolstorpit::Row::list(&area, reading.rows).all(|row| row.primary));
+        }
+    }
+    c.seen.report("read, marks");
+    c.seen.at_least(1000, &MARKS);
 }
 
 /// The friendly answers say the same as the raw ones.

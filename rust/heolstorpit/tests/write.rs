@@ -8,6 +8,7 @@ use common::{settings, Seen, Twice};
 use heolstorpit::{raw, Header};
 use reference::{
     Settings, AMR_LENGTHS, AMR_WB_LENGTHS, HEADER_BYTES, MAX_BLOCK, MAX_MODE_REQUEST, MAX_OFFSET, MAX_PACKET, MAX_PAYLOAD, MAX_ROWS,
+    PRIMARY, ROW_WORDS,
 };
 
 /// Bytes lent to be written to, at most: some more than any packet.
@@ -18,6 +19,10 @@ const FULL: &str = "payloads of the most bytes";
 
 /// Counted: groups of another length than the one before and apart from it, in lists that are written.
 const APART: &str = "groups apart";
+
+/// Counted: rows of lists that are written, by the mark given; and calls with a bit above the mark, with nothing else that is refused.
+const MARKS: [&str; 2] = ["rows given unmarked", "rows given as primary"];
+const ABOVE: &str = "bits above the mark";
 
 /// Counted: calls with a mode request that there is not, their settings in range.
 const OVER: &str = "mode requests over the greatest";
@@ -54,6 +59,13 @@ impl Comparer {
         );
         self.seen.refusal(answer.refusal);
         self.seen.add("bytes written", answer.length as u64);
+    }
+
+    /// Counts the marks of rows that were written.
+    fn marks(&mut self, written: Result<u32, u32>, list: &List) {
+        for row in list.words.chunks_exact(ROW_WORDS).filter(|_| written.is_ok()) {
+            self.seen.add(MARKS[(row[1] & PRIMARY != 0) as usize], 1);
+        }
     }
 
     /// Writes one payload with both; answers what the reference does.
@@ -142,6 +154,9 @@ fn payloads() {
         let s = if r.percent(2) { cases::bad_settings(&mut r) } else { cases::settings(&mut r) };
         let good = if s.in_range() { s } else { cases::settings(&mut r) };
         let mut list = list(&mut r, good);
+        if r.percent(50) {
+            cases::remark(&mut r, &mut list);
+        }
         let damaged = r.percent(50);
         if damaged {
             for _ in 0..r.within(1, 2) {
@@ -156,6 +171,7 @@ fn payloads() {
         if written.is_ok() {
             c.seen.add(APART, cases::groups_apart(s, &list.words));
         }
+        c.marks(written, &list);
         c.out_lengths(&mut r, written, |c, out| {
             c.payload(s, mode_request, &list, out).ok();
         });
@@ -165,6 +181,7 @@ fn payloads() {
     c.seen.at_least(20, &[FULL]);
     c.seen.at_least(1000, &[OVER]);
     c.seen.at_least(10_000, &[APART]);
+    c.seen.at_least(10_000, &MARKS);
 }
 
 /// A list that some plain payload reads to is never refused with 13: whatever payload it came from.
@@ -211,6 +228,7 @@ fn packets() {
                 c.seen.add("packets of the most bytes, or up to three fewer", 1);
             }
         }
+        c.marks(written, &list);
         c.out_lengths(&mut r, written, |c, out| {
             c.packet(s, head, &counts, &list, out).ok();
         });
@@ -230,8 +248,63 @@ fn packets() {
             "packets of 4 lists",
             "packets of 5 lists",
             OVER,
+            MARKS[0],
+            MARKS[1],
         ],
     );
+}
+
+/// P6: lists that can be written, with other marks: the same bytes, which read back with the marks of their lists. A bit above the mark, in
+/// any row, is 13.
+#[test]
+fn marks() {
+    let mut r = Random::new(17);
+    let mut c = Comparer::new(&mut r);
+    let mut area = vec![0; reference::ROW_AREA];
+    for _ in 0..6000 {
+        let s = cases::settings(&mut r);
+        let (mut list, counts) = cases::lists_for_packet(&mut r, s);
+        let head = Head { mode_request: r.below(16) as u8, ..head(&mut r) };
+        let Ok(length) = c.packet(s, head, &counts, &list, MOST) else {
+            continue;
+        };
+        let alone = ROW_WORDS * counts[0] as usize;
+        let first = |list: &List| List { words: list.words[..alone].to_vec(), bytes: list.bytes.clone() };
+        let payload = c.payload(s, head.mode_request, &first(&list), MOST).expect("a list of a packet can be written alone");
+        let Head { mode_request, marker, sequence, source } = head;
+        let mut written = vec![vec![0; length as usize]; 3];
+        for out in &mut written {
+            cases::remark(&mut r, &mut list);
+            assert_eq!(c.packet(s, head, &counts, &list, MOST), Ok(length));
+            assert_eq!(c.payload(s, mode_request, &first(&list), MOST), Ok(payload));
+            let answer = raw::write_packet(settings(s), mode_request, marker, sequence, source, &counts, &list.words, &list.bytes, out);
+            assert_eq!((answer.refusal, answer.length), (0, length));
+        }
+        assert!(written[0] == written[1] && written[0] == written[2]);
+        c.marks(Ok(length), &list);
+        let reading = reference::read(s, &written[0], &mut area).expect("what is written reads");
+        let second_hand = reading.rows - counts[counts.len() - 1];
+        for (i, row) in area.chunks_exact(ROW_WORDS).take(reading.rows as usize).enumerate() {
+            assert_eq!(row[1] & PRIMARY == 0, i < second_hand as usize);
+        }
+        for bit in 17..32 {
+            let mut spoiled = list.clone();
+            let row = ROW_WORDS * r.below(list.rows());
+            spoiled.words[row + 1] |= 1 << bit;
+            assert_eq!(c.packet(s, head, &counts, &spoiled, MOST), Err(13));
+            let expected = if row < alone { Err(13) } else { Ok(payload) };
+            assert_eq!(c.payload(s, mode_request, &first(&spoiled), MOST), expected);
+            c.seen.add(ABOVE, 1);
+            // 14 comes before it, and so does 11; 12 after it
+            assert_eq!(c.packet(s, head, &counts, &spoiled, 0), Err(13));
+            assert_eq!(c.packet(s, Head { mode_request: 16, ..head }, &counts, &spoiled, MOST), Err(11));
+            let other = ROW_WORDS * r.below(list.rows());
+            spoiled.words[other + 2] = spoiled.bytes.len() as u32 + 1;
+            assert_eq!(c.packet(s, head, &counts, &spoiled, MOST), Err(14));
+        }
+    }
+    c.seen.report("write, marks");
+    c.seen.at_least(10_000, &[MARKS[0], MARKS[1], ABOVE]);
 }
 
 /// Sizes one by one: blocks, payloads, packets, rows and offsets around their limits.

@@ -6,7 +6,7 @@ use crate::reading::{code_of, packet_rows};
 use crate::*;
 
 /// The buffer as the library lays it out. The first `n` of the entries are used, in time order, `n` the number of
-/// ones in `occupied`. A tag is 256 × class + channel. `drawn` is 1 once a pair was drawn, then kept in `last_time` and
+/// ones in `occupied`. A tag is 65,536 × mark + 256 × class + channel. `drawn` is 1 once a pair was drawn, then kept in `last_time` and
 /// `last_channel`.
 #[derive(Clone, Copy, Debug, PartialEq, Eq)]
 pub struct Buffer {
@@ -56,7 +56,7 @@ pub struct Verdicts {
 /// What a draw hands out: a frame, or that there is none.
 #[derive(Clone, Copy, Debug, PartialEq, Eq)]
 pub enum Drawn {
-    Frame { time: u32, channel: u32, class: u32, length: u32 },
+    Frame { time: u32, channel: u32, class: u32, length: u32, primary: bool },
     Empty,
 }
 
@@ -72,6 +72,8 @@ struct Entry {
     class: u32,
     length: u32,
     slot: u32,
+    /// document 02, P6: "has any copy judged new, better or repeat for it been the primary block or a plain payload?"
+    primary: bool,
 }
 
 /// "time t is after h if t − h modulo 2^32 lies in 1 to 2^31 − 1"
@@ -109,9 +111,10 @@ fn unpack(buffer: &Buffer) -> Option<Model> {
     let entries: Vec<Entry> = (0..held)
         .map(|i| Entry {
             pair: Pair { time: buffer.times[i], channel: buffer.tags[i] % 256 },
-            class: buffer.tags[i] / 256,
+            class: buffer.tags[i] % PRIMARY / 256,
             length: buffer.lengths[i],
             slot: buffer.slots[i],
+            primary: buffer.tags[i] / PRIMARY == 1,
         })
         .collect();
     let last = Pair { time: buffer.last_time, channel: buffer.last_channel };
@@ -126,6 +129,8 @@ fn unpack(buffer: &Buffer) -> Option<Model> {
     let exactly_marked = slots.iter().all(|slot| (*slot as usize) < SLOTS && marked(&buffer.occupied, *slot));
     // "sorts 1 or 2 and lengths as the kind allows"; document 02: "A sound take allows the new sorts and lengths."
     let frames = entries.iter().all(|e| e.class != 0 && code_of(settings.format, e.class, e.length).is_some());
+    // a mark is 0 or 1
+    let marks = (0..held).all(|i| buffer.tags[i] / PRIMARY <= 1);
     let channels = entries.iter().all(|e| e.pair.channel < settings.channels as u32);
     let unused_zero = (held..SLOTS).all(|i| buffer.times[i] == 0 && buffer.tags[i] == 0 && buffer.lengths[i] == 0 && buffer.slots[i] == 0);
     let after_last = match buffer.drawn {
@@ -135,7 +140,7 @@ fn unpack(buffer: &Buffer) -> Option<Model> {
         _ => false,
     };
 
-    if ascending && stretch && distinct && exactly_marked && frames && channels && unused_zero && after_last {
+    if ascending && stretch && distinct && exactly_marked && frames && marks && channels && unused_zero && after_last {
         Some(Model { settings, entries, last: if buffer.drawn == 1 { Some(last) } else { None } })
     } else {
         None
@@ -147,7 +152,8 @@ fn pack(model: &Model) -> Buffer {
     buffer.settings = model.settings;
     for (i, entry) in model.entries.iter().enumerate() {
         buffer.times[i] = entry.pair.time;
-        buffer.tags[i] = 256 * entry.class + entry.pair.channel;
+        let mark = if entry.primary { PRIMARY } else { 0 };
+        buffer.tags[i] = mark + 256 * entry.class + entry.pair.channel;
         buffer.lengths[i] = entry.length;
         buffer.slots[i] = entry.slot;
         buffer.occupied[entry.slot as usize / 64] |= 1 << (entry.slot % 64);
@@ -223,6 +229,8 @@ fn judge<'a>(model: &mut Model, row: &Row, bytes: &[u8], store: &mut [u8], verdi
     let same = |e: &&mut Entry| e.pair.time == pair.time && e.pair.channel == pair.channel;
     if let Some(held) = model.entries.iter_mut().find(same) {
         let place = slot_start(held.slot);
+        // Document 02: "a repeat may set it", and a better copy too; "It takes no part in "better""
+        held.primary = held.primary || row.primary;
         if !better(row.class, bytes, held.class, &store[place..place + held.length as usize]) {
             return &mut verdicts.repeated;
         }
@@ -240,7 +248,7 @@ fn judge<'a>(model: &mut Model, row: &Row, bytes: &[u8], store: &mut [u8], verdi
     let place = slot_start(slot);
     store[place..place + bytes.len()].copy_from_slice(bytes);
     let at = model.entries.iter().position(|e| after(e.pair, pair)).unwrap_or(model.entries.len());
-    model.entries.insert(at, Entry { pair, class: row.class, length: row.length, slot });
+    model.entries.insert(at, Entry { pair, class: row.class, length: row.length, slot, primary: row.primary });
     &mut verdicts.inserted
 }
 
@@ -293,6 +301,7 @@ fn drawn(buffer: &Buffer, store: &[u8], area: &mut [u8]) -> Result<(Buffer, Draw
     let length = first.length as usize;
     area[..length].copy_from_slice(&store[place..place + length]);
     model.last = Some(first.pair);
-    let frame = Drawn::Frame { time: first.pair.time, channel: first.pair.channel, class: first.class, length: first.length };
+    let Entry { pair: Pair { time, channel }, class, length, primary, .. } = first;
+    let frame = Drawn::Frame { time, channel, class, length, primary };
     Ok((pack(&model), frame))
 }

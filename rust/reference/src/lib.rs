@@ -51,17 +51,24 @@ pub struct Row {
     /// 0 no data, 1 sound, 2 SID; document 02: 5 damaged sound, 6 damaged SID (document 01: sort)
     pub class: u32,
     pub channel: u32,
+    /// document 02, P6: of "the primary block or a plain payload"
+    pub primary: bool,
     pub start: u32,
     pub length: u32,
 }
 
 impl Row {
-    /// "A row is: timestamp; 256 × sort + channel; start in the packet; length."
+    /// "A row is: timestamp; 256 × sort + channel; start in the packet; length." Document 02: the mark "in bit 16 (65,536) of the second
+    /// word".
     pub fn words(&self) -> [u32; ROW_WORDS] {
-        [self.time, 256 * self.class + self.channel, self.start, self.length]
+        let mark = if self.primary { PRIMARY } else { 0 };
+        [self.time, mark + 256 * self.class + self.channel, self.start, self.length]
     }
 
+    /// A row's words taken apart. Bits above the mark stay with the class, which then is one that no kind has.
     pub fn from_words(words: &[u32]) -> Row {
-        Row { time: words[0], class: words[1] / 256, channel: words[1] % 256, start: words[2], length: words[3] }
+        let primary = words[1] & PRIMARY != 0;
+        let tag = words[1] & !PRIMARY;
+        Row { time: words[0], class: tag / 256, channel: tag % 256, primary, start: words[2], length: words[3] }
     }
 }

@@ -1,5 +1,5 @@
 //! Reading a packet: "The RTP header", "Redundancy", "G.719 tables of contents", "GSM-HR tables"; document 02, P1: AMR and AMR-WB; P2: say
-//! where.
+//! where; P6: heard first-hand or not.
 
 use crate::*;
 
@@ -98,7 +98,8 @@ pub(crate) fn packet_rows(settings: Settings, packet: &[u8]) -> Result<(Reading,
     // "reading answers that of the last plain payload or block with rows, 15 if there is none or in kinds 1 to 3"
     let mut found = Found { rows: Vec::new(), mode_request: NO_MODE_REQUEST };
     if payload_type == settings.payload_type {
-        payload_rows(settings, packet, start, end, timestamp, &mut found)?;
+        let plain = Part { start, end, time: timestamp, primary: true };
+        payload_rows(settings, packet, plain, &mut found)?;
     } else if payload_type == settings.redundancy_type {
         redundancy_rows(settings, packet, start, end, timestamp, &mut found)?;
     } else {
@@ -115,10 +116,20 @@ struct Found {
     mode_request: u8,
 }
 
+/// A plain payload or a block: it lies at `start..end` of the packet, its first frame-block at `time`. Document 02: is it "the primary
+/// block or a plain payload"?
+struct Part {
+    start: usize,
+    end: usize,
+    time: u32,
+    primary: bool,
+}
+
 struct Block {
     payload_type: u8,
     time: u32,
     length: usize,
+    primary: bool,
 }
 
 /// The redundancy payload that lies at `start..end` of the packet.
@@ -144,7 +155,7 @@ fn redundancy_rows(settings: Settings, packet: &[u8], start: usize, end: usize, 
         let offset = rest >> 10;
         let length = (rest & 1023) as usize;
         // "A block's time is the packet's timestamp less its offset, modulo 2^32."
-        blocks.push(Block { payload_type, time: timestamp.wrapping_sub(offset), length });
+        blocks.push(Block { payload_type, time: timestamp.wrapping_sub(offset), length, primary: false });
         at += 4;
     };
 
@@ -153,13 +164,15 @@ fn redundancy_rows(settings: Settings, packet: &[u8], start: usize, end: usize, 
     if summed > end - at {
         return Err(fault(BAD_DATA_LENGTH, at));
     }
-    blocks.push(Block { payload_type: last_type, time: timestamp, length: end - at - summed });
+    // the last block is the primary one
+    blocks.push(Block { payload_type: last_type, time: timestamp, length: end - at - summed, primary: true });
 
     // "then each block is read as a payload, in order". "Only blocks of the plain type give rows; others, a nested
     // redundancy type included, are passed over. A block of length 0 gives no rows."
     for block in blocks {
         if block.payload_type == settings.payload_type && block.length != 0 {
-            payload_rows(settings, packet, at, at + block.length, block.time, found)?;
+            let part = Part { start: at, end: at + block.length, time: block.time, primary: block.primary };
+            payload_rows(settings, packet, part, found)?;
         }
         at += block.length;
     }
@@ -173,8 +186,9 @@ struct Entry {
     steps: Vec<u32>,
 }
 
-/// The payload that lies at `start..end` of the packet, its first frame-block at `time`; its rows are added to those found.
-fn payload_rows(settings: Settings, packet: &[u8], start: usize, end: usize, time: u32, found: &mut Found) -> Result<(), Fault> {
+/// Reads one payload of the packet; its rows are added to those found.
+fn payload_rows(settings: Settings, packet: &[u8], part: Part, found: &mut Found) -> Result<(), Fault> {
+    let Part { start, end, time, primary } = part;
     let channels = settings.channels as usize;
     let mut entries: Vec<Entry> = Vec::new();
     let mut so_far = found.rows.len();
@@ -262,7 +276,7 @@ fn payload_rows(settings: Settings, packet: &[u8], start: usize, end: usize, tim
         for step in &entry.steps {
             now = now.wrapping_add(step * step_ticks(settings.format));
             for channel in 0..channels as u32 {
-                found.rows.push(Row { time: now, class: entry.class, channel, start: at as u32, length: entry.length });
+                found.rows.push(Row { time: now, class: entry.class, channel, primary, start: at as u32, length: entry.length });
                 at += entry.length as usize;
             }
         }

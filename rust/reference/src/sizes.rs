@@ -18,6 +18,8 @@ pub const MAX_OFFSET: u32 = 16_383;
 pub const MAX_BLOCK: usize = 1_023;
 /// "128 for none"
 pub const NO_REDUNDANCY: u8 = 128;
+/// document 02: "Rows, no-data ones too, carry it in bit 16 (65,536) of the second word"; the mark of an entry in its tag too
+pub const PRIMARY: u32 = 65_536;
 /// F: the first bit of a table entry or block header, 1 where another follows
 pub const F_BIT: u8 = 0b1000_0000;
 /// document 02: the quality bit of an entry of kinds 4 and 5

@@ -79,7 +79,7 @@ fn payload_of(settings: Settings, mode_request: u8, list: &[Row], bytes: &[u8]) 
 }
 
 /// Does this plain payload, at this time, read to the list: "the same times, channels, sorts, lengths and frame bytes;
-/// starts may differ"?
+/// starts may differ"? Document 02: "every writer ignores that bit", the mark.
 pub(crate) fn reads_to(settings: Settings, payload: &[u8], time: u32, list: &[Row], bytes: &[u8]) -> bool {
     let mut packet = header(false, settings.payload_type, 0, time, 0);
     packet.extend_from_slice(payload);

@@ -34,8 +34,9 @@ fn rows(settings: Settings, packet: &[u8]) -> Result<(Vec<Row>, u32), u32> {
     Ok((area[..used].chunks(ROW_WORDS).map(Row::from_words).collect(), reading.mode_request))
 }
 
+/// A row of a plain payload or a primary block.
 fn row(time: u32, class: u32, start: u32, length: u32) -> Row {
-    Row { time, class, channel: 0, start, length }
+    Row { time, class, channel: 0, primary: true, start, length }
 }
 
 fn words(rows: &[Row]) -> Vec<u32> {
@@ -167,7 +168,7 @@ fn with_redundancy() {
     // F 1, type 97, offset 160 = 0b00000010100000, length 33 = 0b0000100001; then type 97
     let headers = [0xE1, 0x02, 0x80, 0x21, 0x61];
     let whole = packet(REDUNDANCY, 1000, &[&headers, &old, &new]);
-    let expected = [row(840, SOUND, 19, 31), row(1000, SID, 52, 5)];
+    let expected = [Row { primary: false, ..row(840, SOUND, 19, 31) }, row(1000, SID, 52, 5)];
     assert_eq!(rows(AMR, &whole), Ok((expected.to_vec(), 5)));
 
     // an empty primary block, one of another type: the redundant block's
@@ -273,7 +274,7 @@ fn better_copies() {
             let (class, best) = if j > i { (other_class, other) } else { (class, bytes) };
             let mut area = vec![0; DRAW_AREA];
             let (_, frame) = draw(&after, &store, &mut area);
-            assert_eq!(frame, Ok(Drawn::Frame { time: 5, channel: 0, class: *class, length: best.len() as u32 }));
+            assert_eq!(frame, Ok(Drawn::Frame { time: 5, channel: 0, class: *class, length: best.len() as u32, primary: true }));
             assert_eq!(area[..best.len()], best[..]);
         }
     }
@@ -317,7 +318,7 @@ fn gathered() {
     assert_eq!(verdicts, Verdicts { inserted: 2, ..Verdicts::default() });
     for (time, class, bytes) in [(0, SID, &[2; 5][..]), (320, SOUND, &[3; 17]), (960, DAMAGED_SOUND, &[1; 60])] {
         let (after, frame) = draw(&buffer, &store, &mut area);
-        assert_eq!(frame, Ok(Drawn::Frame { time, channel: 0, class, length: bytes.len() as u32 }));
+        assert_eq!(frame, Ok(Drawn::Frame { time, channel: 0, class, length: bytes.len() as u32, primary: true }));
         assert_eq!(&area[..bytes.len()], bytes);
         buffer = after;
     }

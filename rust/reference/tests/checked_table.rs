@@ -126,7 +126,7 @@ fn line_9_late() {
     let (held, _) = offered(&empty, &mut store, &stereo(0));
     let mut area = vec![0; DRAW_AREA];
     let (once, frame) = draw(&held, &store, &mut area);
-    assert_eq!(frame, Ok(Drawn::Frame { time: 0, channel: 0, class: 1, length: 80 }));
+    assert_eq!(frame, Ok(Drawn::Frame { time: 0, channel: 0, class: 1, length: 80, primary: true }));
     // Take (0, 1) out again by hand, so that it is new.
     let mut drained = once;
     drained.times[0] = 0;

@@ -34,14 +34,14 @@ fn tables(format: u8, blocks: usize) -> Vec<Vec<u8>> {
     all
 }
 
-/// The times, tags and lengths that a table reads to, at time 0; its sound is a whole number of `unit` bytes.
+/// The times, tags and lengths that a table reads to, at time 0, the mark left out; its sound is a whole number of `unit` bytes.
 fn reads_to(settings: Settings, table: &[u8], unit: usize) -> Vec<(u32, u32, u32)> {
     let mut packet = vec![0x80, 97, 0, 0, 0, 0, 0, 0, 0, 0, 0, 0];
     packet.extend_from_slice(table);
     for _ in 0..200 {
         let mut area = vec![0; ROW_AREA];
         if let Ok(reading) = read(settings, &packet, &mut area) {
-            return area[..ROW_WORDS * reading.rows as usize].chunks(ROW_WORDS).map(|row| (row[0], row[1], row[3])).collect();
+            return area[..ROW_WORDS * reading.rows as usize].chunks(ROW_WORDS).map(|row| (row[0], row[1] & !PRIMARY, row[3])).collect();
         }
         packet.extend(vec![0; unit]);
     }

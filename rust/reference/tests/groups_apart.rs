@@ -81,7 +81,7 @@ fn the_record_keeps_the_gap() {
     let (buffer, verdicts) = offer(&buffer, &packet(0, &payload), &mut area, &mut store);
     assert_eq!(verdicts.unwrap().inserted, 2);
     let (buffer, first) = draw(&buffer, &store, &mut frame);
-    assert_eq!(first, Ok(Drawn::Frame { time: 0, channel: 0, class: 1, length: 80 }));
+    assert_eq!(first, Ok(Drawn::Frame { time: 0, channel: 0, class: 1, length: 80, primary: true }));
     let (_, second) = draw(&buffer, &store, &mut frame);
-    assert_eq!(second, Ok(Drawn::Frame { time: 6 * 960, channel: 0, class: 1, length: 90 }));
+    assert_eq!(second, Ok(Drawn::Frame { time: 6 * 960, channel: 0, class: 1, length: 90, primary: true }));
 }

@@ -33,7 +33,7 @@ fn drawn_after(order: &[u32], base: u32) -> Vec<u32> {
         buffer = next;
         match drawn.unwrap() {
             Drawn::Empty => return found,
-            Drawn::Frame { time, channel: 0, class: 1, length: 80 } => {
+            Drawn::Frame { time, channel: 0, class: 1, length: 80, primary: true } => {
                 let number = time.wrapping_sub(base) / 960;
                 assert_eq!(time, base.wrapping_add(number * 960));
                 assert!(frame[..80].iter().all(|byte| *byte as u32 == number));

@@ -30,7 +30,7 @@ pub struct CFresh(u32, CBuffer);
 pub struct COffered([u32; 8], CBuffer);
 
 #[repr(C)]
-pub struct CDrawn([u32; 6], CBuffer);
+pub struct CDrawn([u32; 7], CBuffer);
 
 #[repr(C)]
 #[derive(Clone, Copy)]
@@ -169,9 +169,9 @@ pub unsafe extern "C" fn hsp_offer(
 pub unsafe extern "C" fn hsp_draw(b: CBuffer, store: *const u8, k: usize, area: *mut u8, n: usize) -> CDrawn {
     let (after, answer) = reference::draw(&buffer(b), from_raw_parts(store, k), from_raw_parts_mut(area, n));
     let numbers = match answer {
-        Ok(Drawn::Frame { time, channel, class, length }) => [0, 0, time, channel, class, length],
-        Ok(Drawn::Empty) => [0, 1, 0, 0, 0, 0],
-        Err(refusal) => [refusal, 0, 0, 0, 0, 0],
+        Ok(Drawn::Frame { time, channel, class, length, primary }) => [0, 0, time, channel, class, length, primary as u32],
+        Ok(Drawn::Empty) => [0, 1, 0, 0, 0, 0, 0],
+        Err(refusal) => [refusal, 0, 0, 0, 0, 0, 0],
     };
     CDrawn(numbers, c_buffer(after))
 }

@@ -1,4 +1,4 @@
-//! The reference's settings, buffers and receptions as the library's. Also used by `exact`.
+//! The reference's settings, buffers, draws and receptions as the library's. Also used by `exact`.
 #![allow(dead_code)]
 
 use heolstorpit::raw;
@@ -18,6 +18,18 @@ pub fn to_raw(b: &reference::Buffer) -> raw::Buffer {
         last_channel: b.last_channel,
         drawn: b.drawn,
         settings: settings(b.settings),
+    }
+}
+
+/// What a draw answers, and the buffer that it leaves.
+pub fn raw_drawn(answer: Result<reference::Drawn, u32>, after: &reference::Buffer) -> raw::Drawn {
+    let none = raw::Drawn { refusal: 0, empty: 0, time: 0, channel: 0, frame_class: 0, length: 0, primary: 0, buffer: to_raw(after) };
+    match answer {
+        Ok(reference::Drawn::Frame { time, channel, class, length, primary }) => {
+            raw::Drawn { time, channel, frame_class: class, length, primary: primary as u32, ..none }
+        }
+        Ok(reference::Drawn::Empty) => raw::Drawn { empty: 1, ..none },
+        Err(refusal) => raw::Drawn { refusal, ..none },
     }
 }
 

@@ -4,7 +4,7 @@
 mod convert;
 
 use cases::Random;
-pub use convert::{raw_reception, settings, to_raw};
+pub use convert::{raw_drawn, raw_reception, settings, to_raw};
 use std::fmt::Debug;
 
 /// The same memory twice, for the library and for the reference, with a lent area inside: everything outside the area
@@ -65,6 +65,10 @@ impl Seen {
         self.add(if number == 0 { "accepted".to_string() } else { format!("refusal {number:2}") }, 1);
     }
 
+    pub fn get(&self, name: &str) -> u64 {
+        self.counts.get(name).copied().unwrap_or(0)
+    }
+
     /// Prints the counts.
     pub fn report(&self, title: &str) {
         let list: Vec<String> = self.counts.iter().map(|(name, n)| format!("{name}: {n}")).collect();
@@ -74,7 +78,7 @@ impl Seen {
     /// Each of these was seen this often at least: the generator does not miss it.
     pub fn at_least(&self, least: u64, names: &[&str]) {
         for name in names {
-            let n = self.counts.get(*name).copied().unwrap_or(0);
+            let n = self.get(name);
             assert!(n >= least, "`{name}` was seen {n} times only: the generator misses it");
         }
     }

@@ -44,6 +44,12 @@ element-copy-out-tag-class c = search needs
 tag-class-requires : tie.Need-tag-class-requires
 tag-class-requires c κs = search needs
 
+element-copy-out-tag-mark : tie.Need-element-copy-out-tag-mark
+element-copy-out-tag-mark c = search needs
+
+tag-mark-requires : tie.Need-tag-mark-requires
+tag-mark-requires c κs = search needs
+
 element-copy-out-length : tie.Need-element-copy-out-length
 element-copy-out-length c = search needs
 
@@ -51,16 +57,16 @@ element-copy-out-slot : tie.Need-element-copy-out-slot
 element-copy-out-slot c = search needs
 
 cast-slot : tie.Need-cast-slot
-cast-slot c = search needs
+cast-slot c = omega (arith, slot-at (c .before .before .before .before .before .before .before .before .before .before .before))
 
 mul-start : tie.Need-mul-start
-mul-start c = omega (arith, slot-at (c .before .before .before .before .before .before .before .before .before .before))
+mul-start c = omega (arith, slot-at (c .before .before .before .before .before .before .before .before .before .before .before .before))
 
 cast-end : tie.Need-cast-end
 cast-end c = search needs
 
 add-end : tie.Need-add-end
-add-end c = omega (arith, slot-at (c .before .before .before .before .before .before .before .before .before .before), short-at (c .before .before .before .before .before .before .before .before .before .before))
+add-end c = omega (arith, slot-at (c .before .before .before .before .before .before .before .before .before .before .before .before), short-at (c .before .before .before .before .before .before .before .before .before .before .before .before))
 
 sub-copy-into : tie.Need-sub-copy-into
 sub-copy-into c = search needs
@@ -69,7 +75,7 @@ part-copy-into-start : tie.Need-part-copy-into-start
 part-copy-into-start c = search needs
 
 part-copy-into-end : tie.Need-part-copy-into-end
-part-copy-into-end c = omega (arith, slot-at (c .before .before .before .before .before .before .before .before .before .before .before), short-at (c .before .before .before .before .before .before .before .before .before .before .before), c .before .before .before .before .before .before .before .before .before .before .before .pre .room)
+part-copy-into-end c = omega (arith, slot-at (c .before .before .before .before .before .before .before .before .before .before .before .before .before), short-at (c .before .before .before .before .before .before .before .before .before .before .before .before .before), c .before .before .before .before .before .before .before .before .before .before .before .before .before .pre .room)
 
 copy-into-requires : tie.Need-copy-into-requires
 copy-into-requires c κs = search needs
@@ -94,9 +100,9 @@ same-length c = search needs
 
 returns : tie.Need-returns
 returns c =
-    let s = c .before .before .before .before .before .before .before .before .before .before .before .before .before .before .before .before .before .before .before .before .before .before .before .before in
+    let s = c .before .before .before .before .before .before .before .before .before .before .before .before .before .before .before .before .before .before .before .before .before .before .before .before .before .before in
     let b = s .args .t1 in
-    left b (s .args .n) (now (s .args .store)) (now (s .args .area)) (s .pre) _ _ (c .before .before .before .before .before .before .before .before .before .before .before .before .before .before .before .before .before .before .before .tag-channel .ensures .0) (c .before .before .before .before .before .before .before .before .before .before .before .before .before .before .before .before .before .tag-class .ensures) _ _ _ _ _ _ (c .before .before .before .before .before .before .before .remove-first .ensures) (c .before .before .before .before .before .remove-first2 .ensures) (c .before .before .before .remove-first3 .ensures) (c .before .remove-first4 .ensures) (c .unmark .ensures ∙ released-marked (b .occupied) (getD (b .slots) 0 0) (slot-at s) (first-marked b (s .args .n) (now (s .args .store)) (now (s .args .area)) (s .pre)))
+    left b (s .args .n) (now (s .args .store)) (now (s .args .area)) (s .pre) _ _ _ (c .before .before .before .before .before .before .before .before .before .before .before .before .before .before .before .before .before .before .before .before .before .tag-channel .ensures .0) (c .before .before .before .before .before .before .before .before .before .before .before .before .before .before .before .before .before .before .before .tag-class .ensures) (c .before .before .before .before .before .before .before .before .before .before .before .before .before .before .before .before .before .tag-mark .ensures .0) _ _ _ _ _ _ (c .before .before .before .before .before .before .before .remove-first .ensures) (c .before .before .before .before .before .remove-first2 .ensures) (c .before .before .before .remove-first3 .ensures) (c .before .remove-first4 .ensures) (c .unmark .ensures ∙ released-marked (b .occupied) (getD (b .slots) 0 0) (slot-at s) (first-marked b (s .args .n) (now (s .args .store)) (now (s .args .area)) (s .pre)))
     (take (slotSize * getD (b .slots) 0 0 + getD (b .lengths) 0 0 - slotSize * getD (b .slots) 0 0) (drop (slotSize * getD (b .slots) 0 0) (now (s .args .store))))
     (part-cut (slotSize * getD (b .slots) 0 0) (getD (b .lengths) 0 0) (now (s .args .store)))
     (c .before .before .before .before .before .before .before .before .before .before .before .copy-into .ensures ∙ laid-is _ _ _ (fit-at s))
@@ -110,6 +116,8 @@ draw-first-spec =
     tag-channel-requires
     element-copy-out-tag-class
     tag-class-requires
+    element-copy-out-tag-mark
+    tag-mark-requires
     element-copy-out-length
     element-copy-out-slot
     cast-slot

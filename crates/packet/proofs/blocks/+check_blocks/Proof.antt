@@ -1,3 +1,4 @@
+use Rattle.formats.specs.Tags.{redundantMark}
 use denote.Ref.{now}
 use lib.ListN.{length, take, drop, length-take, length-drop}
 use mathlib.Core.Path.{_≡_, ap, subst, sym, _∙_}
@@ -12,7 +13,7 @@ use Rattle.payload.specs.declared.reading.PayloadRead.{PayloadRead}
 use Rattle.payload.proofs.PayloadLaws.{answer-none}
 use Rattle.packet.specs.Room.{askedBlock, blocksFrom}
 use Rattle.packet.proofs.AnswerLaws.{addAnswer, thenAnswer, Few, further, Inside}
-use Rattle.packet.proofs.BlockLaws.{from-few, from-refused, block-in, first-few, asked-primary, asked-rest, checked, from-inside}
+use Rattle.packet.proofs.BlockLaws.{from-few, from-refused, block-in, first-few, checked-primary, asked-rest, checked, from-inside}
 use Rattle.rtp.proofs.NumberLaws.{same-block}
 use borrow.Author.Needs.{needs}
 use Prim.Native.Nat.{ℕ, _+_, _-_, _<_, _≤_}
@@ -58,7 +59,7 @@ block-at t c = let a = c .before .before .before .before .before .args in block-
 
 -- the rows of its block
 here-at : (t : ℕ) (c : At check-blocks-lts.After-here t) → let a = c .before .before .before .before .before .before .before .before .before .before .args in let e = c .before .before .before .before .before .block .given .0 .0 in
-    rowsAnswer (askedBlock (a .settings) (a .done) rowArea 0 (e .«payload_type») 0 0 (take (e .length) (now (a .s)))) ≡ PayloadRead.Rows (c .here .given .0 .0)
+    rowsAnswer (askedBlock redundantMark (a .settings) (a .done) rowArea 0 (e .«payload_type») 0 0 (take (e .length) (now (a .s)))) ≡ PayloadRead.Rows (c .here .given .0 .0)
 here-at t c = sym (c .before .before .check-block2 .ensures) ∙ c .here .given .1
 
 few-at : (t : ℕ) (c : At check-blocks-lts.After-here t) → c .before .before .before .before .before .before .before .before .before .before .args .done + c .here .given .0 .0 ≤ maxRows
@@ -173,7 +174,7 @@ check-blocks-returns : (t : ℕ) → At check-blocks-lts.Need-returns t
 check-blocks-returns t c = let a = c .before .before .before .before .before .before .args in answer-none _ _ (from-refused (a .settings) (a .done) 0 0 (now (a .headers)) (now (a .s)) _ (sym (same-block _ _ (c .before .before .before .read-block-header .ensures)) ∙ c .before .refusal .given .1))
 
 check-blocks-returns-2 : (t : ℕ) → At check-blocks-lts.Need-returns-2 t
-check-blocks-returns-2 t c = let a = c .before .before .before .before .before .before .before .args in c .check-block .ensures ∙ ap rowsAnswer (asked-primary (a .settings) (a .done) rowArea 0 0 (now (a .headers)) (now (a .s)) (c .before .before .before .before .before .before .before .pre .1) (omega arith) _ (sym (same-block _ _ (c .before .before .before .before .read-block-header .ensures)) ∙ c .before .before .block-type .given .1))
+check-blocks-returns-2 t c = let a = c .before .before .before .before .before .before .before .args in c .check-block .ensures ∙ checked-primary (a .settings) (a .done) (now (a .headers)) (now (a .s)) (c .before .before .before .before .before .before .before .pre .1) _ (sym (same-block _ _ (c .before .before .before .before .read-block-header .ensures)) ∙ c .before .before .block-type .given .1)
 
 check-blocks-returns-3 : (t : ℕ) → At check-blocks-lts.Need-returns-3 t
 check-blocks-returns-3 t c =

@@ -1,3 +1,4 @@
+use Rattle.formats.specs.Tags.{redundantMark}
 use denote.Ref.{now}
 use lib.ListN.{length, take, drop, length-take}
 use mathlib.Core.List.{List}
@@ -58,7 +59,7 @@ inside-at t c = omega (arith, block-at t c, c .before .before .before .before .b
 
 -- the rows of its block
 here-at : (t : ℕ) (c : At put-blocks-lts.After-here t) → let a = c .before .before .before .before .before .before .before .before .before .before .before .before .before .before .args in let e = c .before .before .before .before .before .before .before .before .block .given .0 .0 in
-    rowsAnswer (askedBlock (a .settings) (a .done) (length (now (a .rows))) (a .time) (e .«payload_type») (e .offset) (a .at) (take (e .length) (now (a .s)))) ≡ PayloadRead.Rows (c .here .given .0 .0)
+    rowsAnswer (askedBlock redundantMark (a .settings) (a .done) (length (now (a .rows))) (a .time) (e .«payload_type») (e .offset) (a .at) (take (e .length) (now (a .s)))) ≡ PayloadRead.Rows (c .here .given .0 .0)
 here-at t c = sym (c .before .before .before .before .put-block2 .ensures .0) ∙ c .here .given .1
 
 few-at : (t : ℕ) (c : At put-blocks-lts.After-here t) → c .before .before .before .before .before .before .before .before .before .before .before .before .before .before .args .done + c .here .given .0 .0 ≤ maxRows
@@ -66,10 +67,10 @@ few-at t c = let a = c .before .before .before .before .before .before .before .
 
 -- the area that they were written over
 abbrev area-at : (t : ℕ) → At put-blocks-lts.After-put-block2 t → List ℕ
-area-at t c = c .put-block2 .last .1 .1 .1 .1 .1 .1 .1 .0
+area-at t c = c .put-block2 .last .1 .1 .1 .1 .1 .1 .1 .1 .0
 
 kept-at : (t : ℕ) (c : At put-blocks-lts.After-put-block2 t) → length (area-at t c) ≡ length (now (c .before .before .before .before .before .before .before .before .before .before .args .rows))
-kept-at t c = c .put-block2 .kept .1 .1 .1 .1 .1 .1 .1 .0
+kept-at t c = c .put-block2 .kept .1 .1 .1 .1 .1 .1 .1 .1 .0
 
 width-at : (t : ℕ) (c : At put-blocks-lts.After-here t) → rowWidth * c .here .given .0 .0 ≤ length (area-at t (c .before .before .before .before))
 width-at t c = omega (arith, few-at t c, c .before .before .before .before .before .before .before .before .before .before .before .before .before .before .pre .1 .area-fits, kept-at t (c .before .before .before .before))

@@ -12,15 +12,15 @@ use Rattle.packet.proofs.blocks.put_block.Tie as tie
 
 -- the rows of the call
 rows-at : (c : tie.After-read-payload) → let a = c .before .before .before .before .before .before .before .before .args in
-    askedRows (a .settings) (a .done) (length (now (a .rows))) (c .before .before .difference .result) (a .at) (now (a .s))
-    ≡ askedBlock (a .settings) (a .done) (length (now (a .rows))) (a .time) (a .block-type) (a .offset) (a .at) (now (a .s))
+    askedRows (a .mark) (a .settings) (a .done) (length (now (a .rows))) (c .before .before .difference .result) (a .at) (now (a .s))
+    ≡ askedBlock (a .mark) (a .settings) (a .done) (length (now (a .rows))) (a .time) (a .block-type) (a .offset) (a .at) (now (a .s))
 rows-at c =
     let a = c .before .before .before .before .before .before .before .before .args in
-    ap (λ (t : ℕ). askedRows (a .settings) (a .done) (length (now (a .rows))) t (a .at) (now (a .s))) (c .before .before .difference .ensures)
-    ∙ sym (asked-some (a .settings) (a .done) (length (now (a .rows))) (a .time) (a .block-type) (a .offset) (a .at) (now (a .s)) (c .before .before .before .before .if1 .taken) (c .before .before .before .if2 .left))
+    ap (λ (t : ℕ). askedRows (a .mark) (a .settings) (a .done) (length (now (a .rows))) t (a .at) (now (a .s))) (c .before .before .difference .ensures)
+    ∙ sym (asked-some (a .mark) (a .settings) (a .done) (length (now (a .rows))) (a .time) (a .block-type) (a .offset) (a .at) (now (a .s)) (c .before .before .before .before .if1 .taken) (c .before .before .before .if2 .left))
 
 returns : tie.Need-returns
-returns c = let a = c .before .before .before .before .before .args in gives-empty (now (a .rows)) _ (asked-empty (a .settings) (a .done) (length (now (a .rows))) (a .time) (a .block-type) (a .offset) (a .at) (now (a .s)) (c .before .if1 .taken) (c .if2 .taken))
+returns c = let a = c .before .before .before .before .before .args in gives-empty (now (a .rows)) _ (asked-empty (a .mark) (a .settings) (a .done) (length (now (a .rows))) (a .time) (a .block-type) (a .offset) (a .at) (now (a .s)) (c .before .if1 .taken) (c .if2 .taken))
 
 difference-requires : tie.Need-difference-requires
 difference-requires c κs = search needs
@@ -35,7 +35,7 @@ returns-2 : tie.Need-returns-2
 returns-2 c = gives-same _ (now (c .before .before .before .before .before .before .before .before .before .before .args .rows)) _ _ _ (rows-at (c .before .before)) (gives-read _ _ _ _ (c .before .before .read-payload .ensures))
 
 returns-3 : tie.Need-returns-3
-returns-3 c = let a = c .before .before .before .before .args in gives-empty (now (a .rows)) _ (asked-other (a .settings) (a .done) (length (now (a .rows))) (a .time) (a .block-type) (a .offset) (a .at) (now (a .s)) (c .if1 .left))
+returns-3 c = let a = c .before .before .before .before .args in gives-empty (now (a .rows)) _ (asked-other (a .mark) (a .settings) (a .done) (length (now (a .rows))) (a .time) (a .block-type) (a .offset) (a .at) (now (a .s)) (c .if1 .left))
 
 pub put-block-spec : {M : Type 1} → statement M
 put-block-spec =

@@ -30,8 +30,8 @@ both-none : (x : Rows) (r : Fault) (l : List ℕ) → x ≡ noRows r → (payloa
 both-none x r l h = (rows-has _ x (answer-none x r h), words-none x r l h)
 
 -- the settings are in range, there is room, and the payload lies in a packet
-asked-at : (c : tie.Else3) → let a = c .before .before .before .before .before .before .args in askedRows (a .asked) (a .done) (length (now (a .area))) (a .time) (a .at) (now (a .s)) ≡ payloadRows (a .asked .format) (a .asked .channels) (a .done) (a .time) (a .at) (now (a .s))
-asked-at c = let a = c .before .before .before .before .before .before .args in asked-in (a .asked) (a .done) (length (now (a .area))) (a .time) (a .at) (now (a .s)) (sym (c .before .before .before .in-range .ensures) ∙ c .before .before .if1 .taken) (omega (arith, c .before .if2 .left)) (omega (arith, c .if3 .left))
+asked-at : (c : tie.Else3) → let a = c .before .before .before .before .before .before .args in askedRows (a .mark) (a .asked) (a .done) (length (now (a .area))) (a .time) (a .at) (now (a .s)) ≡ payloadRows (a .mark) (a .asked .format) (a .asked .channels) (a .done) (a .time) (a .at) (now (a .s))
+asked-at c = let a = c .before .before .before .before .before .before .args in asked-in (a .mark) (a .asked) (a .done) (length (now (a .area))) (a .time) (a .at) (now (a .s)) (sym (c .before .before .before .in-range .ensures) ∙ c .before .before .if1 .taken) (omega (arith, c .before .if2 .left)) (omega (arith, c .if3 .left))
 
 -- it is a header, and a body that is read on
 body-at : (c : tie.Else4) → let a = c .before .before .before .before .before .before .before .before .args in let n = c .before .format-of .result .header in take (length (now (a .s)) - n) (drop n (now (a .s))) ≡ body (a .asked .format) (now (a .s))
@@ -57,19 +57,19 @@ table-at : (c : tie.After-sizes) → let a = c .before .before .before .before .
 table-at c = sym (contents-is _ _ _ _ (rw (body-at (c .before .before .before .before)) at (c .before .before .read-contents .ensures))) ∙ c .sizes .given .1
 
 small-at : (c : tie.After-sizes) → let a = c .before .before .before .before .before .before .before .before .before .before .before .before .args in Small (a .done) (length (body (a .asked .format) (now (a .s)))) (c .sizes .given .0 .0)
-small-at c = let a = c .before .before .before .before .before .before .before .before .before .before .before .before .args in pay-small (a .asked .format) (a .asked .channels) (a .done) (a .time) (a .at) (now (a .s)) (c .sizes .given .0 .0) (table-at c)
+small-at c = let a = c .before .before .before .before .before .before .before .before .before .before .before .before .args in pay-small (a .mark) (a .asked .format) (a .asked .channels) (a .done) (a .time) (a .at) (now (a .s)) (c .sizes .given .0 .0) (table-at c)
 
 whole-at : (c : tie.Then5) → let a = c .before .before .before .before .before .before .before .before .before .before .before .before .before .before .before .before .args in let t = c .before .before .before .before .sizes .given .0 .0 in t .size + t .frames ≡ length (body (a .asked .format) (now (a .s)))
 whole-at c = omega (arith, length-at (c .before .before .before .before .before .before .before .before), c .if5 .taken)
 
 -- its first entry's DIS1 is passed over: the rows are counted from a time before
 counted-from : (c : tie.After-sizes) (o start : ℕ) → let a = c .before .before .before .before .before .before .before .before .before .before .before .before .args in let b = body (a .asked .format) (now (a .s)) in (o ≡ originOf (a .asked .format) (a .time) b) × (gapAt (a .asked .format) b 0 < 16)
-    → contentsWords (a .asked .format) (a .asked .channels) o start (contents (a .asked .format) (a .asked .channels) (a .done) b) ≡ contentsWords (a .asked .format) (a .asked .channels) (a .time) start (passFirst (contents (a .asked .format) (a .asked .channels) (a .done) b))
+    → contentsWords (a .mark) (a .asked .format) (a .asked .channels) o start (contents (a .asked .format) (a .asked .channels) (a .done) b) ≡ contentsWords (a .mark) (a .asked .format) (a .asked .channels) (a .time) start (passFirst (contents (a .asked .format) (a .asked .channels) (a .done) b))
 counted-from c o start e =
     let a = c .before .before .before .before .before .before .before .before .before .before .before .before .args in
     let b = body (a .asked .format) (now (a .s)) in
     let s : stepOf (a .asked .format) ≤ maxStep = step-fine (a .asked .format) .small in
-    rw (e .0) (words-from (a .asked .format) (a .asked .channels) (gapAt (a .asked .format) b 0) (a .time) start (contents (a .asked .format) (a .asked .channels) (a .done) b) (c .before .before .before .before .before .before .before .before .before .before .before .before .fits .time .fits) (omega (arith, mul-le-mul-left (gapAt (a .asked .format) b 0) s, e .1)) (begins (a .asked .format) (a .asked .channels) (a .done) b))
+    rw (e .0) (words-from (a .mark) (a .asked .format) (a .asked .channels) (gapAt (a .asked .format) b 0) (a .time) start (contents (a .asked .format) (a .asked .channels) (a .done) b) (c .before .before .before .before .before .before .before .before .before .before .before .before .fits .time .fits) (omega (arith, mul-le-mul-left (gapAt (a .asked .format) b 0) s, e .1)) (begins (a .asked .format) (a .asked .channels) (a .done) b))
 
 in-range-requires : tie.Need-in-range-requires
 in-range-requires c κs = search needs
@@ -81,19 +81,19 @@ add-if2 : tie.Need-add-if2
 add-if2 c = search needs
 
 returns : tie.Need-returns
-returns c = let a = c .before .before .before .before .before .args in both-none _ _ (now (a .area)) (asked-short (a .asked) (a .done) (length (now (a .area))) (a .time) (a .at) (now (a .s)) (sym (c .before .before .in-range .ensures) ∙ c .before .if1 .taken) (omega (arith, c .if2 .taken)))
+returns c = let a = c .before .before .before .before .before .args in both-none _ _ (now (a .area)) (asked-short (a .mark) (a .asked) (a .done) (length (now (a .area))) (a .time) (a .at) (now (a .s)) (sym (c .before .before .in-range .ensures) ∙ c .before .if1 .taken) (omega (arith, c .if2 .taken)))
 
 add-if3 : tie.Need-add-if3
 add-if3 c = search needs
 
 returns-2 : tie.Need-returns-2
-returns-2 c = let a = c .before .before .before .before .before .before .args in both-none _ _ (now (a .area)) (asked-long (a .asked) (a .done) (length (now (a .area))) (a .time) (a .at) (now (a .s)) (sym (c .before .before .before .in-range .ensures) ∙ c .before .before .if1 .taken) (omega (arith, c .before .if2 .left)) (omega (arith, c .if3 .taken)))
+returns-2 c = let a = c .before .before .before .before .before .before .args in both-none _ _ (now (a .area)) (asked-long (a .mark) (a .asked) (a .done) (length (now (a .area))) (a .time) (a .at) (now (a .s)) (sym (c .before .before .before .in-range .ensures) ∙ c .before .before .if1 .taken) (omega (arith, c .before .if2 .left)) (omega (arith, c .if3 .taken)))
 
 format-of-requires : tie.Need-format-of-requires
 format-of-requires c κs = search needs
 
 returns-3 : tie.Need-returns-3
-returns-3 c = let a = c .before .before .before .before .before .before .before .before .args in both-none _ _ (now (a .area)) (asked-at (c .before .before) ∙ pay-headless (a .asked .format) (a .asked .channels) (a .done) (a .time) (a .at) (now (a .s)) (rw (sym (c .before .format-of .ensures)) (c .if4 .taken)))
+returns-3 c = let a = c .before .before .before .before .before .before .before .before .args in both-none _ _ (now (a .area)) (asked-at (c .before .before) ∙ pay-headless (a .mark) (a .asked .format) (a .asked .channels) (a .done) (a .time) (a .at) (now (a .s)) (rw (sym (c .before .format-of .ensures)) (c .if4 .taken)))
 
 sub-read-contents : tie.Need-sub-read-contents
 sub-read-contents c = search needs
@@ -152,29 +152,29 @@ add-put-contents-2 c = search needs
 put-contents-requires : tie.Need-put-contents-requires
 put-contents-requires c κs =
     let a = c .before .before .before .before .before .before .before .before .before .before .before .before .before .before .before .before .before .before .before .before .before .before .args in
-    rw (body-at (c .before .before .before .before .before .before .before .before .before .before .before .before .before .before)) (pay-room (a .asked .format) (a .asked .channels) (a .done) (a .time) (a .at) (now (a .s)) _ (table-at (c .before .before .before .before .before .before .before .before .before .before)) (length (now (a .area))) _ (omega arith) (omega (arith, c .before .before .before .before .before .before .before .before .before .before .before .before .before .before .before .before .before .if2 .left)) (omega (arith, c .before .before .before .before .before .before .before .before .before .before .before .before .before .before .before .before .if3 .left)) (whole-at (c .before .before .before .before .before .before)) (start-at (c .before .before .before .before .before .before .before .before .before .before .before .before .before .before) (c .before .before .before .before .before .before .before .before .before .before .sizes .given .0 .0 .size)))
+    rw (body-at (c .before .before .before .before .before .before .before .before .before .before .before .before .before .before)) (pay-room (a .mark) (a .asked .format) (a .asked .channels) (a .done) (a .time) (a .at) (now (a .s)) _ (table-at (c .before .before .before .before .before .before .before .before .before .before)) (length (now (a .area))) _ (omega arith) (omega (arith, c .before .before .before .before .before .before .before .before .before .before .before .before .before .before .before .before .before .if2 .left)) (omega (arith, c .before .before .before .before .before .before .before .before .before .before .before .before .before .before .before .before .if3 .left)) (whole-at (c .before .before .before .before .before .before)) (start-at (c .before .before .before .before .before .before .before .before .before .before .before .before .before .before) (c .before .before .before .before .before .before .before .before .before .before .sizes .given .0 .0 .size)))
 
-cast-t49 : tie.Need-cast-t49
-cast-t49 c = omega (arith, small-at (c .before .before .before .before .before .before .before .before .before .before .before .before .before .before) .few)
-
-add-t32 : tie.Need-add-t32
-add-t32 c = omega (arith, there-at (c .before .before .before .before .before), header-at (c .before .before .before .before .before), c .before .before .before .before .before .before .before .if3 .left)
+cast-t50 : tie.Need-cast-t50
+cast-t50 c = omega (arith, small-at (c .before .before .before .before .before .before .before .before .before .before .before .before .before .before) .few)
 
 add-t33 : tie.Need-add-t33
-add-t33 c =
-    let a = c .before .before .before .before .before .before .before .before .before .before .before .before .before .before .args in
-    omega (arith, pay-place (a .asked .format) (a .asked .channels) (a .done) (a .time) (a .at) (now (a .s)) _ (fault-at (c .before .before)), length-at (c .before .before .before .before .before .before), c .before .before .before .before .before .before .before .before .if3 .left)
+add-t33 c = omega (arith, there-at (c .before .before .before .before .before), header-at (c .before .before .before .before .before), c .before .before .before .before .before .before .before .if3 .left)
 
-add-t59 : tie.Need-add-t59
-add-t59 c = omega (arith, there-at (c .before .before .before .before .before .before .before .before), header-at (c .before .before .before .before .before .before .before .before), c .before .before .before .before .before .before .before .before .before .before .if3 .left)
+add-t34 : tie.Need-add-t34
+add-t34 c =
+    let a = c .before .before .before .before .before .before .before .before .before .before .before .before .before .before .args in
+    omega (arith, pay-place (a .mark) (a .asked .format) (a .asked .channels) (a .done) (a .time) (a .at) (now (a .s)) _ (fault-at (c .before .before)), length-at (c .before .before .before .before .before .before), c .before .before .before .before .before .before .before .before .if3 .left)
 
 add-t60 : tie.Need-add-t60
-add-t60 c = omega (arith, small-at (c .before .before .before .before .before), length-at (c .before .before .before .before .before .before .before .before .before), c .before .before .before .before .before .before .before .before .before .before .before .if3 .left)
+add-t60 c = omega (arith, there-at (c .before .before .before .before .before .before .before .before), header-at (c .before .before .before .before .before .before .before .before), c .before .before .before .before .before .before .before .before .before .before .if3 .left)
+
+add-t61 : tie.Need-add-t61
+add-t61 c = omega (arith, small-at (c .before .before .before .before .before), length-at (c .before .before .before .before .before .before .before .before .before), c .before .before .before .before .before .before .before .before .before .before .before .if3 .left)
 
 returns-4 : tie.Need-returns-4
 returns-4 c =
     let a = c .before .before .before .before .before .before .before .before .before .before .before .before .before .before .args in
-    both-none _ _ (now (a .area)) (asked-at (c .before .before .before .before .before .before .before .before) ∙ pay-refused (a .asked .format) (a .asked .channels) (a .done) (a .time) (a .at) (now (a .s)) _ _ (there-at (c .before .before .before .before .before .before)) (start-at (c .before .before .before .before .before .before) _) (fault-at (c .before .before)))
+    both-none _ _ (now (a .area)) (asked-at (c .before .before .before .before .before .before .before .before) ∙ pay-refused (a .mark) (a .asked .format) (a .asked .channels) (a .done) (a .time) (a .at) (now (a .s)) _ _ (there-at (c .before .before .before .before .before .before)) (start-at (c .before .before .before .before .before .before) _) (fault-at (c .before .before)))
 
 same-length : tie.Need-same-length
 same-length c = search needs
@@ -183,20 +183,20 @@ returns-5 : tie.Need-returns-5
 returns-5 c =
     let a = c .before .before .before .before .before .before .before .before .before .before .before .before .before .before .before .before .before .before .before .before .before .before .before .before .before .before .args in
     let n = c .before .before .before .before .before .before .before .before .before .before .before .before .before .before .sizes .given .0 .0 .size in (
-      rows-has _ _ (sym (ap rowsAnswer (asked-at (c .before .before .before .before .before .before .before .before .before .before .before .before .before .before .before .before .before .before .before .before)) ∙ pay-rows (a .asked .format) (a .asked .channels) (a .done) (a .time) (a .at) (now (a .s)) _ (table-at (c .before .before .before .before .before .before .before .before .before .before .before .before .before .before)) (whole-at (c .before .before .before .before .before .before .before .before .before .before)))),
+      rows-has _ _ (sym (ap rowsAnswer (asked-at (c .before .before .before .before .before .before .before .before .before .before .before .before .before .before .before .before .before .before .before .before)) ∙ pay-rows (a .mark) (a .asked .format) (a .asked .channels) (a .done) (a .time) (a .at) (now (a .s)) _ (table-at (c .before .before .before .before .before .before .before .before .before .before .before .before .before .before)) (whole-at (c .before .before .before .before .before .before .before .before .before .before)))),
       (rw (body-at (c .before .before .before .before .before .before .before .before .before .before .before .before .before .before .before .before .before .before)) at (c .before .before .before .put-contents .ensures)) ∙ ap (λ (w : List ℕ). over w (now (a .area)))
           (counted-from (c .before .before .before .before .before .before .before .before .before .before .before .before .before .before) (c .before .before .before .before .before .origin .result) (a .at + c .before .before .before .before .before .before .before .before .before .before .before .before .before .before .before .before .before .before .before .format-of .result .header + n) (rw (body-at (c .before .before .before .before .before .before .before .before .before .before .before .before .before .before .before .before .before .before)) at (c .before .before .before .before .before .origin .ensures))
-          ∙ ap (λ (start : ℕ). contentsWords (a .asked .format) (a .asked .channels) (a .time) start (passFirst (contents (a .asked .format) (a .asked .channels) (a .done) (body (a .asked .format) (now (a .s)))))) (start-at (c .before .before .before .before .before .before .before .before .before .before .before .before .before .before .before .before .before .before) n)
-          ∙ sym (ap rowsWords (asked-at (c .before .before .before .before .before .before .before .before .before .before .before .before .before .before .before .before .before .before .before .before)) ∙ pay-words (a .asked .format) (a .asked .channels) (a .done) (a .time) (a .at) (now (a .s)) _ (table-at (c .before .before .before .before .before .before .before .before .before .before .before .before .before .before)) (whole-at (c .before .before .before .before .before .before .before .before .before .before)))),
+          ∙ ap (λ (start : ℕ). contentsWords (a .mark) (a .asked .format) (a .asked .channels) (a .time) start (passFirst (contents (a .asked .format) (a .asked .channels) (a .done) (body (a .asked .format) (now (a .s)))))) (start-at (c .before .before .before .before .before .before .before .before .before .before .before .before .before .before .before .before .before .before) n)
+          ∙ sym (ap rowsWords (asked-at (c .before .before .before .before .before .before .before .before .before .before .before .before .before .before .before .before .before .before .before .before)) ∙ pay-words (a .mark) (a .asked .format) (a .asked .channels) (a .done) (a .time) (a .at) (now (a .s)) _ (table-at (c .before .before .before .before .before .before .before .before .before .before .before .before .before .before)) (whole-at (c .before .before .before .before .before .before .before .before .before .before)))),
     )
 
 returns-6 : tie.Need-returns-6
 returns-6 c =
     let a = c .before .before .before .before .before .before .before .before .before .before .before .before .before .before .before .before .before .args in
-    both-none _ _ (now (a .area)) (asked-at (c .before .before .before .before .before .before .before .before .before .before .before) ∙ pay-part (a .asked .format) (a .asked .channels) (a .done) (a .time) (a .at) (now (a .s)) _ (table-at (c .before .before .before .before .before)) _ (there-at (c .before .before .before .before .before .before .before .before .before)) (start-at (c .before .before .before .before .before .before .before .before .before) _) (λ e. c .before .if5 .left (omega (arith, length-at (c .before .before .before .before .before .before .before .before .before), e))))
+    both-none _ _ (now (a .area)) (asked-at (c .before .before .before .before .before .before .before .before .before .before .before) ∙ pay-part (a .mark) (a .asked .format) (a .asked .channels) (a .done) (a .time) (a .at) (now (a .s)) _ (table-at (c .before .before .before .before .before)) _ (there-at (c .before .before .before .before .before .before .before .before .before)) (start-at (c .before .before .before .before .before .before .before .before .before) _) (λ e. c .before .if5 .left (omega (arith, length-at (c .before .before .before .before .before .before .before .before .before), e))))
 
 returns-7 : tie.Need-returns-7
-returns-7 c = let a = c .before .before .before .before .args in both-none _ _ (now (a .area)) (asked-out (a .asked) (a .done) (length (now (a .area))) (a .time) (a .at) (now (a .s)) (sym (c .before .in-range .ensures) ∙ c .if1 .left))
+returns-7 c = let a = c .before .before .before .before .args in both-none _ _ (now (a .area)) (asked-out (a .mark) (a .asked) (a .done) (length (now (a .area))) (a .time) (a .at) (now (a .s)) (sym (c .before .in-range .ensures) ∙ c .if1 .left))
 
 pub read-payload-spec : {M : Type 1} → statement M
 read-payload-spec =
@@ -215,8 +215,8 @@ read-payload-spec =
     part-read-contents-end
     read-contents-requires
     enum-known-fault
-    add-t32
     add-t33
+    add-t34
     enum-known-sizes
     add-if5
     add-if5-2
@@ -231,9 +231,9 @@ read-payload-spec =
     add-put-contents
     add-put-contents-2
     put-contents-requires
-    cast-t49
-    add-t59
+    cast-t50
     add-t60
+    add-t61
     returns-4
     same-length
     returns-5

@@ -5,7 +5,7 @@ use Rattle.rtp.proofs.AreaLaws.{part-length}
 use Rattle.rtp.specs.Sizes.{rowWidth}
 use Rattle.payload.proofs.RowLaws.{block-row, block-rest, block-none, block-put}
 use borrow.Author.Needs.{needs}
-use Prim.Native.Nat.{ℕ, _<_, _-_}
+use Prim.Native.Nat.{ℕ, _<_, _-_, _/_, _%_}
 use borrow.Fn.Kinds.{In, Out}
 use borrow.Fn.PlainCycle.{Measures, is, falls, and}
 use Rattle.payload.proofs.rows.put_block.Reads as put-block
@@ -34,16 +34,16 @@ abbrev At : (put-block-lts.Claims → In 1 put-block-kinds.ps → Out 1 put-bloc
 At P t = P (callees t) (put-block-at t) put-block.Post
 
 put-block-returns : (t : ℕ) → At put-block-lts.Need-returns t
-put-block-returns t c = let a = c .before .before .args in block-none (a .count) (a .channel) (a .time) (a .class) (a .start) (a .size) (now (a .rows)) (c .if1 .taken)
+put-block-returns t c = let a = c .before .before .args in block-none (a .kind / 256) (a .count) (a .channel) (a .time) (a .kind % 256) (a .start) (a .size) (now (a .rows)) (c .if1 .taken)
 
 put-block-put-row-requires : (t : ℕ) → At put-block-lts.Need-put-row-requires t
-put-block-put-row-requires t c κs = let a = c .before .before .before .args in block-row (a .count) (a .channel) (a .class) (a .start) (a .size) (length (now (a .rows))) (c .before .before .before .pre .1) (c .before .if1 .left)
+put-block-put-row-requires t c κs = let a = c .before .before .before .args in block-row (a .count) (a .channel) (a .kind) (a .start) (a .size) (length (now (a .rows))) (c .before .before .before .pre .1) (c .before .if1 .left)
 
 put-block-sub-put-block : (t : ℕ) → At put-block-lts.Need-sub-put-block t
-put-block-sub-put-block t c = let a = c .before .before .before .before .before .before .args in let r = block-row (a .count) (a .channel) (a .class) (a .start) (a .size) (length (now (a .rows))) (c .before .before .before .before .before .before .pre .1) (c .before .before .before .before .if1 .left) in omega (arith, r .area-fits, c .before .before .put-row .kept .0)
+put-block-sub-put-block t c = let a = c .before .before .before .before .before .before .args in let r = block-row (a .count) (a .channel) (a .kind) (a .start) (a .size) (length (now (a .rows))) (c .before .before .before .before .before .before .pre .1) (c .before .before .before .before .if1 .left) in omega (arith, r .area-fits, c .before .before .put-row .kept .0)
 
 put-block-part-put-block-start : (t : ℕ) → At put-block-lts.Need-part-put-block-start t
-put-block-part-put-block-start t c = let a = c .before .before .before .before .before .before .args in let r = block-row (a .count) (a .channel) (a .class) (a .start) (a .size) (length (now (a .rows))) (c .before .before .before .before .before .before .pre .1) (c .before .before .before .before .if1 .left) in omega (arith, r .area-fits, c .before .before .put-row .kept .0)
+put-block-part-put-block-start t c = let a = c .before .before .before .before .before .before .args in let r = block-row (a .count) (a .channel) (a .kind) (a .start) (a .size) (length (now (a .rows))) (c .before .before .before .before .before .before .pre .1) (c .before .before .before .before .if1 .left) in omega (arith, r .area-fits, c .before .before .put-row .kept .0)
 
 put-block-part-put-block-end : (t : ℕ) → At put-block-lts.Need-part-put-block-end t
 put-block-part-put-block-end t c = search needs
@@ -52,15 +52,15 @@ put-block-sub-put-block-2 : (t : ℕ) → At put-block-lts.Need-sub-put-block-2 
 put-block-sub-put-block-2 t c = search needs
 
 put-block-add-put-block : (t : ℕ) → At put-block-lts.Need-add-put-block t
-put-block-add-put-block t c = let a = c .before .before .before .before .before .before .before .args in let r = block-row (a .count) (a .channel) (a .class) (a .start) (a .size) (length (now (a .rows))) (c .before .before .before .before .before .before .before .pre .1) (c .before .before .before .before .before .if1 .left) in omega (arith, r .channels)
+put-block-add-put-block t c = let a = c .before .before .before .before .before .before .before .args in let r = block-row (a .count) (a .channel) (a .kind) (a .start) (a .size) (length (now (a .rows))) (c .before .before .before .before .before .before .before .pre .1) (c .before .before .before .before .before .if1 .left) in omega (arith, r .channels)
 
 put-block-add-put-block-2 : (t : ℕ) → At put-block-lts.Need-add-put-block-2 t
-put-block-add-put-block-2 t c = let a = c .before .before .before .before .before .before .before .args in let r = block-row (a .count) (a .channel) (a .class) (a .start) (a .size) (length (now (a .rows))) (c .before .before .before .before .before .before .before .pre .1) (c .before .before .before .before .before .if1 .left) in omega (arith, r .frames-fit)
+put-block-add-put-block-2 t c = let a = c .before .before .before .before .before .before .before .args in let r = block-row (a .count) (a .channel) (a .kind) (a .start) (a .size) (length (now (a .rows))) (c .before .before .before .before .before .before .before .pre .1) (c .before .before .before .before .before .if1 .left) in omega (arith, r .frames-fit)
 
 put-block-put-block-requires : (t : ℕ) → At put-block-lts.Need-put-block-requires t
 put-block-put-block-requires t c κs =
     let a = c .before .before .before .before .before .before .before .args in
-    let g = block-rest (a .count) (a .channel) (a .class) (a .start) (a .size) (length (now (a .rows))) (c .before .before .before .before .before .before .before .pre .1) (c .before .before .before .before .before .if1 .left) in
+    let g = block-rest (a .count) (a .channel) (a .kind) (a .start) (a .size) (length (now (a .rows))) (c .before .before .before .before .before .before .before .pre .1) (c .before .before .before .before .before .if1 .left) in
     (omega (arith, c .before .before .before .before .before .before .before .pre .0, c .before .before .before .before .before .if1 .left), rw (part-length (c .before .before .before .put-row .last .0) (now (a .rows)) rowWidth (c .before .before .before .put-row .kept .0)) g)
 
 put-block-same-length : (t : ℕ) → At put-block-lts.Need-same-length t
@@ -69,7 +69,7 @@ put-block-same-length t c = search needs
 put-block-returns-2 : (t : ℕ) → At put-block-lts.Need-returns-2 t
 put-block-returns-2 t c =
     let a = c .before .before .before .before .before .before .before .before .before .before .args in
-    block-put (a .count) (a .channel) (a .time) (a .class) (a .start) (a .size) (now (a .rows)) (c .before .before .before .before .before .before .before .before .if1 .left) _ _ (c .before .before .before .before .before .before .put-row .ensures) (c .before .before .put-block .ensures)
+    block-put (a .kind / 256) (a .count) (a .channel) (a .time) (a .kind % 256) (a .start) (a .size) (now (a .rows)) (c .before .before .before .before .before .before .before .before .if1 .left) _ _ (c .before .before .before .before .before .before .put-row .ensures) (c .before .before .put-block .ensures)
 
 pub +put-block-spec : {M : Type 1} → statement M
 +put-block-spec = close μ-put-block λ t. put-block-lts.spec (callees t)

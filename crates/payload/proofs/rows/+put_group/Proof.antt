@@ -11,7 +11,7 @@ use Rattle.payload.specs.Rows.{placed}
 use Rattle.formats.proofs.FormatLaws.{maxStep, step-fine}
 use Rattle.payload.proofs.GroupLaws.{group-area, group-frames, group-block, group-next, time-none, group-none, time-more, group-put}
 use borrow.Author.Needs.{needs}
-use Prim.Native.Nat.{ℕ, _<_, _*_, _≤_, _+_, _-_, _^_, _%_}
+use Prim.Native.Nat.{ℕ, _<_, _*_, _/_, _≤_, _+_, _-_, _^_, _%_}
 use borrow.Fn.Kinds.{In, Out}
 use borrow.Fn.PlainCycle.{Measures, is, falls, and}
 use Rattle.payload.proofs.rows.put_group.Reads as put-group
@@ -55,7 +55,7 @@ next-is : (t : ℕ) (c : At put-group-lts.After-wrapping-add-u322 t)
 next-is t c = c .wrapping-add-u322 .ensures ∙ ap (λ (x : ℕ). (c .before .before .before .before .before .wrapping-add-u32 .result + x) % 2 ^ 32) (c .before .before .before .before .before .before .before .step-of .ensures)
 
 put-group-returns : (t : ℕ) → At put-group-lts.Need-returns t
-put-group-returns t c = let a = c .before .before .before .args in (time-none (a .format) (stepOf (a .format)) (a .channels) (a .time) (a .class) (a .start) (a .size) (a .k) (a .count) (now (a .s)) (now (a .rows)) (c .if1 .taken), group-none (a .format) (stepOf (a .format)) (a .channels) (a .time) (a .class) (a .start) (a .size) (a .k) (a .count) (now (a .s)) (now (a .rows)) (c .if1 .taken))
+put-group-returns t c = let a = c .before .before .before .args in (time-none (a .kind / 256) (a .format) (stepOf (a .format)) (a .channels) (a .time) (a .kind % 256) (a .start) (a .size) (a .k) (a .count) (now (a .s)) (now (a .rows)) (c .if1 .taken), group-none (a .kind / 256) (a .format) (stepOf (a .format)) (a .channels) (a .time) (a .kind % 256) (a .start) (a .size) (a .k) (a .count) (now (a .s)) (now (a .rows)) (c .if1 .taken))
 
 put-group-step-of-requires : (t : ℕ) → At put-group-lts.Need-step-of-requires t
 put-group-step-of-requires t c κs = search needs
@@ -72,7 +72,7 @@ put-group-wrapping-add-u32-requires : (t : ℕ) → At put-group-lts.Need-wrappi
 put-group-wrapping-add-u32-requires t c κs = search needs
 
 put-group-put-block-requires : (t : ℕ) → At put-group-lts.Need-put-block-requires t
-put-group-put-block-requires t c κs = let a = c .before .before .before .before .before .before .before .args in group-block (a .format) (now (a .s)) (a .k) (a .count) (a .channels) (a .class) (a .start) (a .size) (length (now (a .rows))) (c .before .before .before .before .before .before .before .pre .1) (c .before .before .before .before .if1 .left)
+put-group-put-block-requires t c κs = let a = c .before .before .before .before .before .before .before .args in group-block (a .k) (a .count) (a .channels) (a .kind) (a .start) (a .size) (length (now (a .rows))) (c .before .before .before .before .before .before .before .pre .1) (c .before .before .before .before .if1 .left)
 
 put-group-wrapping-add-u32-requires-2 : (t : ℕ) → At put-group-lts.Need-wrapping-add-u32-requires-2 t
 put-group-wrapping-add-u32-requires-2 t c κs = search needs
@@ -84,10 +84,10 @@ put-group-mul-put-group : (t : ℕ) → At put-group-lts.Need-mul-put-group t
 put-group-mul-put-group t c = search needs
 
 put-group-sub-put-group : (t : ℕ) → At put-group-lts.Need-sub-put-group t
-put-group-sub-put-group t c = let a = c .before .before .before .before .before .before .before .before .before .before .before .args in omega (arith, c .before .before .before .put-block .kept .0, group-area (a .format) (now (a .s)) (a .k) (a .count) (a .channels) (a .class) (a .start) (a .size) (length (now (a .rows))) (c .before .before .before .before .before .before .before .before .before .before .before .pre .1) (c .before .before .before .before .before .before .before .before .if1 .left))
+put-group-sub-put-group t c = let a = c .before .before .before .before .before .before .before .before .before .before .before .args in omega (arith, c .before .before .before .put-block .kept .0, group-area (a .k) (a .count) (a .channels) (a .kind) (a .start) (a .size) (length (now (a .rows))) (c .before .before .before .before .before .before .before .before .before .before .before .pre .1) (c .before .before .before .before .before .before .before .before .if1 .left))
 
 put-group-part-put-group-start : (t : ℕ) → At put-group-lts.Need-part-put-group-start t
-put-group-part-put-group-start t c = let a = c .before .before .before .before .before .before .before .before .before .before .before .args in omega (arith, c .before .before .before .put-block .kept .0, group-area (a .format) (now (a .s)) (a .k) (a .count) (a .channels) (a .class) (a .start) (a .size) (length (now (a .rows))) (c .before .before .before .before .before .before .before .before .before .before .before .pre .1) (c .before .before .before .before .before .before .before .before .if1 .left))
+put-group-part-put-group-start t c = let a = c .before .before .before .before .before .before .before .before .before .before .before .args in omega (arith, c .before .before .before .put-block .kept .0, group-area (a .k) (a .count) (a .channels) (a .kind) (a .start) (a .size) (length (now (a .rows))) (c .before .before .before .before .before .before .before .before .before .before .before .pre .1) (c .before .before .before .before .before .before .before .before .if1 .left))
 
 put-group-part-put-group-end : (t : ℕ) → At put-group-lts.Need-part-put-group-end t
 put-group-part-put-group-end t c = search needs
@@ -99,15 +99,15 @@ put-group-sub-put-group-2 : (t : ℕ) → At put-group-lts.Need-sub-put-group-2 
 put-group-sub-put-group-2 t c = search needs
 
 put-group-mul-put-group-2 : (t : ℕ) → At put-group-lts.Need-mul-put-group-2 t
-put-group-mul-put-group-2 t c = let a = c .before .before .before .before .before .before .before .before .before .before .before .before .args in omega (arith, group-frames (a .format) (now (a .s)) (a .k) (a .count) (a .channels) (a .class) (a .start) (a .size) (length (now (a .rows))) (c .before .before .before .before .before .before .before .before .before .before .before .before .pre .1) (c .before .before .before .before .before .before .before .before .before .if1 .left))
+put-group-mul-put-group-2 t c = let a = c .before .before .before .before .before .before .before .before .before .before .before .before .args in omega (arith, group-frames (a .k) (a .count) (a .channels) (a .kind) (a .start) (a .size) (length (now (a .rows))) (c .before .before .before .before .before .before .before .before .before .before .before .before .pre .1) (c .before .before .before .before .before .before .before .before .before .if1 .left))
 
 put-group-add-put-group-2 : (t : ℕ) → At put-group-lts.Need-add-put-group-2 t
-put-group-add-put-group-2 t c = let a = c .before .before .before .before .before .before .before .before .before .before .before .before .args in omega (arith, group-frames (a .format) (now (a .s)) (a .k) (a .count) (a .channels) (a .class) (a .start) (a .size) (length (now (a .rows))) (c .before .before .before .before .before .before .before .before .before .before .before .before .pre .1) (c .before .before .before .before .before .before .before .before .before .if1 .left))
+put-group-add-put-group-2 t c = let a = c .before .before .before .before .before .before .before .before .before .before .before .before .args in omega (arith, group-frames (a .k) (a .count) (a .channels) (a .kind) (a .start) (a .size) (length (now (a .rows))) (c .before .before .before .before .before .before .before .before .before .before .before .before .pre .1) (c .before .before .before .before .before .before .before .before .before .if1 .left))
 
 put-group-put-group-requires : (t : ℕ) → At put-group-lts.Need-put-group-requires t
 put-group-put-group-requires t c κs =
     let a = c .before .before .before .before .before .before .before .before .before .before .before .before .args in
-    let g = group-next (a .format) (now (a .s)) (a .k) (a .count) (a .channels) (a .class) (a .start) (a .size) (length (now (a .rows))) (c .before .before .before .before .before .before .before .before .before .before .before .before .pre .1) (c .before .before .before .before .before .before .before .before .before .if1 .left) in
+    let g = group-next (a .k) (a .count) (a .channels) (a .kind) (a .start) (a .size) (length (now (a .rows))) (c .before .before .before .before .before .before .before .before .before .before .before .before .pre .1) (c .before .before .before .before .before .before .before .before .before .if1 .left) in
     (omega (arith, c .before .before .before .before .before .before .before .before .before .before .before .before .pre .0, c .before .before .before .before .before .before .before .before .before .if1 .left), rw (part-length (c .before .before .before .before .put-block .last .0) (now (a .rows)) (rowWidth * a .channels) (c .before .before .before .before .put-block .kept .0)) g)
 
 put-group-same-length : (t : ℕ) → At put-group-lts.Need-same-length t
@@ -119,8 +119,8 @@ put-group-returns-2 t c =
     let u = c .before .before .put-group .ensures in
     let here = c .before .before .before .before .before .before .before .before .before .wrapping-add-u32 .result in
     let next = c .before .before .before .before .wrapping-add-u322 .result in (
-      u .0 ∙ time-more (a .format) (stepOf (a .format)) (a .channels) (a .time) (a .class) (a .start) (a .size) (a .k) (a .count) (now (a .s)) (now (a .rows)) (c .before .before .before .before .before .before .before .before .before .before .before .before .if1 .left) here next (here-is t (c .before .before .before .before .before .before .before .before .before)) (next-is t (c .before .before .before .before)),
-      group-put (a .format) (stepOf (a .format)) (a .channels) (a .time) (a .class) (a .start) (a .size) (a .k) (a .count) (now (a .s)) (now (a .rows)) (c .before .before .before .before .before .before .before .before .before .before .before .before .if1 .left) here next (here-is t (c .before .before .before .before .before .before .before .before .before)) (next-is t (c .before .before .before .before)) _ _ (c .before .before .before .before .before .before .before .put-block .ensures) (u .1),
+      u .0 ∙ time-more (a .kind / 256) (a .format) (stepOf (a .format)) (a .channels) (a .time) (a .kind % 256) (a .start) (a .size) (a .k) (a .count) (now (a .s)) (now (a .rows)) (c .before .before .before .before .before .before .before .before .before .before .before .before .if1 .left) here next (here-is t (c .before .before .before .before .before .before .before .before .before)) (next-is t (c .before .before .before .before)),
+      group-put (a .kind / 256) (a .format) (stepOf (a .format)) (a .channels) (a .time) (a .kind % 256) (a .start) (a .size) (a .k) (a .count) (now (a .s)) (now (a .rows)) (c .before .before .before .before .before .before .before .before .before .before .before .before .if1 .left) here next (here-is t (c .before .before .before .before .before .before .before .before .before)) (next-is t (c .before .before .before .before)) _ _ (c .before .before .before .before .before .before .before .put-block .ensures) (u .1),
     )
 
 pub +put-group-spec : {M : Type 1} → statement M

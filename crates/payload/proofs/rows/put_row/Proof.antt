@@ -14,6 +14,9 @@ cast-pack-tag c = search needs
 cast-pack-tag-2 : tie.Need-cast-pack-tag-2
 cast-pack-tag-2 c = search needs
 
+cast-pack-tag-3 : tie.Need-cast-pack-tag-3
+cast-pack-tag-3 c = search needs
+
 pack-tag-requires : tie.Need-pack-tag-requires
 pack-tag-requires c κs = search needs
 
@@ -45,6 +48,7 @@ put-row-spec =
     slice-write-rows
     cast-pack-tag
     cast-pack-tag-2
+    cast-pack-tag-3
     pack-tag-requires
     slice-write-rows-2
     cast-rows
