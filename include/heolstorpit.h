@@ -124,7 +124,7 @@ typedef struct {
     hsp_settings settings;
 } hsp_buffer;
 
-/* hsp_new's answer. */
+/* hsp_new's answer; 3,120 bytes, the buffer at 8. */
 typedef struct {
     uint32_t refusal;
     hsp_buffer buffer;
@@ -139,6 +139,7 @@ typedef struct {
  *             the longer, then the one with the greater byte where they first differ
  *   no_room   found 192 frames held
  *   inserted  are new
+ * 3,144 bytes with no padding, the buffer at 32.
  */
 typedef struct {
     uint32_t refusal, offset, late, far, repeated, better, no_room, inserted;
@@ -148,6 +149,7 @@ typedef struct {
 /*
  * hsp_draw's answer: the frame drawn; or, with `empty` 1 and zeros, that no frame is held. `primary` is 1 if the frame was heard
  * first-hand: if any copy of it that was inserted, better or repeated came in a plain payload or as primary block; else 0.
+ * 3,144 bytes, the buffer at 32, after 4 bytes of padding.
  */
 typedef struct {
     uint32_t refusal, empty, time, channel, frame_class, length, primary;
