@@ -7,6 +7,5 @@ pub mod LayoutLaws
 pub mod ModelLaws
 pub mod PassLaws
 pub mod WellFormedLaws
-pub mod AllowedLaws
 pub mod FreeLaws
 pub mod MachineLaws
