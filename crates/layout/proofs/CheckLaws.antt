@@ -17,7 +17,7 @@ use Rattle.playout.specs.declared.order.Side.{Side}
 use Rattle.playout.specs.Entries.{Entry}
 use Rattle.layout.specs.declared.buffer.Buffer.{Buffer}
 use Rattle.layout.specs.declared.buffer.Fixed.{Fixed}
-use Rattle.layout.specs.Bits.{markOf, marked, isFree, claimed, sameWords}
+use Rattle.slot_marks.specs.Bits.{markOf, marked, isFree, claimed, sameWords}
 use Rattle.layout.specs.Layout.{entryAt, entriesFrom, assembled}
 use Rattle.layout.specs.Checks.{classFine, ascends, passes, allPass}
 use Rattle.layout.proofs.PositionLaws.{up, turn}

@@ -11,7 +11,7 @@ use Rattle.playout.specs.Pairs.{half, ahead, order, isAfter}
 use Rattle.playout.specs.Entries.{Entry}
 use Rattle.layout.specs.declared.buffer.Buffer.{Buffer}
 use Rattle.layout.specs.declared.buffer.Fixed.{Fixed}
-use Rattle.layout.specs.Bits.{marked, isFree, sameWords}
+use Rattle.slot_marks.specs.Bits.{marked, isFree, sameWords}
 use Rattle.layout.specs.Layout.{isFlag, entriesFrom, assembled}
 use Rattle.layout.specs.Model.{lastFine}
 

@@ -10,7 +10,7 @@ use Rattle.playout.specs.Sizes.{slots}
 use Rattle.playout.specs.Entries.{Entry, Held}
 use Rattle.layout.specs.declared.buffer.Buffer.{Buffer}
 use Rattle.layout.specs.declared.buffer.Fixed.{Fixed}
-use Rattle.layout.specs.Bits.{heldIn, wordsOf, sameWords}
+use Rattle.slot_marks.specs.Bits.{heldIn, wordsOf, sameWords}
 use Rattle.layout.specs.Columns.{zeros}
 use Rattle.layout.specs.Model.{Model}
 

@@ -1,7 +1,5 @@
 // Whether a buffer is well-formed.
-use crate::bits;
 use crate::buffer::Fixed;
-use crate::buffer::SLOTS;
 use crate::columns;
 use formats::codes;
 use formats::facts;
@@ -9,6 +7,8 @@ use formats::facts::FrameTable;
 use formats::tagging;
 use playout::order;
 use playout::order::Side;
+use slot_marks::bits;
+use slot_marks::bits::SLOTS;
 ghost use mathlib.Core.Path.{_≡_};
 ghost use mathlib.Core.Bool.{true};
 ghost use Prim.Native.Nat.{_^_, _≤_, _<_};
