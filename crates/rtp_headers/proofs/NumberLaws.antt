@@ -2,12 +2,12 @@
 use mathlib.Core.Path.{_≡_, refl, ap, sym, _∙_}
 use Prim.Native.Nat.{ℕ}
 use native.Mathlib.Omega.{arith}
-use Rattle.rtp.specs.declared.header.HeaderRead.{HeaderRead}
-use Rattle.rtp.specs.declared.redundancy.BlockHeader.{BlockHeader}
-use Rattle.rtp.specs.declared.redundancy.HeadersRead.{HeadersRead}
-use Rattle.rtp.specs.Header.{HeaderNumbers, headerNumbers}
-use Rattle.rtp.specs.Redundancy.{BlockNumbers, blockNumbers, Headers, refused, headersOf, HeadersNumbers, headersReadNumbers, headersNumbers, headersAnswer}
+use Rattle.rtp_headers.specs.declared.header.HeaderRead.{HeaderRead}
+use Rattle.rtp_headers.specs.declared.redundancy.BlockHeader.{BlockHeader}
+use Rattle.rtp_headers.specs.declared.redundancy.HeadersRead.{HeadersRead}
+use Rattle.rtp_headers.specs.Header.{HeaderNumbers, headerNumbers}
+use Rattle.rtp_headers.specs.Redundancy.{BlockNumbers, blockNumbers, Headers, refused, headersOf, HeadersNumbers, headersReadNumbers, headersNumbers, headersAnswer}
 use Rattle.rtp.proofs.RefusalLaws.{same-number, same-fault, not-zero}
 
 pub same-header : (a b : HeaderRead) → headerNumbers a ≡ headerNumbers b → a ≡ b
 same-header (HeaderRead.Refused p) (HeaderRead.Refused q) e = ap HeaderRead.Refused (same-number p q (ap (λ (n : HeaderNumbers). n .refusal) e))

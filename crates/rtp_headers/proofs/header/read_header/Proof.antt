@@ -1,10 +1,10 @@
 use mathlib.Core.Path.{sym, _∙_}
-use Rattle.rtp.proofs.HeaderLaws.{start-within}
-use Rattle.rtp.specs.Header.{header}
+use Rattle.rtp_headers.proofs.HeaderLaws.{start-within}
+use Rattle.rtp_headers.specs.Header.{header}
 use borrow.Author.Tests.{le-ltb, lt-ltb, eq-eqb, ne-eqb}
 use borrow.Author.Needs.{needs}
-use Rattle.rtp.proofs.header.read_header.Statement.{statement}
-use Rattle.rtp.proofs.header.read_header.Tie as tie
+use Rattle.rtp_headers.proofs.header.read_header.Statement.{statement}
+use Rattle.rtp_headers.proofs.header.read_header.Tie as tie
 
 returns : tie.Need-returns
 unfolding header

@@ -5,22 +5,18 @@ use mathlib.Core.Bool.{Bool, true, false, cond}
 use Prim.Native.Nat.{ℕ, zero, suc, _+_, _-_, _*_, _≤_, _<_}
 use native.Mathlib.Omega.{arith}
 use lib.ListN.{length, drop, length-drop}
-use lib.Seq.{getD-drop}
 use lib.Dec.{ltb, eqb}
 use borrow.Author.Tests.{ltb-false, eqb-false}
 use Rattle.rtp.specs.declared.refusal.Refusal.{Refusal}
-use Rattle.rtp.specs.declared.redundancy.Redundant.{Redundant}
-use Rattle.rtp.specs.declared.redundancy.BlockHeader.{BlockHeader}
-use Rattle.rtp.specs.declared.redundancy.HeaderSizes.{HeaderSizes}
-use Rattle.rtp.specs.declared.redundancy.HeadersRead.{HeadersRead}
+use Rattle.rtp_headers.specs.declared.redundancy.Redundant.{Redundant}
+use Rattle.rtp_headers.specs.declared.redundancy.BlockHeader.{BlockHeader}
+use Rattle.rtp_headers.specs.declared.redundancy.HeaderSizes.{HeaderSizes}
+use Rattle.rtp_headers.specs.declared.redundancy.HeadersRead.{HeadersRead}
 use Rattle.rtp.specs.Numbers.{byteAt}
 use Rattle.rtp.specs.Faults.{fault, shifted}
-use Rattle.rtp.specs.Redundancy.{blockHeader, Headers, refused, headersOf, prepend, headersStep, headersBy, headers, headersSize, redundantSize, headersAnswer}
+use Rattle.rtp_headers.specs.Redundancy.{blockHeader, Headers, refused, headersOf, prepend, headersStep, headersBy, headers, headersSize, redundantSize, headersAnswer}
 use Rattle.rtp.proofs.TestLaws.{by-test}
-
--- each element is a byte
-abbrev pub Bytes : List ℕ → Type 0
-Bytes s = (i : ℕ) → byteAt s i < 256
+use Rattle.rtp.proofs.ByteLaws.{Bytes, bytes-drop}
 
 past-block : (b : Bool) (r : Refusal) (x : BlockHeader) (e : Redundant) → cond b (BlockHeader.Refused r) x ≡ BlockHeader.Redundant e → (b ≡ false) × (x ≡ BlockHeader.Redundant e)
 past-block true r x e h = let z : _≡_ {A = ℕ} 0 1 = cc in absurd (omega arith)
@@ -109,9 +105,6 @@ pub record Small (n : ℕ) (z : HeaderSizes) : Type 0 where
 abbrev pub Within : ℕ → HeadersRead → Type 0
 Within n (HeadersRead.Headers z) = Small n z
 Within n (HeadersRead.Refused f) = Unit {0}
-
-pub bytes-drop : (n : ℕ) (s : List ℕ) → Bytes s → Bytes (drop n s)
-bytes-drop n s bs i = rw getD-drop (bs (n + i))
 
 within-more : (n : ℕ) (e : Redundant) (h : HeadersRead) → 4 ≤ n → e .length < 1024 → Within (n - 4) h → Within n (ahead e h)
 within-more n e (HeadersRead.Refused p) f l w = tt

@@ -1,8 +1,8 @@
-use Rattle.rtp.specs.Header.{payloadEnd}
+use Rattle.rtp_headers.specs.Header.{payloadEnd}
 use borrow.Author.Tests.{le-ltb, lt-ltb, eq-eqb, ne-eqb}
 use borrow.Author.Needs.{needs}
-use Rattle.rtp.proofs.header.payload_end.Statement.{statement}
-use Rattle.rtp.proofs.header.payload_end.Tie as tie
+use Rattle.rtp_headers.proofs.header.payload_end.Statement.{statement}
+use Rattle.rtp_headers.proofs.header.payload_end.Tie as tie
 
 shared-slice-read-wide : tie.Need-shared-slice-read-wide
 shared-slice-read-wide c = search needs

@@ -3,22 +3,23 @@ use mathlib.Core.List.{List}
 use mathlib.Core.Path.{_≡_, ap, subst, sym, _∙_}
 use native.Mathlib.Omega.{arith}
 use denote.Ref.{now}
-use Rattle.rtp.specs.declared.redundancy.BlockHeader.{BlockHeader}
-use Rattle.rtp.specs.declared.redundancy.HeadersRead.{HeadersRead}
-use Rattle.rtp.specs.Redundancy.{blockHeader, headers, headersAnswer}
+use Rattle.rtp_headers.specs.declared.redundancy.BlockHeader.{BlockHeader}
+use Rattle.rtp_headers.specs.declared.redundancy.HeadersRead.{HeadersRead}
+use Rattle.rtp_headers.specs.Redundancy.{blockHeader, headers, headersAnswer}
 use Rattle.rtp.proofs.AreaLaws.{part-to-end}
-use Rattle.rtp.proofs.RedundancyLaws.{fair, shorter, at-refused, at-primary, at-redundant, ahead, within, Within, Small, bytes-drop, InFront, front}
-use Rattle.rtp.proofs.NumberLaws.{same-block}
+use Rattle.rtp.proofs.ByteLaws.{bytes-drop}
+use Rattle.rtp_headers.proofs.RedundancyLaws.{fair, shorter, at-refused, at-primary, at-redundant, ahead, within, Within, Small, InFront, front}
+use Rattle.rtp_headers.proofs.NumberLaws.{same-block}
 use borrow.Author.Needs.{needs}
 use Prim.Native.Nat.{ℕ, _-_, _<_, _≤_}
 use borrow.Fn.Kinds.{In, Out}
 use borrow.Fn.PlainCycle.{Measures, is, falls, and}
-use Rattle.rtp.proofs.redundancy.headers_from.Reads as headers-from
-use Rattle.rtp.proofs.redundancy.headers_from.Kinds as headers-from-kinds
-use Rattle.rtp.proofs.redundancy.+headers_from.Lts-headers_from as headers-from-lts
-use Rattle.rtp.proofs.redundancy.read_block_header.Reads as read-block-header-reads
-use Rattle.rtp.proofs.redundancy.+headers_from.{statement}
-use Rattle.rtp.proofs.redundancy.+headers_from.Tie.{close}
+use Rattle.rtp_headers.proofs.redundancy.headers_from.Reads as headers-from
+use Rattle.rtp_headers.proofs.redundancy.headers_from.Kinds as headers-from-kinds
+use Rattle.rtp_headers.proofs.redundancy.+headers_from.Lts-headers_from as headers-from-lts
+use Rattle.rtp_headers.proofs.redundancy.read_block_header.Reads as read-block-header-reads
+use Rattle.rtp_headers.proofs.redundancy.+headers_from.{statement}
+use Rattle.rtp_headers.proofs.redundancy.+headers_from.Tie.{close}
 
 abbrev μ-headers-from : Measures 1 headers-from-kinds.ps ℕ
 μ-headers-from κs a = length (a .0 .now)

@@ -4,15 +4,15 @@ use mathlib.Core.List.{List, [], _∷_}
 use mathlib.Core.Bool.{cond}
 use lib.ListN.{length, drop}
 use lib.Dec.{ltb, eqb}
 use Rattle.rtp.specs.declared.refusal.Fault.{Fault}
 use Rattle.rtp.specs.declared.refusal.Refusal.the-variants.{PacketLength, ContentsTruncated}
-use Rattle.rtp.specs.declared.redundancy.Redundant.{Redundant}
-use Rattle.rtp.specs.declared.redundancy.BlockHeader.{BlockHeader}
-use Rattle.rtp.specs.declared.redundancy.HeadersRead.{HeadersRead}
+use Rattle.rtp_headers.specs.declared.redundancy.Redundant.{Redundant}
+use Rattle.rtp_headers.specs.declared.redundancy.BlockHeader.{BlockHeader}
+use Rattle.rtp_headers.specs.declared.redundancy.HeadersRead.{HeadersRead}
 use Rattle.rtp.specs.Sizes.{maxPacket}
 use Rattle.rtp.specs.Numbers.{byteAt}
 use Rattle.rtp.specs.Refusals.{number}
 use Rattle.rtp.specs.Faults.{fault, shifted}
 
 -- the block header at the front of s: F, type 7 bits; with F set, offset 14 bits and length 10 bits
 unfoldable pub blockHeader : List ℕ → BlockHeader

@@ -1,8 +1,21 @@
-use Rattle.rtp.specs.Header.{payloadStart}
+use mathlib.Core.Path.{_≡_, _∙_}
+use Prim.Native.Nat.{_+_, _*_, _%_}
+use native.Mathlib.Omega.{arith}
+use denote.Ref.{now}
+use Rattle.rtp.specs.Sizes.{minPacket}
+use Rattle.rtp.specs.Numbers.{be16}
+use Rattle.rtp.proofs.ByteLaws.{read-two}
+use Rattle.rtp_headers.specs.Header.{payloadStart}
 use borrow.Author.Tests.{le-ltb, lt-ltb, eq-eqb, ne-eqb}
 use borrow.Author.Needs.{needs}
-use Rattle.rtp.proofs.header.payload_start.Statement.{statement}
-use Rattle.rtp.proofs.header.payload_start.Tie as tie
+use Rattle.rtp_headers.proofs.header.payload_start.Statement.{statement}
+use Rattle.rtp_headers.proofs.header.payload_start.Tie as tie
+
+-- the count of the extension's words
+words-at : (c : tie.After-read-u16) → c .read-u16 .result ≡ be16 (now (c .before .before .before .before .before .before .before .args .packet)) (minPacket + 4 * (c .before .before .before .before .wide .result % 16) + 2)
+words-at c =
+    c .read-u16 .ensures
+    ∙ read-two (now (c .before .before .before .before .before .before .before .args .packet)) (minPacket + 4 * (c .before .before .before .before .wide .result % 16) + 2) (omega (arith, c .before .if3 .left))
 
 shared-slice-read-wide : tie.Need-shared-slice-read-wide
 shared-slice-read-wide c = search needs
@@ -51,11 +64,11 @@ add-extension-end-2 c = search needs
 
 returns-4 : tie.Need-returns-4
 unfolding payloadStart
-returns-4 c = rw (← (c .before .before .before .before .before .wide .ensures .0), le-ltb _ _ (c .before .before .before .before .if1 .left), ne-eqb _ _ (c .before .before .before .if2 .left), le-ltb _ _ (c .before .before .if3 .left), ← (c .before .read-u16 .ensures), lt-ltb _ _ (c .if4 .taken))
+returns-4 c = rw (← (c .before .before .before .before .before .wide .ensures .0), le-ltb _ _ (c .before .before .before .before .if1 .left), ne-eqb _ _ (c .before .before .before .if2 .left), le-ltb _ _ (c .before .before .if3 .left), ← words-at (c .before), lt-ltb _ _ (c .if4 .taken))
 
 returns-5 : tie.Need-returns-5
 unfolding payloadStart
-returns-5 c = rw (← (c .before .before .before .before .before .wide .ensures .0), le-ltb _ _ (c .before .before .before .before .if1 .left), ne-eqb _ _ (c .before .before .before .if2 .left), le-ltb _ _ (c .before .before .if3 .left), ← (c .before .read-u16 .ensures), le-ltb _ _ (c .if4 .left))
+returns-5 c = rw (← (c .before .before .before .before .before .wide .ensures .0), le-ltb _ _ (c .before .before .before .before .if1 .left), ne-eqb _ _ (c .before .before .before .if2 .left), le-ltb _ _ (c .before .before .if3 .left), ← words-at (c .before), le-ltb _ _ (c .if4 .left))
 
 pub payload-start-spec : {M : Type 1} → statement M
 payload-start-spec =

@@ -1,8 +1,8 @@
-use Rattle.rtp.specs.Redundancy.{blockHeader}
+use Rattle.rtp_headers.specs.Redundancy.{blockHeader}
 use borrow.Author.Tests.{le-ltb, lt-ltb, eq-eqb, ne-eqb}
 use borrow.Author.Needs.{needs}
-use Rattle.rtp.proofs.redundancy.read_block_header.Statement.{statement}
-use Rattle.rtp.proofs.redundancy.read_block_header.Tie as tie
+use Rattle.rtp_headers.proofs.redundancy.read_block_header.Statement.{statement}
+use Rattle.rtp_headers.proofs.redundancy.read_block_header.Tie as tie
 
 returns : tie.Need-returns
 unfolding blockHeader

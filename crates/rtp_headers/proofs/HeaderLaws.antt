@@ -7,14 +7,14 @@ use native.Mathlib.Omega.{arith}
 use lib.ListN.{length}
 use lib.Dec.{ltb, eqb}
 use borrow.Author.Tests.{ltb-false}
 use Rattle.rtp.specs.declared.refusal.Refusal.{Refusal}
-use Rattle.rtp.specs.declared.header.Bound.{Bound}
-use Rattle.rtp.specs.declared.header.Header.{Header}
-use Rattle.rtp.specs.declared.header.HeaderRead.{HeaderRead}
+use Rattle.rtp_headers.specs.declared.header.Bound.{Bound}
+use Rattle.rtp_headers.specs.declared.header.Header.{Header}
+use Rattle.rtp_headers.specs.declared.header.HeaderRead.{HeaderRead}
 use Rattle.rtp.specs.Sizes.{minPacket, maxPacket}
 use Rattle.rtp.specs.Numbers.{byteAt}
-use Rattle.rtp.specs.Header.{csrcEnd, extensionEnd, payloadStart, payloadEnd, fields, endedAt, startedAt, header}
+use Rattle.rtp_headers.specs.Header.{csrcEnd, extensionEnd, payloadStart, payloadEnd, fields, endedAt, startedAt, header}
 use Rattle.rtp.proofs.TestLaws.{by-test}
 
 -- what a place has that was found behind a test for a refusal
 past-bound : (b : Bool) (r : Refusal) (x : Bound) (n : ℕ) → cond b (Bound.Refused r) x ≡ Bound.At n → (b ≡ false) × (x ≡ Bound.At n)

@@ -1,13 +1,13 @@
 // Redundancy block headers (RFC 2198).
-use crate::bytes;
-use crate::refusal::Fault;
-use crate::refusal::Refusal;
-use crate::sizes::MAX_PACKET;
+use rtp::bytes;
+use rtp::refusal::Fault;
+use rtp::refusal::Refusal;
+use rtp::sizes::MAX_PACKET;
 ghost use mathlib.Core.Path.{_≡_};
 ghost use Prim.Native.Nat.{_≤_};
 ghost use lib.ListN.{length};
 ghost use Rattle.rtp.specs.Sizes.{maxPacket};
-ghost use Rattle.rtp.specs.Redundancy.{blockHeader, blockNumbers, headers, headersAnswer, redundancyHeaders, headersReadNumbers, headersNumbers};
+ghost use Rattle.rtp_headers.specs.Redundancy.{blockHeader, blockNumbers, headers, headersAnswer, redundancyHeaders, headersReadNumbers, headersNumbers};
 
 // The four-byte header of a redundant block.
 pub struct Redundant {

@@ -4,13 +4,13 @@ use mathlib.Core.List.{List}
 use mathlib.Core.Bool.{cond}
 use lib.ListN.{length}
 use lib.Dec.{ltb, eqb}
 use Rattle.rtp.specs.declared.refusal.Refusal.the-variants.{PacketLength, Version, HeaderTruncated, PaddingCount}
-use Rattle.rtp.specs.declared.header.Header.{Header}
-use Rattle.rtp.specs.declared.header.HeaderRead.{HeaderRead}
-use Rattle.rtp.specs.declared.header.Bound.{Bound}
+use Rattle.rtp_headers.specs.declared.header.Header.{Header}
+use Rattle.rtp_headers.specs.declared.header.HeaderRead.{HeaderRead}
+use Rattle.rtp_headers.specs.declared.header.Bound.{Bound}
 use Rattle.rtp.specs.Sizes.{minPacket, maxPacket}
 use Rattle.rtp.specs.Numbers.{byteAt, be16, be32}
 use Rattle.rtp.specs.Refusals.{number}
 
 -- the end of the CSRC list (CC entries of four bytes after the fixed header)
 abbrev pub csrcEnd : List ℕ → ℕ

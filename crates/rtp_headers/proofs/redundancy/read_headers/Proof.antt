@@ -1,10 +1,10 @@
 use mathlib.Core.Path.{ap, _∙_}
-use Rattle.rtp.specs.Redundancy.{headers, redundancyHeaders, headersReadNumbers, headersNumbers}
-use Rattle.rtp.proofs.NumberLaws.{answer-numbers}
+use Rattle.rtp_headers.specs.Redundancy.{headers, redundancyHeaders, headersReadNumbers, headersNumbers}
+use Rattle.rtp_headers.proofs.NumberLaws.{answer-numbers}
 use borrow.Author.Tests.{le-ltb, lt-ltb}
 use borrow.Author.Needs.{needs}
-use Rattle.rtp.proofs.redundancy.read_headers.Statement.{statement}
-use Rattle.rtp.proofs.redundancy.read_headers.Tie as tie
+use Rattle.rtp_headers.proofs.redundancy.read_headers.Statement.{statement}
+use Rattle.rtp_headers.proofs.redundancy.read_headers.Tie as tie
 
 returns : tie.Need-returns
 unfolding redundancyHeaders headersNumbers
