@@ -8,22 +8,22 @@ use Rattle.rtp.specs.Sizes.{rowWidth, maxRows}
 use Rattle.rtp.proofs.AreaLaws.{part-length, part-to-end}
 use Rattle.contents.specs.declared.entries.EntryRead.{EntryRead}
 use Rattle.contents.specs.Contents.{entryOf, contents, sizesAnswer}
-use Rattle.payload.specs.Room.{GroupRoom, TableRoom}
+use Rattle.frame_rows.specs.Room.{GroupRoom, TableRoom}
 use Rattle.contents.proofs.EntryLaws.{fair}
 use Rattle.contents.proofs.ContentsLaws.{shorter}
-use Rattle.payload.proofs.TableLaws.{room-few, room-group, room-rest, put-refused, put-last, put-more, kind-mark, kind-class}
+use Rattle.frame_rows.proofs.TableLaws.{room-few, room-group, room-rest, put-refused, put-last, put-more, kind-mark, kind-class}
 use Rattle.contents.proofs.NumberLaws.{same-entry}
 use borrow.Author.Needs.{needs}
 use Prim.Native.Nat.{ℕ, _<_, _*_, _≤_, _+_, _-_}
 use borrow.Fn.Kinds.{In, Out}
 use borrow.Fn.PlainCycle.{Measures, is, falls, and}
-use Rattle.payload.proofs.rows.put_contents.Reads as put-contents
-use Rattle.payload.proofs.rows.put_contents.Kinds as put-contents-kinds
-use Rattle.payload.proofs.rows.+put_contents.Lts-put_contents as put-contents-lts
+use Rattle.frame_rows.proofs.rows.put_contents.Reads as put-contents
+use Rattle.frame_rows.proofs.rows.put_contents.Kinds as put-contents-kinds
+use Rattle.frame_rows.proofs.rows.+put_contents.Lts-put_contents as put-contents-lts
 use Rattle.contents.proofs.entries.read_entry.Reads as read-entry-reads
-use Rattle.payload.proofs.rows.put_group.Reads as put-group-reads
-use Rattle.payload.proofs.rows.+put_contents.{statement}
-use Rattle.payload.proofs.rows.+put_contents.Tie.{close}
+use Rattle.frame_rows.proofs.rows.put_group.Reads as put-group-reads
+use Rattle.frame_rows.proofs.rows.+put_contents.{statement}
+use Rattle.frame_rows.proofs.rows.+put_contents.Tie.{close}
 
 abbrev μ-put-contents : Measures 2 put-contents-kinds.ps ℕ
 μ-put-contents κs a = length (a .1 .1 .0 .now)

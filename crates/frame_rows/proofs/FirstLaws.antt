@@ -18,10 +18,10 @@ use Rattle.contents.specs.declared.entries.EntryRead.{EntryRead}
 use Rattle.contents.specs.declared.entries.Sizes.{Sizes}
 use Rattle.contents.specs.declared.entries.ContentsRead.{ContentsRead}
 use Rattle.contents.specs.Contents.{entrySize, entryOf, Group, Contents, refused, groups, gapAt, gapsFrom, meaning, prepend, contents, direct, passFirst, rowCount, sizeIn, framesIn, sizesAnswer}
-use Rattle.payload.specs.Rows.{Row, placed, timeAfter, blockRows, groupRows, tableRows, words, marked}
-use Rattle.payload.specs.Room.{contentsWords, originOf}
+use Rattle.frame_rows.specs.Rows.{Row, placed, timeAfter, blockRows, groupRows, tableRows, words, marked}
+use Rattle.frame_rows.specs.Room.{contentsWords, originOf}
 use Rattle.contents.proofs.EntryLaws.{fair}
-use Rattle.payload.proofs.GroupLaws.{size-more}
+use Rattle.frame_rows.proofs.GroupLaws.{size-more}
 use Rattle.contents.proofs.ContentsLaws.{contents-step, contents-refused, contents-last, contents-more, at-refused}
 
 pub length-direct : (gaps : List ℕ) → length (direct gaps) ≡ length gaps

@@ -2,8 +2,8 @@ use lib.ListN.{length-set}
 use native.Mathlib.Omega.{arith}
 use Rattle.rtp.proofs.AreaLaws.{over-four}
 use borrow.Author.Needs.{needs}
-use Rattle.payload.proofs.rows.put_row.Statement.{statement}
-use Rattle.payload.proofs.rows.put_row.Tie as tie
+use Rattle.frame_rows.proofs.rows.put_row.Statement.{statement}
+use Rattle.frame_rows.proofs.rows.put_row.Tie as tie
 
 slice-write-rows : tie.Need-slice-write-rows
 slice-write-rows c = search needs

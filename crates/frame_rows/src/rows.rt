@@ -1,8 +1,13 @@
 // Frame rows, written into a row area.
 use contents::entries;
+use contents::entries::ContentsRead;
 use contents::entries::EntryRead;
 use formats::frames;
 use formats::tagging;
+use rtp::refusal::Fault;
+use rtp::refusal::Refusal;
+use rtp::sizes::MAX_PACKET;
+use rtp::sizes::ROW_AREA;
 use rtp::sizes::ROW_WIDTH;
 use rtp::time;
 ghost use mathlib.Core.Path.{_≡_};
@@ -10,9 +15,10 @@ ghost use Prim.Native.Nat.{_*_, _/_, _%_, _≤_, _<_};
 ghost use lib.ListN.{length};
 ghost use Rattle.rtp.specs.Areas.{over};
 ghost use Rattle.formats.specs.Frames.{stepOf};
-ghost use Rattle.contents.specs.Contents.{entrySize, gapAt, gapsFrom, contents, sizesAnswer};
-ghost use Rattle.payload.specs.Rows.{rowWords, words, blockRows, groupRows, timeAfter, marked};
-ghost use Rattle.payload.specs.Room.{RowRoom, BlockRoom, GroupRoom, TableRoom, contentsWords, originOf};
+ghost use Rattle.contents.specs.Contents.{entrySize, gapAt, gapsFrom, contents, contentsReadNumbers, contentsNumbers, sizesAnswer};
+ghost use Rattle.frame_rows.specs.Rows.{rowWords, words, blockRows, groupRows, timeAfter, marked};
+ghost use Rattle.frame_rows.specs.Room.{RowRoom, BlockRoom, GroupRoom, TableRoom, contentsWords, originOf};
+ghost use Rattle.frame_rows.specs.Tables.{fitting, fittingWords};
 
 // A row at the front of the area. Its kind is 256 * mark + class: whether it was heard first-hand, and its class, in one number.
 fn put_row(rows: &mut [u32], time: u32, kind: usize, channel: usize, start: usize, size: usize)
@@ -96,7 +102,7 @@ fn put_group(
 }
 
 // The time from which the rows of a payload at `time` are counted: its first entry's DIS1 is passed over.
-pub(crate) fn origin(format: u8, time: u32, s: &[u8]) -> u32
+fn origin(format: u8, time: u32, s: &[u8]) -> u32
     ensures { λ r. ⌜ (r ≡ originOf format time (now (s .entry))) × (gapAt format (now (s .entry)) 0 < 16) ⌝ }
 {
     let skipped = entries::gap(format, s, 0) * frames::step_of(format);
@@ -105,7 +111,7 @@ pub(crate) fn origin(format: u8, time: u32, s: &[u8]) -> u32
 
 // The rows of the table at the front of s, where `done` rows came before it, its frame-blocks are counted from `time` and its
 // frames start at `start`.
-pub(crate) fn put_contents(
+fn put_contents(
     rows: &mut [u32],
     mark: u8,
     s: &[u8],
@@ -149,6 +155,58 @@ pub(crate) fn put_contents(
                     start + here * entry.length,
                 );
             }
+        }
+    }
+}
+
+// The table and the frames s, which stand at `at` in the packet and after `done` of its rows and are heard with this mark: the rows at the front of the
+// area, or a refusal and the area unchanged. The area is to have room for all the rows that the packet may have.
+pub fn put_table(
+    area: &mut [u32],
+    mark: u8,
+    s: &[u8],
+    format: u8,
+    channels: u8,
+    done: u32,
+    time: u32,
+    at: u32,
+) -> ContentsRead
+    ensures { λ r. ⌜ (contentsReadNumbers r ≡ contentsNumbers format channels (fitting format channels done (length (now (area .entry))) at (now (s .entry))))
+        × (now (area .exit) ≡
+        over (fittingWords mark format channels time at (fitting format channels done (length (now (area .entry))) at (now (s .entry)))) (now (area .entry))) ⌝ }
+{
+    if ROW_WIDTH * (done as usize) + area.len() < ROW_AREA {
+        return ContentsRead::Refused(Fault {
+            refusal: Refusal::AreaTooShort,
+            offset: 0,
+        });
+    }
+    if MAX_PACKET < (at as usize) + s.len() {
+        return ContentsRead::Refused(Fault {
+            refusal: Refusal::PacketLength,
+            offset: 0,
+        });
+    }
+    match entries::read_contents(format, channels, done, &s[0..]) {
+        ContentsRead::Refused(fault) => ContentsRead::Refused(fault),
+        ContentsRead::Contents(sizes) => {
+            if sizes.size + sizes.frames == s.len() {
+                put_contents(
+                    area,
+                    mark,
+                    &s[0..],
+                    format,
+                    channels as usize,
+                    done as usize,
+                    origin(format, time, &s[0..]),
+                    (at as usize) + sizes.size,
+                );
+                return ContentsRead::Contents(sizes);
+            }
+            ContentsRead::Refused(Fault {
+                refusal: Refusal::LengthMismatch,
+                offset: sizes.size,
+            })
         }
     }
 }

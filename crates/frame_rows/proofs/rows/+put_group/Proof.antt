@@ -7,22 +7,22 @@ use Rattle.rtp.specs.Sizes.{rowWidth}
 use Rattle.rtp.proofs.AreaLaws.{part-length}
 use Rattle.formats.specs.Frames.{stepOf}
 use Rattle.contents.specs.Contents.{gapAt}
-use Rattle.payload.specs.Rows.{placed}
+use Rattle.frame_rows.specs.Rows.{placed}
 use Rattle.formats.proofs.FormatLaws.{maxStep, step-fine}
-use Rattle.payload.proofs.GroupLaws.{group-area, group-frames, group-block, group-next, time-none, group-none, time-more, group-put}
+use Rattle.frame_rows.proofs.GroupLaws.{group-area, group-frames, group-block, group-next, time-none, group-none, time-more, group-put}
 use borrow.Author.Needs.{needs}
 use Prim.Native.Nat.{ℕ, _<_, _*_, _/_, _≤_, _+_, _-_, _^_, _%_}
 use borrow.Fn.Kinds.{In, Out}
 use borrow.Fn.PlainCycle.{Measures, is, falls, and}
-use Rattle.payload.proofs.rows.put_group.Reads as put-group
-use Rattle.payload.proofs.rows.put_group.Kinds as put-group-kinds
-use Rattle.payload.proofs.rows.+put_group.Lts-put_group as put-group-lts
+use Rattle.frame_rows.proofs.rows.put_group.Reads as put-group
+use Rattle.frame_rows.proofs.rows.put_group.Kinds as put-group-kinds
+use Rattle.frame_rows.proofs.rows.+put_group.Lts-put_group as put-group-lts
 use Rattle.contents.proofs.entries.gap.Reads as gap-reads
 use Rattle.formats.proofs.frames.step_of.Reads as step-of-reads
-use Rattle.payload.proofs.rows.put_block.Reads as put-block-reads
+use Rattle.frame_rows.proofs.rows.put_block.Reads as put-block-reads
 use Rattle.std.proofs.num.wrapping_add_u32.Reads as wrapping-add-u32-reads
-use Rattle.payload.proofs.rows.+put_group.{statement}
-use Rattle.payload.proofs.rows.+put_group.Tie.{close}
+use Rattle.frame_rows.proofs.rows.+put_group.{statement}
+use Rattle.frame_rows.proofs.rows.+put_group.Tie.{close}
 
 abbrev μ-put-group : Measures 2 put-group-kinds.ps ℕ
 μ-put-group κs a = a .1 .1 .1 .1 .1 .0

@@ -3,8 +3,8 @@ use native.Mathlib.Nat.{mul-le-mul-left}
 use native.Mathlib.Omega.{arith}
 use Rattle.formats.proofs.FormatLaws.{maxStep, step-fine}
 use borrow.Author.Needs.{needs}
-use Rattle.payload.proofs.rows.origin.Statement.{statement}
-use Rattle.payload.proofs.rows.origin.Tie as tie
+use Rattle.frame_rows.proofs.rows.origin.Statement.{statement}
+use Rattle.frame_rows.proofs.rows.origin.Tie as tie
 
 gap-requires : tie.Need-gap-requires
 gap-requires c κs = search needs

@@ -13,9 +13,9 @@ use Rattle.rtp.proofs.AreaLaws.{over-none, over-part}
 use Rattle.rtp.proofs.TestLaws.{by-test}
 use Rattle.formats.specs.Formats.{formatOf}
 use Rattle.contents.specs.Contents.{gapsSize, entrySize, gapAt, gapsFrom}
-use Rattle.payload.specs.Rows.{words, placed, nextPlace, timeAfter, blockRows, groupRows, marked}
-use Rattle.payload.specs.Room.{BlockRoom, GroupRoom}
-use Rattle.payload.proofs.RowLaws.{length-words, words-append, length-marked, marked-append, length-block, one-more}
+use Rattle.frame_rows.specs.Rows.{words, placed, nextPlace, timeAfter, blockRows, groupRows, marked}
+use Rattle.frame_rows.specs.Room.{BlockRoom, GroupRoom}
+use Rattle.frame_rows.proofs.RowLaws.{length-words, words-append, length-marked, marked-append, length-block, one-more}
 
 one-more-frames : (n ch len : ℕ) → (n ≡ 0 → ⊥) → n * ch * len ≡ (n - 1) * ch * len + ch * len
 one-more-frames n ch len h = ap (λ (x : ℕ). x * len) (one-more n ch h) ∙ add-mul ((n - 1) * ch) ch len

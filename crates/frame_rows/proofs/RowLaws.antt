@@ -11,8 +11,8 @@ use Rattle.rtp.specs.Sizes.{rowWidth}
 use Rattle.rtp.specs.Areas.{over}
 use Rattle.rtp.proofs.AreaLaws.{over-none, over-part}
 use Rattle.formats.proofs.TagLaws.{mark-of, class-of, channel-of}
-use Rattle.payload.specs.Rows.{Row, rowWords, words, rowOf, rowsIn, blockRows, marked}
-use Rattle.payload.specs.Room.{RowRoom, BlockRoom}
+use Rattle.frame_rows.specs.Rows.{Row, rowWords, words, rowOf, rowsIn, blockRows, marked}
+use Rattle.frame_rows.specs.Room.{RowRoom, BlockRoom}
 
 pub length-words : (rs : List Row) → length (words rs) ≡ rowWidth * length rs
 unfolding words

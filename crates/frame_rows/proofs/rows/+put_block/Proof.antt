@@ -3,17 +3,17 @@ use denote.Ref.{now}
 use native.Mathlib.Omega.{arith}
 use Rattle.rtp.proofs.AreaLaws.{part-length}
 use Rattle.rtp.specs.Sizes.{rowWidth}
-use Rattle.payload.proofs.RowLaws.{block-row, block-rest, block-none, block-put}
+use Rattle.frame_rows.proofs.RowLaws.{block-row, block-rest, block-none, block-put}
 use borrow.Author.Needs.{needs}
 use Prim.Native.Nat.{ℕ, _<_, _-_, _/_, _%_}
 use borrow.Fn.Kinds.{In, Out}
 use borrow.Fn.PlainCycle.{Measures, is, falls, and}
-use Rattle.payload.proofs.rows.put_block.Reads as put-block
-use Rattle.payload.proofs.rows.put_block.Kinds as put-block-kinds
-use Rattle.payload.proofs.rows.+put_block.Lts-put_block as put-block-lts
-use Rattle.payload.proofs.rows.put_row.Reads as put-row-reads
-use Rattle.payload.proofs.rows.+put_block.{statement}
-use Rattle.payload.proofs.rows.+put_block.Tie.{close}
+use Rattle.frame_rows.proofs.rows.put_block.Reads as put-block
+use Rattle.frame_rows.proofs.rows.put_block.Kinds as put-block-kinds
+use Rattle.frame_rows.proofs.rows.+put_block.Lts-put_block as put-block-lts
+use Rattle.frame_rows.proofs.rows.put_row.Reads as put-row-reads
+use Rattle.frame_rows.proofs.rows.+put_block.{statement}
+use Rattle.frame_rows.proofs.rows.+put_block.Tie.{close}
 
 abbrev μ-put-block : Measures 1 put-block-kinds.ps ℕ
 μ-put-block κs a = a .1 .0

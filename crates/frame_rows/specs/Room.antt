@@ -7,7 +7,7 @@ use Rattle.contents.specs.declared.entries.ContentsRead.{ContentsRead}
 use Rattle.formats.specs.Frames.{stepOf}
 use Rattle.rtp.specs.Time.{difference}
 use Rattle.contents.specs.Contents.{entrySize, gapAt, Contents, refused, groups}
-use Rattle.payload.specs.Rows.{words, tableRows, marked}
+use Rattle.frame_rows.specs.Rows.{words, tableRows, marked}
 
 -- a row's kind is 256 × mark + class
 pub record RowRoom (channel kind start size area : ℕ) : Type 0 where

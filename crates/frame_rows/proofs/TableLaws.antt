@@ -20,12 +20,12 @@ use Rattle.contents.specs.declared.entries.EntryRead.{EntryRead}
 use Rattle.contents.specs.declared.entries.ContentsRead.{ContentsRead}
 use Rattle.formats.specs.Frames.{stepOf, maxClass}
 use Rattle.contents.specs.Contents.{entryOf, gapsFrom, Contents, refused, groups, meaning, prepend, contents, sizesAnswer}
-use Rattle.payload.specs.Rows.{words, timeAfter, groupRows, tableRows, marked}
-use Rattle.payload.specs.Room.{GroupRoom, TableRoom, contentsWords}
+use Rattle.frame_rows.specs.Rows.{words, timeAfter, groupRows, tableRows, marked}
+use Rattle.frame_rows.specs.Room.{GroupRoom, TableRoom, contentsWords}
 use Rattle.contents.proofs.EntryLaws.{fair}
 use Rattle.contents.proofs.ContentsLaws.{contents-refused, contents-last, contents-more, length-gaps, at-many, at-last, at-more, ahead}
-use Rattle.payload.proofs.RowLaws.{length-words, words-append, length-marked, marked-append}
-use Rattle.payload.proofs.GroupLaws.{length-group}
+use Rattle.frame_rows.proofs.RowLaws.{length-words, words-append, length-marked, marked-append}
+use Rattle.frame_rows.proofs.GroupLaws.{length-group}
 
 room-ahead : (start area ch : ℕ) (e : Entry) (r : ContentsRead) → TableRoom ch start area (ahead ch e r)
     → (rowWidth * (e .blocks * ch) ≤ area) × (start + e .blocks * ch * e .length < 2 ^ 32) × TableRoom ch (start + e .blocks * ch * e .length) (area - rowWidth * (e .blocks * ch)) r
