@@ -21,13 +21,13 @@ use Rattle.rtp.proofs.TestLaws.{by-test}
 use Rattle.rtp.proofs.HeaderLaws.{within}
 use Rattle.rtp.proofs.RedundancyLaws.{InFront, front}
 use Rattle.payload.specs.Payloads.{Rows, noRows, rowsOf, rowsAnswer}
-use Rattle.packet.specs.Blocks.{redundantRows}
-use Rattle.packet.specs.Room.{blocksFrom, Headed}
-use Rattle.packet.specs.Requests.{typedRequest}
+use Rattle.red.specs.Blocks.{redundantRows}
+use Rattle.red.specs.Room.{blocksFrom, Headed}
+use Rattle.mode_requests.specs.Requests.{typedRequest}
 use Rattle.packet.specs.Readings.{payloadIn, typedRows, Outcome, refused, readAs, outcomeOf, headedBy, reading}
-use Rattle.packet.proofs.AnswerLaws.{Inside, inside-more}
-use Rattle.packet.proofs.BlockLaws.{pay-inside, from-inside}
-use Rattle.packet.proofs.SplitLaws.{split-refused, split-short, split-place, split-blocks, headers-at}
+use Rattle.red.proofs.AnswerLaws.{Inside, inside-more}
+use Rattle.red.proofs.BlockLaws.{pay-inside, from-inside}
+use Rattle.red.proofs.SplitLaws.{split-refused, split-short, split-place, split-blocks, headers-at}
 use Rattle.packet.proofs.ReadingLaws.{payload-fits}
 
 abbrev RowsInside : ℕ → Rows → Type 0

@@ -18,12 +18,12 @@ use Rattle.rtp.specs.declared.header.HeaderRead.{HeaderRead}
 use Rattle.rtp.specs.declared.redundancy.Redundant.{Redundant}
 use Rattle.rtp.proofs.TestLaws.{by-test}
 use Rattle.rtp.proofs.HeaderLaws.{within}
-use Rattle.payload.specs.Rows.{Row}
+use Rattle.frame_rows.specs.Rows.{Row}
 use Rattle.payload.specs.Payloads.{Rows, noRows, rowsOf}
 use Rattle.payload.proofs.RowFactLaws.{RowFine, AllRows, all-append, FineRows, payload-fine}
-use Rattle.packet.specs.Blocks.{Block, cut, typedBlockRows, prependRows, thenRows, blocksRows, splitRows, redundantRows}
+use Rattle.red.specs.Blocks.{Block, cut, typedBlockRows, prependRows, thenRows, blocksRows, splitRows, redundantRows}
 use Rattle.packet.specs.Readings.{payloadIn, typedRows, Outcome, refused, readAs, outcomeOf, headedBy, reading}
-use Rattle.packet.proofs.BlockLaws.{block}
+use Rattle.red.proofs.BlockLaws.{block}
 
 -- A redundancy payload
 

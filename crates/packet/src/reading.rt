@@ -1,9 +1,9 @@
 // A packet read into frame rows.
-use crate::blocks;
-use crate::requests;
 use formats::tagging::PRIMARY;
+use mode_requests::requests;
 use payload::reading;
 use payload::reading::PayloadRead;
+use red::blocks;
 use rtp::header;
 use rtp::header::Header;
 use rtp::header::HeaderRead;

@@ -8,7 +8,7 @@ use Rattle.rtp.proofs.HeaderLaws.{within}
 use Rattle.rtp.specs.Ranges.{inRange}
 use Rattle.rtp.specs.Header.{header}
 use Rattle.rtp.specs.declared.header.HeaderRead.{HeaderRead}
-use Rattle.packet.specs.Requests.{typedRequest}
+use Rattle.mode_requests.specs.Requests.{typedRequest}
 use Rattle.packet.specs.Readings.{payloadIn, typedRows, outcomeOf, reading}
 use Rattle.packet.proofs.ReadingLaws.{reading-out, reading-short, reading-refused, reading-headed, comes-refused, comes-typed}
 use Rattle.rtp.proofs.NumberLaws.{same-header}
