@@ -1,9 +1,3 @@
-pub mod PlaceLaws
 pub mod CallLaws
-pub mod StateLaws
-pub mod BufferLaws
 pub mod CopyLaws
-pub mod VerdictLaws
-pub mod PlaceSearchLaws
-pub mod RowStepLaws
 pub mod OfferLaws

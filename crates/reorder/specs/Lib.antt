@@ -1,5 +1,3 @@
-pub mod Rows
 pub mod ModelCalls
 pub mod Calls
-pub mod Laying
-pub mod Judging
+pub mod Offers
