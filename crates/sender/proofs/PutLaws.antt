@@ -11,8 +11,8 @@ use Rattle.payload.specs.Rows.{rowsIn}
 use Rattle.encoder.specs.declared.writing.Written.{Written}
 use Rattle.encoder.specs.Writings.{Encoded, noBytes, bytesOf, encoded, roomFor, writing, Numbers, writtenNumbers, encodedNumbers, encodedBytes}
 use Rattle.sender.specs.Room.{listBytes, listsPayloads, ListRoom, PayloadsRoom}
-use Rattle.sender.proofs.WordLaws.{first-fits, counted-rest, inside-first, inside-rest, whole-first}
-use Rattle.sender.proofs.ListsLaws.{payloads-one, payloads-more}
+use Rattle.packet_parts.proofs.WordLaws.{first-fits, counted-rest, inside-first, inside-rest, whole-first}
+use Rattle.sender.proofs.ListBytesLaws.{payloads-one, payloads-more}
 
 -- One list
 
