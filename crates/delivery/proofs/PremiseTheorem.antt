@@ -14,14 +14,14 @@ use Rattle.rtp.specs.Areas.{over}
 use Rattle.rtp.specs.declared.settings.Settings.{Settings}
 use Rattle.rtp.proofs.TestLaws.{by-test}
 use Rattle.rtp.proofs.RefusalLaws.{number-positive}
-use Rattle.payload.specs.Rows.{words}
+use Rattle.frame_rows.specs.Rows.{words}
 use Rattle.playout.specs.Sizes.{slots, storeSize}
 use Rattle.playout.specs.Entries.{Held}
 use Rattle.playout.specs.Verdicts.{noCounts, Judgement, tally, Gathered, judgeAll}
 use Rattle.playout.specs.Lists.{WithinStretch, AtMost}
 use Rattle.playout.proofs.HeldLaws.{fresh}
 use Rattle.playout.proofs.PremiseLaws.{premises-exact}
-use Rattle.reorder.specs.Rows.{receivedIn}
+use Rattle.judge.specs.Rows.{receivedIn}
 use Rattle.delivery.specs.Runs.{State, lent, Offer, offer, Step, run, judged}
 use Rattle.delivery.specs.Claims.{accepted, receivedFrom, copiesIn, PremisesExact}
 use Rattle.delivery.proofs.StepLaws.{spare, Fine, at, fresh-fine, begun-at, offer-cases, judged-fine, store-length, rows-length}

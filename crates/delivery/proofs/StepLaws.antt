@@ -12,14 +12,14 @@ use Rattle.rtp.specs.Ranges.{inRange}
 use Rattle.rtp.specs.Refusals.{number}
 use Rattle.rtp.specs.Areas.{over}
 use Rattle.rtp.specs.declared.settings.Settings.{Settings}
-use Rattle.rtp.specs.declared.header.Header.{Header}
+use Rattle.rtp_headers.specs.declared.header.Header.{Header}
 use Rattle.rtp.specs.Faults.{fault}
 use Rattle.rtp.specs.declared.refusal.Fault.{Fault}
 use Rattle.rtp.specs.declared.refusal.Refusal.the-variants.{AreaTooShort}
 use Rattle.rtp.proofs.TestLaws.{by-test}
 use Rattle.rtp.proofs.RefusalLaws.{number-positive}
-use Rattle.payload.specs.Rows.{Row, words}
-use Rattle.payload.proofs.RowLaws.{length-words}
+use Rattle.frame_rows.specs.Rows.{Row, words}
+use Rattle.frame_rows.proofs.RowLaws.{length-words}
 use Rattle.packet.specs.Readings.{Outcome, refused as unread, readAs, reading}
 use Rattle.packet.proofs.RowFactLaws.{rows-fine}
 use Rattle.playout.specs.Sizes.{slotSize, storeSize}
@@ -28,15 +28,15 @@ use Rattle.playout.specs.Verdicts.{noCounts, tally, judgeAll}
 use Rattle.playout.proofs.HeldLaws.{fresh, drawnFirst, judgeAll-length}
 use Rattle.layout.specs.declared.buffer.Buffer.{Buffer}
 use Rattle.layout.specs.Layout.{encode, model}
-use Rattle.reorder.specs.Rows.{receivedIn}
+use Rattle.judge.specs.Rows.{receivedIn}
 use Rattle.reorder.specs.ModelCalls.{Result, refused, Offered, judgeRead, offerTo}
 use Rattle.reorder.specs.Calls.{NewOutcome, faultNumbers, countNumbers, OfferOutcome, offerDone, offerCall}
 use Rattle.drawing.specs.Calls.{DrawNumbers, noFrame, DrawOutcome, drawRefused, drawCall}
 use Rattle.layout.proofs.LayoutLaws.{fresh-encode}
 use Rattle.reorder.proofs.CallLaws.{new-in}
 use Rattle.drawing.proofs.CallLaws.{drawFirst, draw-store, draw-area, draw-goes}
-use Rattle.reorder.proofs.StateLaws.{Good, good-facts, judgeAll-good, draw-good}
-use Rattle.reorder.proofs.BufferLaws.{good-fine, good-back}
+use Rattle.judge.proofs.StateLaws.{Good, good-facts, judgeAll-good, draw-good}
+use Rattle.judge.proofs.BufferLaws.{good-fine, good-back}
 use Rattle.reorder.proofs.CopyLaws.{read-fit, fits-frames, fits-marks}
 use Rattle.delivery.specs.Runs.{State, lent, Offer, offer, draw, offered, drew, Step, judgementsOf, judgedBy, step, begun}
 use Rattle.delivery.specs.Claims.{readRefusal, offerRefusal, drawRefusal}

@@ -2,11 +2,11 @@
 use crate::words;
 use console::lines;
 use console::lines::LINE;
-use rtp::redundancy;
-use rtp::redundancy::BlockHeader;
-use rtp::redundancy::HeadersRead;
-use rtp::redundancy::Redundant;
 use rtp::time;
+use rtp_headers::redundancy;
+use rtp_headers::redundancy::BlockHeader;
+use rtp_headers::redundancy::HeadersRead;
+use rtp_headers::redundancy::Redundant;
 
 // What follows a block header: another, none, or nothing more is printed.
 enum Next {

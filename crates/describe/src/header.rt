@@ -3,10 +3,10 @@ use crate::blocks;
 use crate::words;
 use console::lines;
 use console::lines::LINE;
-use rtp::header;
-use rtp::header::Header;
-use rtp::header::HeaderRead;
 use rtp::settings::Settings;
+use rtp_headers::header;
+use rtp_headers::header::Header;
+use rtp_headers::header::HeaderRead;
 
 // The fields of the fixed header.
 fn print_fields(head: Header) -> bool {

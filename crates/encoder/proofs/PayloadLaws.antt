@@ -17,7 +17,7 @@ use Rattle.rtp.proofs.TestLaws.{by-test}
 use Rattle.rtp.proofs.AreaLaws.{over-part}
 use Rattle.formats.specs.Formats.{formatOf, stepOf, maxGap}
 use Rattle.contents.specs.Contents.{Group, Contents, refused, groups, sizeIn, framesIn}
-use Rattle.payload.specs.Rows.{Row}
+use Rattle.frame_rows.specs.Rows.{Row}
 use Rattle.plans.specs.Lists.{rowsIn, outside}
 use Rattle.plans.specs.Plans.{maxPayload, unwritable, gapBetween, headGap, joins, attach, follows, nextChannel, planFrom, stepBefore, payloadSize, fitting, plan}
 use Rattle.encoder.specs.Bytes.{requestBytes, tableBytes, frames}

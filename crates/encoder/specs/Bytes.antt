@@ -6,8 +6,8 @@ use mathlib.Core.Bool.{Bool, true, false, cond}
 use lib.ListN.{length, take, drop}
 use Rattle.formats.specs.Formats.{formatOf}
 use Rattle.contents.specs.Contents.{Group}
-use Rattle.payload.specs.Rows.{Row}
-use Rattle.formats.specs.Codes.{codeFor}
+use Rattle.frame_rows.specs.Rows.{Row}
+use Rattle.codes.specs.Codes.{codeFor}
 
 -- the bytes before the table: none, or the mode request in the high half of one byte, with four reserved bits after it (RFC 4867's payload header)
 unfoldable pub requestBytes : ℕ → ℕ → List ℕ

@@ -10,7 +10,7 @@ use Rattle.rtp.specs.declared.settings.Settings.{Settings}
 use Rattle.rtp.specs.declared.refusal.Refusal.{Refusal}
 use Rattle.rtp.specs.declared.refusal.Refusal.the-variants.{SettingsOutOfRange, RowOutsideBytes, Unwritable, AreaTooShort}
 use Rattle.contents.specs.Contents.{Contents, refused, groups}
-use Rattle.payload.specs.Rows.{Row}
+use Rattle.frame_rows.specs.Rows.{Row}
 use Rattle.encoder.specs.declared.writing.Written.{Written}
 use Rattle.plans.specs.Lists.{rowsIn, whole, outside}
 use Rattle.plans.specs.Plans.{payloadSize, plan}

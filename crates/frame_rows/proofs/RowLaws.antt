@@ -10,7 +10,7 @@ use borrow.Rule.Slice.PartMut.{putMid}
 use Rattle.rtp.specs.Sizes.{rowWidth}
 use Rattle.rtp.specs.Areas.{over}
 use Rattle.rtp.proofs.AreaLaws.{over-none, over-part}
-use Rattle.formats.proofs.TagLaws.{mark-of, class-of, channel-of}
+use Rattle.tags.proofs.TagLaws.{mark-of, class-of, channel-of}
 use Rattle.frame_rows.specs.Rows.{Row, rowWords, words, rowOf, rowsIn, blockRows, marked}
 use Rattle.frame_rows.specs.Room.{RowRoom, BlockRoom}
 

@@ -13,7 +13,7 @@ use Rattle.rtp.specs.Sizes.{rowWidth, maxRows}
 use Rattle.rtp.specs.Areas.{over}
 use Rattle.rtp.specs.declared.refusal.Refusal.{Refusal}
 use Rattle.rtp.proofs.TestLaws.{by-test}
-use Rattle.rtp.proofs.RedundancyLaws.{Bytes}
+use Rattle.rtp.proofs.ByteLaws.{Bytes}
 use Rattle.rtp.proofs.AreaLaws.{over-none, over-part, part-to-end}
 use Rattle.contents.specs.declared.entries.Entry.{Entry}
 use Rattle.contents.specs.declared.entries.EntryRead.{EntryRead}

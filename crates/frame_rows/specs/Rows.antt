@@ -2,7 +2,7 @@
 use Prim.Native.Nat.{ℕ, zero, suc, _+_, _*_, _^_, _%_}
 use mathlib.Core.List.{List, [], _∷_, _++_}
 use lib.ListN.{length}
-use Rattle.formats.specs.Tags.{tagOf, tagMark, tagClass, tagChannel, redundantMark}
+use Rattle.tags.specs.Tags.{tagOf, tagMark, tagClass, tagChannel, redundantMark}
 use Rattle.contents.specs.Contents.{Group}
 
 -- timestamp, class (document 01's sort), channel, start in the packet, length, and whether it was heard first-hand

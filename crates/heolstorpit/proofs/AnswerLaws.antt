@@ -11,7 +11,7 @@ use Rattle.packet.specs.Readings.{readingNumbers}
 use Rattle.encoder.specs.declared.writing.Written.{Written}
 use Rattle.encoder.specs.Writings.{writtenNumbers}
 use Rattle.layout.specs.declared.buffer.Buffer.{Buffer}
-use Rattle.reorder.specs.declared.tally.Tally.{Tally}
+use Rattle.insertion.specs.declared.tally.Tally.{Tally}
 use Rattle.drawing.specs.declared.draws.DrawnFrame.{DrawnFrame}
 use Rattle.reorder.specs.declared.calls.NewAnswer.{NewAnswer}
 use Rattle.reorder.specs.declared.calls.OfferAnswer.{OfferAnswer}

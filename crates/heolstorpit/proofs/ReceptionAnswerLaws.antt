@@ -4,7 +4,7 @@ use Prim.Native.Nat.{ℕ}
 use lib.IntN.{ℤ, pos}
 use Rattle.rtp.specs.Refusals.{number}
 use Rattle.rtp.specs.declared.refusal.Refusal.{Refusal}
-use Rattle.reception.specs.declared.record.Reception.{Reception}
+use Rattle.validity.specs.declared.record.Reception.{Reception}
 use Rattle.reception.specs.declared.calls.PacketAnswer.{PacketAnswer}
 use Rattle.reception.specs.declared.calls.ReportBlock.{ReportBlock}
 use Rattle.reception.specs.declared.calls.ReportAnswer.{ReportAnswer}

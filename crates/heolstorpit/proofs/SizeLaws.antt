@@ -18,8 +18,9 @@ use Rattle.encoder.specs.Writings.{Encoded, noBytes, bytesOf, askable, plannedB
 use Rattle.encoder.proofs.PayloadLaws.{listed, length-bytes}
 use Rattle.encoder.proofs.RequestLaws.{asked}
 use Rattle.encoder.proofs.WritingLaws.{in-range-some}
-use Rattle.sender.specs.Parts.{Parts, noParts, partsOf, primaryTime, parts}
-use Rattle.sender.specs.Packets.{Heading, headerBytes, bodyBytes, packetType, redundancyMissing, withinPacket, assembledFrom, assembled, countsFit, sending}
+use Rattle.packet_parts.specs.Parts.{Parts, noParts, partsOf, primaryTime, parts, countsFit}
+use Rattle.sender.specs.Packets.{bodyBytes, packetType, redundancyMissing, withinPacket, assembledFrom, assembled, sending}
+use Rattle.packet_parts.specs.Headings.{Heading, headerBytes}
 
 abbrev Short : ℕ → Encoded → Type 0
 Short m (noBytes r) = Unit {0}

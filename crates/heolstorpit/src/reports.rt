@@ -2,8 +2,8 @@
 use reception::calls;
 use reception::calls::PacketAnswer;
 use reception::calls::ReportAnswer;
-use reception::record::Reception;
 use rtp::refusal;
+use validity::record::Reception;
 ghost use mathlib.Core.Path.{_≡_};
 ghost use Rattle.reception.specs.Calls.{fresh, packetCall, reportCall};
 ghost use Rattle.heolstorpit.specs.ReceptionAnswers.{receivedAnswer, reportedAnswer};

@@ -6,13 +6,13 @@ use mathlib.Core.Bool.{Bool, false, cond}
 use lib.ListN.{length, getD, take, drop, set}
 use lib.Seq.{paste}
 use lib.Dec.{ltb, leb}
-use Rattle.formats.specs.Tags.{tagMark, tagClass, tagChannel, joinedTag}
+use Rattle.tags.specs.Tags.{tagMark, tagClass, tagChannel, joinedTag}
 use Rattle.playout.specs.declared.verdict.Verdict.{Verdict}
 use Rattle.playout.specs.declared.verdict.Verdict.the-variants.{Repeated, Better, NoRoom}
 use Rattle.playout.specs.Sizes.{slots, slotSize, storeSize}
 use Rattle.playout.specs.Copies.{Copy, betterFrame}
 use Rattle.insertion.specs.declared.laying.FrameHead.{FrameHead}
-use Rattle.layout.specs.Bits.{lowestFree, marked}
+use Rattle.slot_marks.specs.Bits.{lowestFree, marked}
 use Rattle.layout.specs.Columns.{insertAt}
 
 -- the class, the channel and the mark of a frame, and its copy

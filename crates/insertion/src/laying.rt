@@ -1,17 +1,17 @@
 // Frames laid into the columns and the store.
-use formats::tagging;
-use layout::bits;
 use layout::buffer::SLOT_SIZE;
-use layout::buffer::SLOTS;
 use layout::buffer::STORE_SIZE;
 use placing::areas;
 use placing::columns;
 use playout::compare;
 use playout::verdict::Verdict;
+use slot_marks::bits;
+use slot_marks::bits::SLOTS;
+use tags::tagging;
 ghost use mathlib.Core.Path.{_≡_};
 ghost use mathlib.Core.Bool.{true, false};
 ghost use lib.ListN.{length};
-ghost use Rattle.layout.specs.Bits.{lowestFree};
+ghost use Rattle.slot_marks.specs.Bits.{lowestFree};
 ghost use Rattle.insertion.specs.Laying.{canReplace, Replaced, NotReplaced, canInsert, Laid, NotLaid};
 
 // The number of slots, and the size of one, as the columns hold them.

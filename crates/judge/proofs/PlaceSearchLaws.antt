@@ -15,7 +15,7 @@ use Rattle.playout.proofs.HeldLaws.{entryPlace, Sorted, sorted-with}
 use Rattle.rtp.proofs.RangeLaws.{few-channels}
 use Rattle.layout.specs.declared.buffer.Buffer.{Buffer}
 use Rattle.insertion.specs.declared.laying.FrameHead.{FrameHead}
-use Rattle.layout.specs.Bits.{heldIn}
+use Rattle.slot_marks.specs.Bits.{heldIn}
 use Rattle.placing.specs.Places.{Parted}
 use Rattle.layout.specs.Layout.{entryAt, decode}
 use Rattle.insertion.specs.Laying.{channelIn, copyIn}

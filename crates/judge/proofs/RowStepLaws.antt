@@ -12,9 +12,9 @@ use Rattle.rtp.specs.Ranges.{inRange}
 use Rattle.rtp.proofs.AreaLaws.{part-to-end}
 use Rattle.rtp.proofs.RangeLaws.{few-channels}
 use Rattle.formats.specs.Frames.{noData}
-use Rattle.formats.proofs.TagLaws.{mark-small}
-use Rattle.payload.specs.Rows.{Row, rowOf, rowsIn}
-use Rattle.payload.proofs.RowLaws.{rows-more}
+use Rattle.tags.proofs.TagLaws.{mark-small}
+use Rattle.frame_rows.specs.Rows.{Row, rowOf, rowsIn}
+use Rattle.frame_rows.proofs.RowLaws.{rows-more}
 use Rattle.playout.specs.declared.verdict.Verdict.{Verdict}
 use Rattle.playout.specs.declared.verdict.Verdict.the-variants.{Late, Far, Repeated, Better, NoRoom, Inserted}
 use Rattle.playout.specs.Sizes.{storeSize}
@@ -25,7 +25,7 @@ use Rattle.layout.specs.declared.buffer.Buffer.{Buffer}
 use Rattle.insertion.specs.declared.tally.Tally.{Tally}
 use Rattle.insertion.specs.declared.laying.FrameHead.{FrameHead}
 use Rattle.layout.specs.Layout.{encode, decode}
-use Rattle.layout.specs.Model.{allowed}
+use Rattle.codes.specs.Allowed.{allowed}
 use Rattle.layout.specs.WellFormed.{wellFormed}
 use Rattle.judge.specs.Rows.{firstRow, restWords, receivedAs, receivedIn}
 use Rattle.layout.specs.Arrays.{Machine}

@@ -11,7 +11,7 @@ use lib.Seq.{paste}
 use lib.Dec.{ltb, eqb}
 use borrow.Author.Tests.{lt-ltb, le-ltb, eqb-true, eqb-false}
 use Rattle.rtp.proofs.TestLaws.{by-test}
-use Rattle.formats.specs.Tags.{tagOf, eitherMark, joinedTag}
+use Rattle.tags.specs.Tags.{tagOf, eitherMark, joinedTag}
 use Rattle.playout.specs.declared.verdict.Verdict.{Verdict}
 use Rattle.playout.specs.declared.verdict.Verdict.the-variants.{Late, Far, Repeated, Better, NoRoom, Inserted}
 use Rattle.playout.specs.Sizes.{slots, slotSize, storeSize}
@@ -21,7 +21,7 @@ use Rattle.playout.specs.Verdicts.{Judged, isLate, fits, isFar, keeps, holding,
 use Rattle.layout.specs.declared.buffer.Buffer.{Buffer}
 use Rattle.placing.specs.declared.columns.Place.{Place}
 use Rattle.insertion.specs.declared.laying.FrameHead.{FrameHead}
-use Rattle.layout.specs.Bits.{heldIn, wordsOf, marked, lowestFree}
+use Rattle.slot_marks.specs.Bits.{heldIn, wordsOf, marked, lowestFree}
 use Rattle.layout.specs.Columns.{insertAt, fitsFrom}
 use Rattle.placing.specs.Places.{placeFrom}
 use Rattle.layout.specs.Layout.{entryTag, column, flagOf, encode, entryAt, entriesFrom, decode}
@@ -31,12 +31,12 @@ use Rattle.insertion.specs.Laying.{classIn, channelIn, markIn, copyIn, canRepla
 use Rattle.insertion.proofs.LayingLaws.{can-replace, can-insert}
 use Rattle.judge.specs.Judging.{JudgedAs}
 use Rattle.layout.proofs.ColumnLaws.{inserted}
-use Rattle.layout.proofs.WordLaws.{slotOf, slotsOf, free-is}
-use Rattle.layout.proofs.FreeLaws.{free-when-room}
+use Rattle.slot_marks.proofs.WordLaws.{slotOf, slotsOf, free-is}
+use Rattle.slot_marks.proofs.FreeLaws.{free-when-room}
 use Rattle.layout.proofs.LayoutLaws.{tag-back, noEntry, at-member, column-insert, column-set, column-same, words-insert, words-set}
 use Rattle.judge.proofs.PlaceLaws.{heldBy, AtPlace, place-at, fits-is}
 use Rattle.layout.proofs.WellFormedLaws.{facts, decode-length, words-held, encode-decode}
-use Rattle.layout.proofs.AllowedLaws.{allowed-frame}
+use Rattle.codes.proofs.AllowedLaws.{allowed-frame}
 
 -- the entry at a place of the list is that at the place of the columns
 pub entries-at : (b : Buffer) (k i j : ℕ) → j < k → getD (entriesFrom b k i) j noEntry ≡ entryAt b (i + j)

@@ -8,7 +8,7 @@ use lib.Dec.{eqb}
 use Rattle.rtp.specs.Ranges.{inRange}
 use Rattle.rtp.specs.declared.settings.Settings.{Settings}
 use Rattle.formats.specs.Frames.{noData}
-use Rattle.payload.specs.Rows.{Row}
+use Rattle.frame_rows.specs.Rows.{Row}
 use Rattle.playout.specs.declared.verdict.Verdict.{Verdict}
 use Rattle.playout.specs.Sizes.{storeSize}
 use Rattle.playout.specs.Pairs.{order, isAfter}
@@ -19,7 +19,7 @@ use Rattle.layout.specs.declared.buffer.Fixed.{Fixed}
 use Rattle.layout.specs.Arrays.{Machine}
 use Rattle.layout.specs.Columns.{fitsFrom}
 use Rattle.layout.specs.Layout.{encode, decode}
-use Rattle.layout.specs.Model.{allowed}
+use Rattle.codes.specs.Allowed.{allowed}
 use Rattle.layout.specs.WellFormed.{wellFormed}
 use Rattle.insertion.specs.declared.laying.FrameHead.{FrameHead}
 use Rattle.insertion.specs.declared.tally.Tally.{Tally}

@@ -6,7 +6,7 @@ use lib.ListN.{length, getD, take, drop}
 use lib.Dec.{eqb}
 use Rattle.formats.specs.Frames.{noData}
 use Rattle.rtp.specs.Sizes.{rowWidth}
-use Rattle.payload.specs.Rows.{Row, rowOf}
+use Rattle.frame_rows.specs.Rows.{Row, rowOf}
 use Rattle.playout.specs.Copies.{Copy, Received}
 
 -- the row at the front of an area, and the area after it

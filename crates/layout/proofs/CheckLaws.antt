@@ -10,7 +10,7 @@ use borrow.Author.Tests.{ltb-true, eqb-true, not-true, not-false}
 use lib.Dec.{ltb, eqb}
 use lib.ListN.{getD}
 use Rattle.codes.specs.Allowed.{allowed}
-use Rattle.formats.specs.Tags.{tagClass, tagChannel}
+use Rattle.tags.specs.Tags.{tagClass, tagChannel}
 use Rattle.playout.specs.Sizes.{slots}
 use Rattle.playout.specs.Pairs.{half, ahead, order, isAfter, sideOf}
 use Rattle.playout.specs.declared.order.Side.{Side}

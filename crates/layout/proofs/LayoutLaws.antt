@@ -11,8 +11,8 @@ use lib.ListN.{length, getD, take, drop, set, length-map, List·getD-map}
 use lib.Seq.{map-set-same}
 use Rattle.rtp.specs.declared.settings.Settings.{Settings}
 use Rattle.rtp.proofs.TestLaws.{not-both}
-use Rattle.formats.specs.Tags.{tagOf, tagMark, tagClass, tagChannel}
-use Rattle.formats.proofs.TagLaws.{of-parts, mark-of, class-of}
+use Rattle.tags.specs.Tags.{tagOf, tagMark, tagClass, tagChannel}
+use Rattle.tags.proofs.TagLaws.{of-parts, mark-of, class-of}
 use Rattle.playout.specs.Sizes.{slots}
 use Rattle.playout.specs.Entries.{Entry, Held}
 use Rattle.layout.specs.declared.buffer.Buffer.{Buffer}

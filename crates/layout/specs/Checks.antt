@@ -6,7 +6,7 @@ use mathlib.Core.Option.{Option, none, some}
 use lib.ListN.{getD}
 use lib.Dec.{ltb, eqb}
 use Rattle.codes.specs.Allowed.{allowed}
-use Rattle.formats.specs.Tags.{tagClass, tagChannel}
+use Rattle.tags.specs.Tags.{tagClass, tagChannel}
 use Rattle.playout.specs.Pairs.{half, ahead, order, isAfter}
 use Rattle.playout.specs.Entries.{Entry}
 use Rattle.layout.specs.declared.buffer.Buffer.{Buffer}

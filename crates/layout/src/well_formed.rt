@@ -1,14 +1,14 @@
 // Whether a buffer is well-formed.
 use crate::buffer::Fixed;
 use crate::columns;
-use formats::codes;
+use codes::coding;
 use formats::facts;
 use formats::facts::FrameTable;
-use formats::tagging;
 use playout::order;
 use playout::order::Side;
 use slot_marks::bits;
 use slot_marks::bits::SLOTS;
+use tags::tagging;
 ghost use mathlib.Core.Path.{_≡_};
 ghost use mathlib.Core.Bool.{true};
 ghost use Prim.Native.Nat.{_^_, _≤_, _<_};
@@ -54,7 +54,7 @@ fn class_fine(table: FrameTable, fixed: Fixed, tag: u32, length: u32) -> bool
     requires { ⌜ table ≡ formatOf (fixed .settings .format) .table ⌝ }
     ensures { λ r. ⌜ r ≡ classFine fixed tag length ⌝ }
 {
-    if !codes::is_allowed(table, tagging::tag_class(tag), length) {
+    if !coding::is_allowed(table, tagging::tag_class(tag), length) {
         return false;
     }
     tagging::tag_channel(tag) < (fixed.settings.channels as u32)

@@ -8,16 +8,17 @@ use lib.ListN.{length, take, drop}
 use lib.Dec.{ltb, eqb}
 use borrow.Author.Tests.{eq-eqb, ne-eqb}
 use Rattle.rtp.specs.Sizes.{maxPacket}
-use Rattle.rtp.specs.Redundancy.{blockHeader, Headers, refused, headersOf, prepend, headers, redundancyHeaders, headersSize, headersAnswer}
+use Rattle.rtp_headers.specs.Redundancy.{blockHeader, Headers, refused, headersOf, prepend, headers, redundancyHeaders, headersSize, headersAnswer}
 use Rattle.rtp.specs.declared.settings.Settings.{Settings}
 use Rattle.rtp.specs.declared.refusal.Refusal.{Refusal}
 use Rattle.rtp.specs.declared.refusal.Fault.{Fault}
-use Rattle.rtp.specs.declared.redundancy.Redundant.{Redundant}
-use Rattle.rtp.specs.declared.redundancy.BlockHeader.{BlockHeader}
-use Rattle.rtp.specs.declared.redundancy.HeaderSizes.{HeaderSizes}
-use Rattle.rtp.specs.declared.redundancy.HeadersRead.{HeadersRead}
+use Rattle.rtp_headers.specs.declared.redundancy.Redundant.{Redundant}
+use Rattle.rtp_headers.specs.declared.redundancy.BlockHeader.{BlockHeader}
+use Rattle.rtp_headers.specs.declared.redundancy.HeaderSizes.{HeaderSizes}
+use Rattle.rtp_headers.specs.declared.redundancy.HeadersRead.{HeadersRead}
 use Rattle.rtp.proofs.TestLaws.{by-test}
-use Rattle.rtp.proofs.RedundancyLaws.{headers-step, Bytes, Small, Within, within}
+use Rattle.rtp_headers.proofs.RedundancyLaws.{headers-step, Small, Within, within}
+use Rattle.rtp.proofs.ByteLaws.{Bytes}
 use Rattle.formats.specs.Formats.{formatOf}
 use Rattle.payload.specs.Payloads.{noRequest, requestOf}
 use Rattle.payload.proofs.PayloadLaws.{request-none}

@@ -4,7 +4,7 @@ use mathlib.Core.List.{List, [], _∷_}
 use mathlib.Core.Bool.{cond}
 use lib.ListN.{length, drop}
 use lib.Dec.{eqb}
-use Rattle.rtp.specs.Redundancy.{Headers, refused, headersOf, redundancyHeaders, headersSize}
+use Rattle.rtp_headers.specs.Redundancy.{Headers, refused, headersOf, redundancyHeaders, headersSize}
 use Rattle.rtp.specs.declared.settings.Settings.{Settings}
 use Rattle.payload.specs.Payloads.{noRequest, requestOf}
 use Rattle.red.specs.Blocks.{Block, cut}

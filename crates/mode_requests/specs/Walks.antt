@@ -1,7 +1,7 @@
 -- The mode request by the block headers, as the walk over them finds it.
 use Prim.Native.Nat.{ℕ}
 use mathlib.Core.List.{List}
-use Rattle.rtp.specs.Redundancy.{Headers, refused, headersOf, headers}
+use Rattle.rtp_headers.specs.Redundancy.{Headers, refused, headersOf, headers}
 use Rattle.rtp.specs.declared.settings.Settings.{Settings}
 use Rattle.payload.specs.Payloads.{noRequest}
 use Rattle.red.specs.Blocks.{cut}

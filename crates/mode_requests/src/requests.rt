@@ -2,10 +2,10 @@
 use formats::facts;
 use payload::reading;
 use payload::reading::NO_REQUEST;
-use rtp::redundancy;
-use rtp::redundancy::BlockHeader;
-use rtp::redundancy::HeadersRead;
 use rtp::settings::Settings;
+use rtp_headers::redundancy;
+use rtp_headers::redundancy::BlockHeader;
+use rtp_headers::redundancy::HeadersRead;
 ghost use mathlib.Core.Path.{_≡_};
 ghost use Prim.Native.Nat.{_≤_};
 ghost use lib.ListN.{length, take, drop};

@@ -9,17 +9,17 @@ use borrow.Author.Tests.{eq-eqb, ne-eqb, lt-ltb, le-ltb}
 use Rattle.rtp.specs.Areas.{over}
 use Rattle.rtp.specs.Sizes.{maxPacket, rowArea}
 use Rattle.rtp.specs.Ranges.{inRange}
-use Rattle.formats.specs.Tags.{primaryMark}
-use Rattle.rtp.specs.Header.{header}
+use Rattle.tags.specs.Tags.{primaryMark}
+use Rattle.rtp_headers.specs.Header.{header}
 use Rattle.rtp.specs.Faults.{fault}
 use Rattle.rtp.specs.declared.refusal.Fault.{Fault}
 use Rattle.rtp.specs.declared.settings.Settings.{Settings}
-use Rattle.rtp.specs.declared.header.Header.{Header}
-use Rattle.rtp.specs.declared.header.HeaderRead.{HeaderRead}
+use Rattle.rtp_headers.specs.declared.header.Header.{Header}
+use Rattle.rtp_headers.specs.declared.header.HeaderRead.{HeaderRead}
 use Rattle.rtp.specs.declared.refusal.Refusal.{Refusal}
 use Rattle.rtp.specs.declared.refusal.Refusal.the-variants.{UnknownPayloadType, SettingsOutOfRange, AreaTooShort}
 use Rattle.rtp.proofs.AreaLaws.{over-none}
-use Rattle.rtp.proofs.HeaderLaws.{within}
+use Rattle.rtp_headers.proofs.HeaderLaws.{within}
 use Rattle.payload.specs.declared.reading.PayloadRead.{PayloadRead}
 use Rattle.payload.specs.Payloads.{Rows, noRows, rowsOf, rowsAnswer, rowsWords, askedRows}
 use Rattle.payload.proofs.PayloadLaws.{asked-in}

@@ -1,8 +1,8 @@
 -- Document 02, P2: the checked places, computed on the definitions.
 use mathlib.Core.Path.{refl}
 use Rattle.rtp.specs.Ranges.{maxChannels, inRange}
-use Rattle.rtp.specs.Header.{payloadStart, payloadEnd, fields, header}
-use Rattle.rtp.specs.Redundancy.{blockHeader, headersBy, headers, redundancyHeaders, headersSize, redundantSize}
+use Rattle.rtp_headers.specs.Header.{payloadStart, payloadEnd, fields, header}
+use Rattle.rtp_headers.specs.Redundancy.{blockHeader, headersBy, headers, redundancyHeaders, headersSize, redundantSize}
 use Rattle.formats.specs.Formats.{formatOf}
 use Rattle.formats.specs.Frames.{g719Length, amrLength, lengthIn, frameIn}
 use Rattle.contents.specs.Contents.{minEntry, gapsSize, entrySize, entryOf, gapsFrom, meaning, contentsBy, contents, sizeIn, framesIn}

@@ -12,21 +12,21 @@ use Rattle.rtp.specs.Numbers.{byteAt}
 use Rattle.rtp.specs.Ranges.{inRange}
 use Rattle.rtp.specs.Time.{difference}
 use Rattle.rtp.specs.Refusals.{number}
-use Rattle.rtp.specs.Header.{csrcEnd, extensionEnd, payloadStart, payloadEnd, endedAt, startedAt, header}
-use Rattle.rtp.specs.Redundancy.{blockHeader, Headers, refused as unheaded, headersOf, prepend as prependHeader, headersStep, headersBy, headers, redundancyHeaders, headersSize, redundantSize}
+use Rattle.rtp_headers.specs.Header.{csrcEnd, extensionEnd, payloadStart, payloadEnd, endedAt, startedAt, header}
+use Rattle.rtp_headers.specs.Redundancy.{blockHeader, Headers, refused as unheaded, headersOf, prepend as prependHeader, headersStep, headersBy, headers, redundancyHeaders, headersSize, redundantSize}
 use Rattle.rtp.specs.declared.settings.Settings.{Settings}
-use Rattle.rtp.specs.declared.header.Header.{Header}
-use Rattle.rtp.specs.declared.header.HeaderRead.{HeaderRead}
-use Rattle.rtp.specs.declared.header.Bound.{Bound}
-use Rattle.rtp.specs.declared.redundancy.Redundant.{Redundant}
-use Rattle.rtp.specs.declared.redundancy.BlockHeader.{BlockHeader}
+use Rattle.rtp_headers.specs.declared.header.Header.{Header}
+use Rattle.rtp_headers.specs.declared.header.HeaderRead.{HeaderRead}
+use Rattle.rtp_headers.specs.declared.header.Bound.{Bound}
+use Rattle.rtp_headers.specs.declared.redundancy.Redundant.{Redundant}
+use Rattle.rtp_headers.specs.declared.redundancy.BlockHeader.{BlockHeader}
 use Rattle.rtp.proofs.TestLaws.{by-test}
-use Rattle.rtp.proofs.HeaderLaws.{within}
+use Rattle.rtp_headers.proofs.HeaderLaws.{within}
 use Rattle.formats.specs.declared.frames.Coded.{Coded}
 use Rattle.formats.specs.Frames.{frameOf}
 use Rattle.contents.specs.declared.entries.EntryRead.{EntryRead}
 use Rattle.contents.specs.Contents.{minEntry, codeIn, blocksIn, entrySize, codedEntry, entryOf, Group, Contents, refused as unread, groups, meaning, prepend, contentsStep, contentsBy, contents, passFirst, sizeIn, framesIn}
-use Rattle.formats.specs.Tags.{primaryMark, redundantMark}
+use Rattle.tags.specs.Tags.{primaryMark, redundantMark}
 use Rattle.payload.specs.Payloads.{tableStart, startingAt, body, payload, Rows, noRows, rowsOf, placedRows, payloadRows}
 use Rattle.frame_rows.specs.Tables.{exact}
 use Rattle.red.specs.Blocks.{Block, cut, typedBlockRows, prependRows, thenRows, blocksRows, splitRows, redundantRows}

@@ -6,17 +6,17 @@ use lib.ListN.{length, replicate}
 use Rattle.rtp.specs.Sizes.{rowArea}
 use Rattle.rtp.specs.Ranges.{g719, g719Interleaved, gsmHr}
 use Rattle.rtp.specs.Time.{difference}
-use Rattle.rtp.specs.Redundancy.{blockHeader, headersOf, redundancyHeaders}
+use Rattle.rtp_headers.specs.Redundancy.{blockHeader, headersOf, redundancyHeaders}
 use Rattle.rtp.specs.Refusals.{number}
 use Rattle.rtp.specs.Faults.{faultAt}
 use Rattle.rtp.specs.declared.settings.Settings.{Settings}
 use Rattle.rtp.specs.declared.refusal.Refusal.the-variants.{ReservedCode}
-use Rattle.rtp.specs.declared.redundancy.Redundant.{Redundant}
-use Rattle.rtp.specs.declared.redundancy.BlockHeader.{BlockHeader}
+use Rattle.rtp_headers.specs.declared.redundancy.Redundant.{Redundant}
+use Rattle.rtp_headers.specs.declared.redundancy.BlockHeader.{BlockHeader}
 use Rattle.contents.specs.declared.entries.EntryRead.{EntryRead}
 use Rattle.formats.specs.Frames.{g719Length, noData, sound}
 use Rattle.contents.specs.Contents.{entryOf}
-use Rattle.formats.specs.Tags.{primaryMark, redundantMark}
+use Rattle.tags.specs.Tags.{primaryMark, redundantMark}
 use Rattle.frame_rows.specs.Rows.{Row, withMark}
 use Rattle.payload.specs.Payloads.{Rows, noRows, rowsOf}
 use Rattle.packet.specs.Readings.{Outcome, refused, readAs, reading}

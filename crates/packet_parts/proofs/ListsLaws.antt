@@ -15,7 +15,7 @@ use Rattle.rtp.specs.declared.refusal.Refusal.{Refusal}
 use Rattle.rtp.specs.declared.refusal.Refusal.the-variants.{PacketLength, Version, HeaderTruncated, PaddingCount, UnknownPayloadType, ContentsTruncated, ReservedCode, NoFrameBlocks, TooManyRows, LengthMismatch, SettingsOutOfRange, AreaTooShort, Unwritable, RowOutsideBytes, MalformedBuffer}
 use Rattle.rtp.proofs.TestLaws.{by-test}
 use Rattle.contents.specs.Contents.{Contents, refused, groups}
-use Rattle.payload.specs.Rows.{rowsIn}
+use Rattle.frame_rows.specs.Rows.{rowsIn}
 use Rattle.encoder.specs.declared.writing.Written.{Written}
 use Rattle.plans.specs.Lists.{whole, firstTime}
 use Rattle.plans.specs.Plans.{maxPayload, plan}

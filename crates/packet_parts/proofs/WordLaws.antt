@@ -10,7 +10,7 @@ use lib.Dec.{ltb}
 use borrow.Author.Tests.{lt-ltb, le-ltb, ltb-true}
 use Rattle.rtp.specs.Sizes.{rowWidth}
 use Rattle.rtp.proofs.TestLaws.{by-test, neither}
-use Rattle.payload.specs.Rows.{Row, rowOf, rowsIn}
+use Rattle.frame_rows.specs.Rows.{Row, rowOf, rowsIn}
 use Rattle.plans.specs.Lists.{outside}
 pub use Rattle.plans.proofs.BlockLaws.{rows-drop}
 use Rattle.packet_parts.specs.Parts.{total}

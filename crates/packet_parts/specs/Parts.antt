@@ -7,7 +7,7 @@ use lib.Dec.{ltb, eqb}
 use Rattle.rtp.specs.Sizes.{maxRows, rowWidth}
 use Rattle.rtp.specs.Time.{difference}
 use Rattle.rtp.specs.declared.settings.Settings.{Settings}
-use Rattle.payload.specs.Rows.{Row}
+use Rattle.frame_rows.specs.Rows.{Row}
 use Rattle.encoder.specs.Writings.{Encoded, noBytes, bytesOf, encoded}
 use Rattle.plans.specs.Lists.{firstTime}
 

@@ -14,7 +14,7 @@ ghost use mathlib.Core.Path.{_≡_};
 ghost use lib.ListN.{length};
 ghost use Rattle.rtp.specs.Sizes.{rowArea};
 ghost use Rattle.rtp.specs.Areas.{over};
-ghost use Rattle.formats.specs.Tags.{redundantMark};
+ghost use Rattle.tags.specs.Tags.{redundantMark};
 ghost use Rattle.payload.specs.Payloads.{requestOf, askedRows, payloadNumbers, rowsNumbers, rowsWords};
 
 // The mode request of a payload without one.

@@ -1,5 +1,4 @@
 // A packet made of given bytes and zeros, read and printed. It is laid into 2,049 bytes, one more than the longest packet has.
-use formats::tagging;
 use packet::reading;
 use packet::reading::Packet;
 use packet::reading::Reading;
@@ -10,6 +9,7 @@ use rtp::sizes::MAX_PACKET;
 use rtp::sizes::MAX_ROWS;
 use rtp::sizes::ROW_AREA;
 use rtp::sizes::ROW_WIDTH;
+use tags::tagging;
 ghost use Prim.Native.Nat.{_≤_};
 
 // The payload type and the redundancy type agreed, and a header's first byte with version 2 and no other bit.

@@ -11,17 +11,17 @@ use drawing::draws::DrawnFrame;
 use formats::frames::DAMAGED_SID;
 use formats::frames::DAMAGED_SOUND;
 use formats::frames::SID;
-use formats::tagging::PRIMARY;
 use layout::buffer::SLOT_SIZE;
 use libc::STDERR_FILENO;
 use libc::STDOUT_FILENO;
+use packet_loss::signed;
 use reception::calls;
 use reception::calls::ReportAnswer;
 use reception::calls::ReportBlock;
-use reception::record::Reception;
-use reception::signed;
 use rtp::refusal;
 use rtp::refusal::Fault;
+use tags::tagging::PRIMARY;
+use validity::record::Reception;
 
 // Progress is said after each so many packets.
 const PROGRESS: u64 = 100000;

@@ -13,17 +13,17 @@ use Rattle.rtp.specs.Areas.{over}
 use Rattle.rtp.specs.Ranges.{inRange}
 use Rattle.rtp.specs.Time.{difference}
 use Rattle.rtp.specs.Faults.{faultAt, fault, shifted}
-use Rattle.formats.specs.Tags.{primaryMark, redundantMark}
-use Rattle.rtp.specs.Redundancy.{blockHeader, Headers, refused, headersOf, prepend, headers, redundantSize, headersAnswer}
+use Rattle.tags.specs.Tags.{primaryMark, redundantMark}
+use Rattle.rtp_headers.specs.Redundancy.{blockHeader, Headers, refused, headersOf, prepend, headers, redundantSize, headersAnswer}
 use Rattle.rtp.specs.declared.settings.Settings.{Settings}
 use Rattle.rtp.specs.declared.refusal.Refusal.{Refusal}
 use Rattle.rtp.specs.declared.refusal.Fault.{Fault}
-use Rattle.rtp.specs.declared.redundancy.Redundant.{Redundant}
-use Rattle.rtp.specs.declared.redundancy.BlockHeader.{BlockHeader}
-use Rattle.rtp.specs.declared.redundancy.HeadersRead.{HeadersRead}
+use Rattle.rtp_headers.specs.declared.redundancy.Redundant.{Redundant}
+use Rattle.rtp_headers.specs.declared.redundancy.BlockHeader.{BlockHeader}
+use Rattle.rtp_headers.specs.declared.redundancy.HeadersRead.{HeadersRead}
 use Rattle.rtp.proofs.TestLaws.{by-test}
 use Rattle.rtp.proofs.AreaLaws.{over-part}
-use Rattle.rtp.proofs.RedundancyLaws.{headers-step, at-redundant, ahead}
+use Rattle.rtp_headers.proofs.RedundancyLaws.{headers-step, at-redundant, ahead}
 use Rattle.contents.specs.declared.entries.ContentsRead.{ContentsRead}
 use Rattle.payload.specs.declared.reading.PayloadRead.{PayloadRead}
 use Rattle.formats.specs.Formats.{formatOf}

@@ -8,14 +8,15 @@ use lib.ListN.{length, drop, length-drop}
 use borrow.Author.Tests.{lt-ltb, le-ltb}
 use Rattle.rtp.specs.Sizes.{maxPacket, rowArea}
 use Rattle.rtp.specs.Ranges.{inRange}
-use Rattle.rtp.specs.Redundancy.{Headers, refused, headersOf, headers, redundancyHeaders, headersAnswer}
+use Rattle.rtp_headers.specs.Redundancy.{Headers, refused, headersOf, headers, redundancyHeaders, headersAnswer}
 use Rattle.rtp.specs.declared.settings.Settings.{Settings}
 use Rattle.rtp.specs.Faults.{faultAt, shifted}
 use Rattle.rtp.specs.declared.refusal.Fault.{Fault}
 use Rattle.rtp.specs.declared.refusal.Refusal.the-variants.{LengthMismatch}
-use Rattle.rtp.specs.declared.redundancy.HeaderSizes.{HeaderSizes}
-use Rattle.rtp.specs.declared.redundancy.HeadersRead.{HeadersRead}
-use Rattle.rtp.proofs.RedundancyLaws.{Bytes, Small, Within, within, InFront, front}
+use Rattle.rtp_headers.specs.declared.redundancy.HeaderSizes.{HeaderSizes}
+use Rattle.rtp_headers.specs.declared.redundancy.HeadersRead.{HeadersRead}
+use Rattle.rtp_headers.proofs.RedundancyLaws.{Small, Within, within, InFront, front}
+use Rattle.rtp.proofs.ByteLaws.{Bytes}
 use Rattle.payload.specs.Payloads.{Rows, noRows, rowsAnswer}
 use Rattle.payload.specs.declared.reading.PayloadRead.{PayloadRead}
 use Rattle.red.specs.Blocks.{splitRows, redundantRows}

@@ -7,12 +7,12 @@ use lib.Dec.{ltb, eqb}
 use Rattle.rtp.specs.Sizes.{maxPacket, rowArea}
 use Rattle.rtp.specs.Ranges.{inRange}
 use Rattle.rtp.specs.Time.{difference}
-use Rattle.formats.specs.Tags.{primaryMark, redundantMark}
+use Rattle.tags.specs.Tags.{primaryMark, redundantMark}
 use Rattle.rtp.specs.Faults.{faultAt, fault, shifted}
-use Rattle.rtp.specs.Redundancy.{Headers, refused, headersOf, redundancyHeaders, headersSize, redundantSize}
+use Rattle.rtp_headers.specs.Redundancy.{Headers, refused, headersOf, redundancyHeaders, headersSize, redundantSize}
 use Rattle.rtp.specs.declared.settings.Settings.{Settings}
 use Rattle.rtp.specs.declared.refusal.Refusal.the-variants.{PacketLength, LengthMismatch, SettingsOutOfRange, AreaTooShort}
-use Rattle.rtp.specs.declared.redundancy.Redundant.{Redundant}
+use Rattle.rtp_headers.specs.declared.redundancy.Redundant.{Redundant}
 use Rattle.frame_rows.specs.Rows.{Row}
 use Rattle.payload.specs.Payloads.{Rows, noRows, rowsOf, payloadRows}
 

@@ -9,9 +9,9 @@ use Rattle.rtp.specs.Sizes.{maxPacket, maxRows, rowWidth, rowArea}
 use Rattle.rtp.specs.Ranges.{inRange}
 use Rattle.rtp.specs.Time.{difference}
 use Rattle.rtp.specs.Faults.{shifted}
-use Rattle.rtp.specs.Redundancy.{Headers, refused, headersOf, headers, headersAnswer}
+use Rattle.rtp_headers.specs.Redundancy.{Headers, refused, headersOf, headers, headersAnswer}
 use Rattle.rtp.specs.declared.settings.Settings.{Settings}
-use Rattle.rtp.specs.declared.redundancy.HeadersRead.{HeadersRead}
+use Rattle.rtp_headers.specs.declared.redundancy.HeadersRead.{HeadersRead}
 use Rattle.payload.specs.Payloads.{Rows, noRows, rowsOf, askedRows, rowsAnswer}
 use Rattle.payload.specs.declared.reading.PayloadRead.{PayloadRead}
 use Rattle.red.specs.Blocks.{cut, blocksRows}

@@ -12,14 +12,14 @@ use Rattle.rtp.specs.declared.settings.Settings.{Settings}
 use Rattle.rtp.proofs.TestLaws.{by-test}
 use Rattle.rtp.proofs.RangeLaws.{few-channels}
 use Rattle.formats.specs.Frames.{noData}
-use Rattle.payload.specs.Rows.{Row}
+use Rattle.frame_rows.specs.Rows.{Row}
 use Rattle.payload.proofs.RowFactLaws.{RowFine, AllRows}
 use Rattle.packet.specs.Readings.{Outcome, refused, readAs, reading}
 use Rattle.packet.proofs.RowFactLaws.{rows-fine}
 use Rattle.playout.specs.Copies.{Received}
 use Rattle.playout.specs.Lists.{copiesOf}
 use Rattle.playout.proofs.HeldLaws.{IsFrame, Frames, Marks}
-use Rattle.layout.specs.Model.{allowed}
+use Rattle.codes.specs.Allowed.{allowed}
 use Rattle.judge.specs.Rows.{copyOf, receivedIn}
 use Rattle.judge.specs.Judging.{RowAllowed, RowsAllowed}
 use Rattle.judge.proofs.StateLaws.{Fit, Fits, fit-frame}

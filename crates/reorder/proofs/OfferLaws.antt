@@ -11,12 +11,12 @@ use Rattle.rtp.specs.Ranges.{inRange}
 use Rattle.rtp.specs.Refusals.{number}
 use Rattle.rtp.specs.Areas.{over}
 use Rattle.rtp.specs.declared.refusal.Fault.{Fault}
-use Rattle.rtp.specs.declared.header.Header.{Header}
+use Rattle.rtp_headers.specs.declared.header.Header.{Header}
 use Rattle.rtp.proofs.RefusalLaws.{number-positive}
 use Rattle.rtp.proofs.RangeLaws.{few-channels}
-use Rattle.formats.proofs.CodeLaws.{code-small}
-use Rattle.payload.specs.Rows.{Row, words, rowsIn}
-use Rattle.payload.proofs.RowLaws.{length-words, TagsFit, rows-words}
+use Rattle.codes.proofs.CodeLaws.{code-small}
+use Rattle.frame_rows.specs.Rows.{Row, words, rowsIn}
+use Rattle.frame_rows.proofs.RowLaws.{length-words, TagsFit, rows-words}
 use Rattle.payload.proofs.RowFactLaws.{RowFine, AllRows}
 use Rattle.packet.specs.declared.reading.Packet.{Packet}
 use Rattle.packet.specs.declared.reading.Reading.{Reading}

@@ -8,7 +8,7 @@ use Rattle.rtp.specs.Sizes.{rowArea}
 use Rattle.rtp.specs.Faults.{fault}
 use Rattle.rtp.specs.declared.refusal.Fault.{Fault}
 use Rattle.rtp.specs.declared.refusal.Refusal.the-variants.{AreaTooShort}
-use Rattle.payload.specs.Rows.{Row}
+use Rattle.frame_rows.specs.Rows.{Row}
 use Rattle.packet.specs.Readings.{Outcome, refused as unread, readAs, reading}
 use Rattle.playout.specs.Sizes.{storeSize}
 use Rattle.playout.specs.Copies.{Received}

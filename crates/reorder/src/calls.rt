@@ -18,7 +18,7 @@ ghost use mathlib.Core.Path.{_≡_};
 ghost use mathlib.Core.Bool.{true};
 ghost use Rattle.rtp.specs.Ranges.{inRange};
 ghost use Rattle.rtp.specs.Faults.{faultAt};
-ghost use Rattle.payload.specs.Rows.{rowsIn};
+ghost use Rattle.frame_rows.specs.Rows.{rowsIn};
 ghost use Rattle.layout.specs.Layout.{assembled};
 ghost use Rattle.insertion.specs.Tallies.{noTally};
 ghost use Rattle.judge.specs.Judging.{RowsJudgeable};

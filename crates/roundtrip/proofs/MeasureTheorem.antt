@@ -15,7 +15,7 @@ use Rattle.rtp.specs.declared.refusal.Fault.{Fault}
 use Rattle.rtp.specs.declared.refusal.Refusal.the-variants.{SettingsOutOfRange, Unwritable, AreaTooShort}
 use Rattle.rtp.proofs.TestLaws.{by-test}
 use Rattle.contents.specs.Contents.{Contents, refused, groups}
-use Rattle.payload.specs.Rows.{Row}
+use Rattle.frame_rows.specs.Rows.{Row}
 use Rattle.plans.specs.Lists.{rowsIn, whole, outside}
 use Rattle.plans.specs.Plans.{plan}
 use Rattle.encoder.specs.Writings.{Encoded, noBytes, bytesOf, maxRequest, askable, plannedBytes, encoded, roomFor, writing, Numbers, encodedNumbers, refusedNumbers, measured}

@@ -13,7 +13,7 @@ use Rattle.rtp.specs.Sizes.{maxRows}
 use Rattle.rtp.specs.declared.settings.Settings.{Settings}
 use Rattle.formats.specs.Formats.{formatOf, stepOf}
 use Rattle.contents.specs.Contents.{Group, Contents, refused, groups, contents, rowCount, sizeIn, framesIn}
-use Rattle.payload.specs.Rows.{Row, tableRows, marked}
+use Rattle.frame_rows.specs.Rows.{Row, tableRows, marked}
 use Rattle.payload.specs.Payloads.{body, payload, requestOf, Rows, rowsOf, placedRows, payloadRows}
 use Rattle.payload.proofs.PayloadLaws.{length-table}
 use Rattle.plans.specs.Lists.{outside, firstTime}

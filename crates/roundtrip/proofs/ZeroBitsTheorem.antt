@@ -9,10 +9,10 @@ use lib.Seq.{drop-drop, drop-at}
 use Rattle.rtp.specs.Numbers.{byteAt}
 use Rattle.rtp.specs.declared.settings.Settings.{Settings}
 use Rattle.formats.specs.Formats.{formatOf, maxGap}
-use Rattle.formats.specs.Codes.{codeFor}
+use Rattle.codes.specs.Codes.{codeFor}
 use Rattle.formats.proofs.FormatLaws.{each}
 use Rattle.contents.specs.Contents.{minEntry, entrySize, Group, Contents, refused, groups, halfAt, contents, sizeIn}
-use Rattle.payload.specs.Rows.{Row}
+use Rattle.frame_rows.specs.Rows.{Row}
 use Rattle.payload.specs.Payloads.{body}
 use Rattle.plans.specs.Lists.{rowsIn}
 use Rattle.plans.specs.Plans.{headGap, plan}

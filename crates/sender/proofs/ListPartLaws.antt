@@ -13,7 +13,7 @@ use Rattle.rtp.specs.declared.settings.Settings.{Settings}
 use Rattle.rtp.specs.declared.refusal.Refusal.{Refusal}
 use Rattle.rtp.specs.declared.refusal.Refusal.the-variants.{Unwritable}
 use Rattle.rtp.proofs.TestLaws.{by-test}
-use Rattle.payload.specs.Rows.{rowsIn}
+use Rattle.frame_rows.specs.Rows.{rowsIn}
 use Rattle.plans.specs.Lists.{outside}
 use Rattle.encoder.specs.Writings.{Encoded, noBytes, bytesOf, encoded, Numbers, encodedNumbers, encodedBytes, refusedNumbers, measured}
 use Rattle.encoder.proofs.WritingLaws.{in-range-some, numbers-encoded, measured-plan}

@@ -7,7 +7,7 @@ use lib.ListN.{length, getD, take, drop, length-append}
 use borrow.Author.Tests.{le-ltb, eq-eqb}
 use Rattle.rtp.specs.Sizes.{rowWidth}
 use Rattle.rtp.specs.declared.settings.Settings.{Settings}
-use Rattle.payload.specs.Rows.{rowsIn}
+use Rattle.frame_rows.specs.Rows.{rowsIn}
 use Rattle.encoder.specs.declared.writing.Written.{Written}
 use Rattle.encoder.specs.Writings.{Encoded, noBytes, bytesOf, encoded, roomFor, writing, Numbers, writtenNumbers, encodedNumbers, encodedBytes}
 use Rattle.sender.specs.Room.{listBytes, listsPayloads, ListRoom, PayloadsRoom}

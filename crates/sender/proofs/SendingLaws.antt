@@ -12,7 +12,7 @@ use Rattle.rtp.specs.Ranges.{noRedundancy}
 use Rattle.rtp.specs.declared.settings.Settings.{Settings}
 use Rattle.rtp.specs.declared.refusal.Refusal.the-variants.{SettingsOutOfRange, AreaTooShort, Unwritable, RowOutsideBytes}
 use Rattle.rtp.proofs.TestLaws.{by-test, not-both}
-use Rattle.payload.specs.Rows.{rowsIn}
+use Rattle.frame_rows.specs.Rows.{rowsIn}
 use Rattle.plans.specs.Lists.{outside}
 use Rattle.encoder.specs.Writings.{Encoded, noBytes, bytesOf, askable, roomFor, Numbers, encodedNumbers, encodedBytes}
 use Rattle.encoder.proofs.RequestLaws.{asked}

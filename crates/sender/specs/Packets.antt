@@ -8,7 +8,7 @@ use Rattle.rtp.specs.Sizes.{maxPacket}
 use Rattle.rtp.specs.Ranges.{noRedundancy}
 use Rattle.rtp.specs.declared.settings.Settings.{Settings}
 use Rattle.rtp.specs.declared.refusal.Refusal.the-variants.{SettingsOutOfRange, RowOutsideBytes, Unwritable}
-use Rattle.payload.specs.Rows.{Row}
+use Rattle.frame_rows.specs.Rows.{Row}
 use Rattle.plans.specs.Lists.{rowsIn, outside}
 use Rattle.encoder.specs.Writings.{Encoded, noBytes, bytesOf, askable, roomFor}
 use Rattle.packet_parts.specs.Parts.{primaryTime, Part, Parts, noParts, partsOf, parts, countsFit}

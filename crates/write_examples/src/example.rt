@@ -1,7 +1,6 @@
 // Lists of frames written and printed.
 use encoder::writing;
 use encoder::writing::Written;
-use formats::tagging;
 use packet::reading;
 use packet::reading::Reading;
 use payload::reading::NO_REQUEST;
@@ -12,6 +11,7 @@ use rtp::sizes::MAX_PACKET;
 use rtp::sizes::MAX_ROWS;
 use rtp::sizes::ROW_AREA;
 use sender::packets;
+use tags::tagging;
 
 pub(crate) fn agreed(format: u8, channels: u8) -> Settings {
     Settings {

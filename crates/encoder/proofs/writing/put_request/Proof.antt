@@ -4,11 +4,10 @@ use native.Mathlib.Omega.{arith}
 use lib.ListN.{length}
 use denote.Ref.{now}
 use Rattle.rtp.specs.Areas.{over}
-use Rattle.rtp.proofs.AreaLaws.{over-none}
+use Rattle.rtp.proofs.AreaLaws.{over-none, over-one}
 use Rattle.formats.specs.Formats.{formatOf}
 use Rattle.formats.specs.declared.facts.Format.{Format}
 use mathlib.Core.List.{List}
-use Rattle.encoder.proofs.StoreLaws.{over-one}
 use Rattle.encoder.proofs.RequestLaws.{no-request, one-request}
 use borrow.Author.Needs.{needs}
 use Rattle.encoder.proofs.writing.put_request.Statement.{statement}

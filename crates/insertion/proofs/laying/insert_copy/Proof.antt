@@ -7,10 +7,10 @@ use lib.Seq.{paste}
 use denote.Ref.{now}
 use Rattle.rtp.proofs.TestLaws.{not-both}
 use Rattle.playout.specs.Sizes.{slots, slotSize}
-use Rattle.layout.specs.Bits.{lowestFree, claimed}
+use Rattle.slot_marks.specs.Bits.{lowestFree, claimed}
 use Rattle.layout.specs.Columns.{insertAt}
 use Rattle.layout.proofs.CheckLaws.{passed, failed}
-use Rattle.layout.proofs.FreeLaws.{free-unmarked, claimed-free}
+use Rattle.slot_marks.proofs.FreeLaws.{free-unmarked, claimed-free}
 use Rattle.placing.proofs.BoundLaws.{insertion-is, laid-is}
 use Rattle.insertion.specs.Laying.{canInsert}
 use Rattle.insertion.proofs.LayingLaws.{Insertable, insertable}

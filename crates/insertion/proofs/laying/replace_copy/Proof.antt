@@ -6,7 +6,7 @@ use native.Mathlib.Omega.{arith}
 use lib.ListN.{length, getD, take, drop, set}
 use denote.Ref.{now}
 use Rattle.rtp.proofs.TestLaws.{not-both}
-use Rattle.formats.specs.Tags.{tagClass}
+use Rattle.tags.specs.Tags.{tagClass}
 use Rattle.playout.specs.Sizes.{slotSize}
 use Rattle.playout.specs.Copies.{betterFrame}
 use Rattle.layout.proofs.CheckLaws.{passed, failed}

@@ -6,8 +6,8 @@ use lib.ListN.{length}
 use denote.Ref.{now}
 use Rattle.rtp.specs.Sizes.{rowWidth}
 use Rattle.rtp.proofs.AreaLaws.{part-length}
-use Rattle.payload.specs.Rows.{rowsIn}
-use Rattle.payload.proofs.RowLaws.{rows-none}
+use Rattle.frame_rows.specs.Rows.{rowsIn}
+use Rattle.frame_rows.proofs.RowLaws.{rows-none}
 use Rattle.layout.specs.declared.buffer.Buffer.{Buffer}
 use Rattle.layout.specs.Layout.{assembled}
 use Rattle.judge.proofs.RowStepLaws.{rows-over, rows-joined}

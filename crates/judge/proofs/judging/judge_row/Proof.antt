@@ -5,8 +5,8 @@ use native.Mathlib.Omega.{arith}
 use lib.ListN.{getD, take, drop}
 use denote.Ref.{now}
 use Rattle.formats.specs.Frames.{noData}
-use Rattle.formats.specs.Tags.{tagClass}
-use Rattle.payload.specs.Rows.{Row, rowsIn}
+use Rattle.tags.specs.Tags.{tagClass}
+use Rattle.frame_rows.specs.Rows.{Row, rowsIn}
 use Rattle.layout.specs.declared.buffer.Buffer.{Buffer}
 use Rattle.insertion.specs.declared.laying.FrameHead.{FrameHead}
 use Rattle.layout.specs.Layout.{assembled}

@@ -11,7 +11,7 @@ use Rattle.placing.specs.Places.{Parted, placeFrom}
 use Rattle.layout.specs.Layout.{assembled}
 use Rattle.insertion.specs.Laying.{classIn, channelIn, copyIn}
 use Rattle.judge.specs.Judging.{Judgeable, Timely}
-use Rattle.layout.proofs.AllowedLaws.{allowed-frame}
+use Rattle.codes.proofs.AllowedLaws.{allowed-frame}
 use Rattle.placing.proofs.BoundLaws.{used-is}
 use Rattle.judge.proofs.VerdictLaws.{held-at, step-found, free-at, step-full, step-new}
 use Rattle.judge.proofs.PlaceSearchLaws.{parts}

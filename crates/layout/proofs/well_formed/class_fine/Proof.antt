@@ -1,6 +1,6 @@
 use mathlib.Core.Path.{_≡_, ap, _∙_}
 use Prim.Native.Nat.{ℕ}
-use Rattle.formats.specs.Tags.{tagClass}
+use Rattle.tags.specs.Tags.{tagClass}
 use Rattle.codes.specs.Allowed.{allowed, allowedIn}
 use Rattle.codes.proofs.AllowedLaws.{allowed-in}
 use borrow.Author.Tests.{not-true, not-false}

@@ -3,11 +3,11 @@ use lib.ListN.{length, take, drop, length-take}
 use mathlib.Core.Path.{_≡_, ap, sym, _∙_}
 use mathlib.Core.List.{List}
 use native.Mathlib.Omega.{arith}
-use Rattle.rtp.specs.Redundancy.{blockHeader}
-use Rattle.rtp.specs.declared.redundancy.BlockHeader.{BlockHeader}
+use Rattle.rtp_headers.specs.Redundancy.{blockHeader}
+use Rattle.rtp_headers.specs.declared.redundancy.BlockHeader.{BlockHeader}
 use Rattle.rtp.proofs.AreaLaws.{part-to-end}
-use Rattle.rtp.proofs.RedundancyLaws.{fair, shorter}
-use Rattle.rtp.proofs.NumberLaws.{same-block}
+use Rattle.rtp_headers.proofs.RedundancyLaws.{fair, shorter}
+use Rattle.rtp_headers.proofs.NumberLaws.{same-block}
 use Rattle.mode_requests.specs.Requests.{blockRequest}
 use Rattle.mode_requests.specs.Walks.{requestFrom}
 use Rattle.mode_requests.proofs.RequestLaws.{from-refused, from-primary, from-redundant}
@@ -20,7 +20,7 @@ use Rattle.mode_requests.proofs.requests.blocks_request.Kinds as blocks
 use Rattle.mode_requests.proofs.requests.+blocks_request.Lts-blocks_request as blocks-request-lts
 use Rattle.mode_requests.proofs.requests.block_request.Reads as block-request-reads
 use Rattle.mode_requests.proofs.requests.end_of.Reads as end-of-reads
-use Rattle.rtp.proofs.redundancy.read_block_header.Reads as read-block-header-reads
+use Rattle.rtp_headers.proofs.redundancy.read_block_header.Reads as read-block-header-reads
 use Rattle.mode_requests.proofs.requests.+blocks_request.{statement}
 use Rattle.mode_requests.proofs.requests.+blocks_request.Tie.{close}
 

@@ -2,11 +2,11 @@ use denote.Ref.{now}
 use lib.ListN.{length, drop}
 use mathlib.Core.Path.{_≡_, sym, _∙_}
 use native.Mathlib.Omega.{arith}
-use Rattle.rtp.specs.Redundancy.{redundancyHeaders, headersAnswer}
-use Rattle.rtp.specs.declared.redundancy.HeadersRead.{HeadersRead}
+use Rattle.rtp_headers.specs.Redundancy.{redundancyHeaders, headersAnswer}
+use Rattle.rtp_headers.specs.declared.redundancy.HeadersRead.{HeadersRead}
 use Rattle.rtp.proofs.AreaLaws.{part-to-end}
-use Rattle.rtp.proofs.NumberLaws.{headers-is}
-use Rattle.rtp.proofs.RedundancyLaws.{Small}
+use Rattle.rtp_headers.proofs.NumberLaws.{headers-is}
+use Rattle.rtp_headers.proofs.RedundancyLaws.{Small}
 use Rattle.mode_requests.proofs.RequestLaws.{redundant-none, redundant-small, redundant-from}
 use borrow.Author.Needs.{needs}
 use Rattle.mode_requests.proofs.requests.redundant_request.Statement.{statement}

@@ -1,7 +1,7 @@
 use denote.Ref.{now}
 use lib.ListN.{length}
 use native.Mathlib.Omega.{arith}
-use Rattle.rtp.proofs.HeaderLaws.{within}
+use Rattle.rtp_headers.proofs.HeaderLaws.{within}
 use Rattle.red.proofs.AnswerLaws.{gives-read, gives-none, gives-same}
 use Rattle.packet.proofs.ReadingLaws.{payload-fits, typed-plain, typed-redundant, typed-other}
 use borrow.Author.Needs.{needs}

@@ -3,7 +3,7 @@ use native.Mathlib.Omega.{arith}
 use lib.ListN.{drop, length-drop, length}
 use denote.Ref.{now}
 use Rattle.rtp.proofs.AreaLaws.{part-to-end}
-use Rattle.payload.specs.Rows.{rowsIn}
+use Rattle.frame_rows.specs.Rows.{rowsIn}
 use Rattle.packet_parts.specs.Parts.{primaryTime}
 use Rattle.packet_parts.proofs.ListsLaws.{primary-none, primary-one, primary-more}
 use borrow.Author.Needs.{needs}

@@ -1,8 +1,8 @@
 use denote.Ref.{now}
 use mathlib.Core.Path.{ap, sym}
 use mathlib.Core.List.{List}
-use Rattle.payload.specs.Rows.{Row}
-use Rattle.payload.proofs.RowLaws.{rows-none, rows-more}
+use Rattle.frame_rows.specs.Rows.{Row}
+use Rattle.frame_rows.proofs.RowLaws.{rows-none, rows-more}
 use Rattle.plans.specs.Lists.{firstTime}
 use borrow.Author.Needs.{needs}
 use Rattle.packet_parts.proofs.sizes.first_time.Statement.{statement}

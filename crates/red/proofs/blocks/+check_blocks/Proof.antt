@@ -1,20 +1,20 @@
-use Rattle.formats.specs.Tags.{redundantMark}
+use Rattle.tags.specs.Tags.{redundantMark}
 use denote.Ref.{now}
 use lib.ListN.{length, take, drop, length-take, length-drop}
 use mathlib.Core.Path.{_≡_, ap, subst, sym, _∙_}
 use native.Mathlib.Omega.{arith}
 use Rattle.rtp.specs.Sizes.{rowArea, maxRows}
-use Rattle.rtp.specs.Redundancy.{blockHeader}
-use Rattle.rtp.specs.declared.redundancy.BlockHeader.{BlockHeader}
+use Rattle.rtp_headers.specs.Redundancy.{blockHeader}
+use Rattle.rtp_headers.specs.declared.redundancy.BlockHeader.{BlockHeader}
 use Rattle.rtp.proofs.AreaLaws.{part-to-end}
-use Rattle.rtp.proofs.RedundancyLaws.{fair, shorter}
+use Rattle.rtp_headers.proofs.RedundancyLaws.{fair, shorter}
 use Rattle.payload.specs.Payloads.{rowsAnswer}
 use Rattle.payload.specs.declared.reading.PayloadRead.{PayloadRead}
 use Rattle.payload.proofs.PayloadLaws.{answer-none}
 use Rattle.red.specs.Room.{askedBlock, blocksFrom}
 use Rattle.red.proofs.AnswerLaws.{addAnswer, thenAnswer, Few, further, Inside}
 use Rattle.red.proofs.BlockLaws.{from-few, from-refused, block-in, first-few, checked-primary, asked-rest, checked, from-inside}
-use Rattle.rtp.proofs.NumberLaws.{same-block}
+use Rattle.rtp_headers.proofs.NumberLaws.{same-block}
 use borrow.Author.Needs.{needs}
 use Prim.Native.Nat.{ℕ, _+_, _-_, _<_, _≤_}
 use borrow.Fn.Kinds.{In, Out}
@@ -23,7 +23,7 @@ use Rattle.red.proofs.blocks.check_blocks.Reads as check-blocks
 use Rattle.red.proofs.blocks.check_blocks.Kinds as check-blocks-kinds
 use Rattle.red.proofs.blocks.+check_blocks.Lts-check_blocks as check-blocks-lts
 use Rattle.red.proofs.blocks.check_block.Reads as check-block-reads
-use Rattle.rtp.proofs.redundancy.read_block_header.Reads as read-block-header-reads
+use Rattle.rtp_headers.proofs.redundancy.read_block_header.Reads as read-block-header-reads
 use Rattle.red.proofs.blocks.+check_blocks.{statement}
 use Rattle.red.proofs.blocks.+check_blocks.Tie.{close}
 

@@ -1,4 +1,4 @@
-use Rattle.formats.specs.Tags.{redundantMark}
+use Rattle.tags.specs.Tags.{redundantMark}
 use denote.Ref.{now}
 use lib.ListN.{length, take, drop, length-take}
 use mathlib.Core.List.{List}
@@ -6,16 +6,16 @@ use mathlib.Core.Path.{_≡_, ap, sym, _∙_}
 use native.Mathlib.Omega.{arith}
 use Rattle.rtp.specs.Areas.{over}
 use Rattle.rtp.specs.Sizes.{rowWidth, maxPacket, maxRows}
-use Rattle.rtp.specs.Redundancy.{blockHeader}
-use Rattle.rtp.specs.declared.redundancy.BlockHeader.{BlockHeader}
+use Rattle.rtp_headers.specs.Redundancy.{blockHeader}
+use Rattle.rtp_headers.specs.declared.redundancy.BlockHeader.{BlockHeader}
 use Rattle.rtp.proofs.AreaLaws.{part-length, part-to-end}
-use Rattle.rtp.proofs.RedundancyLaws.{fair, shorter}
+use Rattle.rtp_headers.proofs.RedundancyLaws.{fair, shorter}
 use Rattle.payload.specs.Payloads.{Rows, rowsAnswer, rowsWords}
 use Rattle.payload.specs.declared.reading.PayloadRead.{PayloadRead}
 use Rattle.payload.proofs.PayloadLaws.{words-none}
 use Rattle.red.specs.Room.{askedBlock}
 use Rattle.red.proofs.BlockLaws.{from-refused, block-in, first-few, first-taken, asked-primary, room-rest, put-rest}
-use Rattle.rtp.proofs.NumberLaws.{same-block}
+use Rattle.rtp_headers.proofs.NumberLaws.{same-block}
 use borrow.Author.Needs.{needs}
 use Prim.Native.Nat.{ℕ, _+_, _-_, _*_, _<_, _≤_}
 use borrow.Fn.Kinds.{In, Out}
@@ -24,7 +24,7 @@ use Rattle.red.proofs.blocks.put_blocks.Reads as put-blocks
 use Rattle.red.proofs.blocks.put_blocks.Kinds as put-blocks-kinds
 use Rattle.red.proofs.blocks.+put_blocks.Lts-put_blocks as put-blocks-lts
 use Rattle.red.proofs.blocks.put_block.Reads as put-block-reads
-use Rattle.rtp.proofs.redundancy.read_block_header.Reads as read-block-header-reads
+use Rattle.rtp_headers.proofs.redundancy.read_block_header.Reads as read-block-header-reads
 use Rattle.red.proofs.blocks.+put_blocks.{statement}
 use Rattle.red.proofs.blocks.+put_blocks.Tie.{close}
 

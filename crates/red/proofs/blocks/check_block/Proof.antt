@@ -1,4 +1,4 @@
-use Rattle.formats.specs.Tags.{redundantMark}
+use Rattle.tags.specs.Tags.{redundantMark}
 use denote.Ref.{now}
 use mathlib.Core.Path.{ap, sym, _∙_}
 use Rattle.rtp.specs.Sizes.{rowArea}

@@ -4,10 +4,10 @@ use mathlib.Core.Path.{_≡_, ap, sym, subst, _∙_}
 use Prim.Native.Nat.{_+_, _≤_}
 use native.Mathlib.Omega.{arith}
 use Rattle.rtp.specs.Areas.{over}
-use Rattle.rtp.specs.Redundancy.{redundancyHeaders, headersAnswer}
-use Rattle.rtp.specs.declared.redundancy.HeadersRead.{HeadersRead}
+use Rattle.rtp_headers.specs.Redundancy.{redundancyHeaders, headersAnswer}
+use Rattle.rtp_headers.specs.declared.redundancy.HeadersRead.{HeadersRead}
 use Rattle.rtp.proofs.AreaLaws.{part-to-end}
-use Rattle.rtp.proofs.RedundancyLaws.{Small}
+use Rattle.rtp_headers.proofs.RedundancyLaws.{Small}
 use Rattle.payload.specs.declared.reading.PayloadRead.{PayloadRead}
 use Rattle.payload.specs.Payloads.{Rows, rowsAnswer, rowsWords}
 use Rattle.red.specs.Blocks.{redundantRows}
@@ -15,7 +15,7 @@ use Rattle.red.specs.Room.{blocksFrom}
 use Rattle.red.proofs.AnswerLaws.{gives-none, only-refusal, further, Inside}
 use Rattle.red.proofs.BlockLaws.{from-inside}
 use Rattle.red.proofs.SplitLaws.{split-refused, split-place, split-short, split-small, split-blocks, split-answer, split-asked, split-room}
-use Rattle.rtp.proofs.NumberLaws.{headers-is}
+use Rattle.rtp_headers.proofs.NumberLaws.{headers-is}
 use borrow.Author.Needs.{needs}
 use Rattle.red.proofs.blocks.read_blocks.Statement.{statement}
 use Rattle.red.proofs.blocks.read_blocks.Tie as tie

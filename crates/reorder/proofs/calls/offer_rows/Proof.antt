@@ -2,7 +2,7 @@ use mathlib.Core.Path.{sym, subst}
 use mathlib.Core.List.{List}
 use Prim.Native.Nat.{ℕ}
 use denote.Ref.{now}
-use Rattle.payload.specs.Rows.{rowsIn}
+use Rattle.frame_rows.specs.Rows.{rowsIn}
 use Rattle.layout.specs.declared.buffer.Buffer.{Buffer}
 use Rattle.judge.specs.declared.judging.Judged.{Judged}
 use Rattle.layout.specs.Layout.{assembled}

@@ -7,7 +7,7 @@ use denote.Ref.{now}
 use Rattle.rtp.specs.Sizes.{minPacket}
 use Rattle.rtp.specs.Areas.{over}
 use Rattle.rtp.proofs.AreaLaws.{over-part, part-length}
-use Rattle.payload.specs.Rows.{rowsIn}
+use Rattle.frame_rows.specs.Rows.{rowsIn}
 use Rattle.packet_parts.specs.Parts.{parts}
 use Rattle.packet_parts.specs.Headings.{Heading, headerBytes}
 use Rattle.sender.specs.Packets.{assembledFrom}

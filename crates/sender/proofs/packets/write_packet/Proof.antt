@@ -3,7 +3,7 @@ use mathlib.Core.Bool.{true, false}
 use lib.ListN.{length}
 use denote.Ref.{now}
 use Rattle.rtp.specs.Areas.{over}
-use Rattle.payload.specs.Rows.{rowsIn}
+use Rattle.frame_rows.specs.Rows.{rowsIn}
 use Rattle.plans.specs.Lists.{outside}
 use Rattle.encoder.specs.Writings.{Encoded, askable, roomFor, writtenNumbers, encodedNumbers, encodedBytes}
 use Rattle.encoder.proofs.RequestLaws.{asked}
