@@ -19,9 +19,9 @@ use Rattle.playout.specs.Entries.{Held}
 use Rattle.playout.specs.Verdicts.{judgeAll}
 use Rattle.playout.proofs.JudgeLaws.{judgeAll-append}
 use Rattle.playout.proofs.HeldLaws.{Frames, Marks}
-use Rattle.judge.specs.Rows.{receivedIn}
+use Rattle.reorder.specs.Rows.{receivedIn}
 use Rattle.reorder.specs.ModelCalls.{readReceived}
-use Rattle.judge.proofs.StateLaws.{Fits}
+use Rattle.reorder.proofs.StateLaws.{Fits}
 use Rattle.reorder.proofs.CopyLaws.{read-fit, fits-append, fits-frames, fits-marks}
 use Rattle.delivery.specs.Runs.{lent, Offer}
 use Rattle.delivery.specs.Claims.{offerRefusal, accepted, receivedFrom, copiesIn}

@@ -33,7 +33,7 @@ use Rattle.layout.specs.Columns.{zeros}
 use Rattle.layout.specs.Layout.{padTo, entriesFrom}
 use Rattle.layout.specs.Model.{ascending, slotsApart, entriesFine, fine}
 use Rattle.layout.specs.WellFormed.{wellFormed}
-use Rattle.judge.specs.Rows.{receivedIn}
+use Rattle.reorder.specs.Rows.{receivedIn}
 use Rattle.reorder.specs.Calls.{newCall, OfferOutcome, offerCall}
 use Rattle.reorder.proofs.CallLaws.{offerRead, offer-reads}
 use Rattle.layout.proofs.WellFormedLaws.{fresh-formed}

@@ -24,10 +24,10 @@ use Rattle.playout.proofs.HeldLaws.{fresh, drawnFirst}
 use Rattle.layout.specs.declared.buffer.Buffer.{Buffer}
 use Rattle.layout.specs.Layout.{encode, model}
 use Rattle.layout.specs.WellFormed.{wellFormed}
-use Rattle.judge.specs.Rows.{receivedIn}
+use Rattle.reorder.specs.Rows.{receivedIn}
 use Rattle.reorder.specs.ModelCalls.{Result, refused, done, Offered, offerTo}
 use Rattle.reorder.specs.Calls.{OfferOutcome, offerRefused, offerDone, offerCall}
-use Rattle.judge.proofs.BufferLaws.{good-back}
+use Rattle.reorder.proofs.BufferLaws.{good-back}
 use Rattle.delivery.specs.Runs.{State, lent, Call, offer, draw, Yield, offered, Step, judgementsOf, judgedBy, step, run, judged, served, frames}
 use Rattle.delivery.specs.Claims.{countsOf, Counted, CountsVerdicts, framesHeld, Count}
 use Rattle.delivery.proofs.StepLaws.{spare, Fine, at, fresh-fine, begun-at, offer-cases, judged-fine, draw-cases, drawn-fine}

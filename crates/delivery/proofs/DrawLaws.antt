@@ -19,8 +19,8 @@ use Rattle.playout.specs.Entries.{Entry, Held, frameOf, view}
 use Rattle.playout.specs.Verdicts.{Gathered, judgeAll}
 use Rattle.playout.proofs.HeldLaws.{drawnFirst, frame-length}
 use Rattle.playout.proofs.MarkLaws.{markedView, markedViews}
-use Rattle.judge.specs.Rows.{receivedIn}
-use Rattle.judge.proofs.StateLaws.{good-facts}
+use Rattle.reorder.specs.Rows.{receivedIn}
+use Rattle.reorder.proofs.StateLaws.{good-facts}
 use Rattle.delivery.specs.Runs.{lent, Offer, offer, draw, Step, run, Served, served}
 use Rattle.delivery.specs.Claims.{accepted, receivedFrom, handed, nothing, inTurn}
 use Rattle.delivery.proofs.StepLaws.{spare, Fine, with-room, at, offer-cases, judged-fine, store-length, rows-length, draw-cases, drawn-fine}

@@ -20,9 +20,9 @@ use Rattle.layout.specs.WellFormed.{wellFormed}
 use Rattle.drawing.specs.Calls.{drawCall}
 use Rattle.slot_marks.proofs.WordLaws.{slotsOf, Distinct, count-here, count-else, distinct-tail, mark-count, own-distinct}
 use Rattle.drawing.proofs.CallLaws.{drawFirst, draw-goes}
-use Rattle.judge.proofs.StateLaws.{Good, draw-good}
+use Rattle.reorder.proofs.StateLaws.{Good, draw-good}
 use Rattle.layout.proofs.WellFormedLaws.{words-held}
-use Rattle.judge.proofs.BufferLaws.{buffer-good, good-back}
+use Rattle.reorder.proofs.BufferLaws.{buffer-good, good-back}
 use Rattle.delivery.specs.DrawClaims.{DrawsEarliest, Draws}
 
 -- no free slot is lower than the lowest

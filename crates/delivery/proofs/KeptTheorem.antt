@@ -30,14 +30,14 @@ use Rattle.layout.specs.declared.buffer.Buffer.{Buffer}
 use Rattle.layout.specs.Arrays.{Machine}
 use Rattle.layout.specs.Layout.{encode, entriesFrom, decode}
 use Rattle.layout.specs.WellFormed.{wellFormed}
-use Rattle.judge.specs.Rows.{receivedIn}
+use Rattle.reorder.specs.Rows.{receivedIn}
 use Rattle.reorder.specs.Calls.{OfferOutcome, offerRefused, offerCall}
 use Rattle.drawing.specs.Calls.{DrawOutcome, drawRefused, drawCall}
 use Rattle.reorder.proofs.CallLaws.{offerRead, offer-out, offer-malformed, offer-rows, offer-store, offer-reads}
 use Rattle.drawing.proofs.CallLaws.{drawFirst, draw-out, draw-malformed, draw-store, draw-area, draw-goes}
 use Rattle.layout.proofs.WellFormedLaws.{encode-decode}
-use Rattle.judge.proofs.StateLaws.{judgeAll-good}
-use Rattle.judge.proofs.BufferLaws.{buffer-good, good-back}
+use Rattle.reorder.proofs.StateLaws.{judgeAll-good}
+use Rattle.reorder.proofs.BufferLaws.{buffer-good, good-back}
 use Rattle.reorder.proofs.CopyLaws.{read-fit}
 use Rattle.delivery.specs.WellFormedClaims.{unmarked, LeftByOffer, Empty, LeftByDraw, ChangesNothing}
 

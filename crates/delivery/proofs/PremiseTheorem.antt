@@ -21,7 +21,7 @@ use Rattle.playout.specs.Verdicts.{noCounts, Judgement, tally, Gathered, judgeA
 use Rattle.playout.specs.Lists.{WithinStretch, AtMost}
 use Rattle.playout.proofs.HeldLaws.{fresh}
 use Rattle.playout.proofs.PremiseLaws.{premises-exact}
-use Rattle.judge.specs.Rows.{receivedIn}
+use Rattle.reorder.specs.Rows.{receivedIn}
 use Rattle.delivery.specs.Runs.{State, lent, Offer, offer, Step, run, judged}
 use Rattle.delivery.specs.Claims.{accepted, receivedFrom, copiesIn, PremisesExact}
 use Rattle.delivery.proofs.StepLaws.{spare, Fine, at, fresh-fine, begun-at, offer-cases, judged-fine, store-length, rows-length}

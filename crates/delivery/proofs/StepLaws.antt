@@ -28,15 +28,15 @@ use Rattle.playout.specs.Verdicts.{noCounts, tally, judgeAll}
 use Rattle.playout.proofs.HeldLaws.{fresh, drawnFirst, judgeAll-length}
 use Rattle.layout.specs.declared.buffer.Buffer.{Buffer}
 use Rattle.layout.specs.Layout.{encode, model}
-use Rattle.judge.specs.Rows.{receivedIn}
+use Rattle.reorder.specs.Rows.{receivedIn}
 use Rattle.reorder.specs.ModelCalls.{Result, refused, Offered, judgeRead, offerTo}
 use Rattle.reorder.specs.Calls.{NewOutcome, faultNumbers, countNumbers, OfferOutcome, offerDone, offerCall}
 use Rattle.drawing.specs.Calls.{DrawNumbers, noFrame, DrawOutcome, drawRefused, drawCall}
 use Rattle.layout.proofs.LayoutLaws.{fresh-encode}
 use Rattle.reorder.proofs.CallLaws.{new-in}
 use Rattle.drawing.proofs.CallLaws.{drawFirst, draw-store, draw-area, draw-goes}
-use Rattle.judge.proofs.StateLaws.{Good, good-facts, judgeAll-good, draw-good}
-use Rattle.judge.proofs.BufferLaws.{good-fine, good-back}
+use Rattle.reorder.proofs.StateLaws.{Good, good-facts, judgeAll-good, draw-good}
+use Rattle.reorder.proofs.BufferLaws.{good-fine, good-back}
 use Rattle.reorder.proofs.CopyLaws.{read-fit, fits-frames, fits-marks}
 use Rattle.delivery.specs.Runs.{State, lent, Offer, offer, draw, offered, drew, Step, judgementsOf, judgedBy, step, begun}
 use Rattle.delivery.specs.Claims.{readRefusal, offerRefusal, drawRefusal}

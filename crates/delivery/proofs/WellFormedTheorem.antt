@@ -16,7 +16,7 @@ use Rattle.drawing.specs.Calls.{DrawOutcome}
 use Rattle.reorder.proofs.CallLaws.{new-in, offer-out}
 use Rattle.drawing.proofs.CallLaws.{draw-out}
 use Rattle.layout.proofs.WellFormedLaws.{encode-decode, fresh-formed}
-use Rattle.judge.proofs.BufferLaws.{buffer-good, good-fine}
+use Rattle.reorder.proofs.BufferLaws.{buffer-good, good-fine}
 use Rattle.delivery.specs.Runs.{State, lent, Call, offer, draw, step, run, begun}
 use Rattle.delivery.specs.Claims.{KeepsWellFormed}
 use Rattle.delivery.proofs.StepLaws.{spare, fresh-fine, begun-at}

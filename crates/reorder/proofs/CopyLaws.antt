@@ -20,10 +20,10 @@ use Rattle.playout.specs.Copies.{Received}
 use Rattle.playout.specs.Lists.{copiesOf}
 use Rattle.playout.proofs.HeldLaws.{IsFrame, Frames, Marks}
 use Rattle.codes.specs.Allowed.{allowed}
-use Rattle.judge.specs.Rows.{copyOf, receivedIn}
-use Rattle.judge.specs.Judging.{RowAllowed, RowsAllowed}
-use Rattle.judge.proofs.StateLaws.{Fit, Fits, fit-frame}
-use Rattle.judge.proofs.RowStepLaws.{frame-size}
+use Rattle.reorder.specs.Rows.{copyOf, receivedIn}
+use Rattle.reorder.specs.Judging.{RowAllowed, RowsAllowed}
+use Rattle.reorder.proofs.StateLaws.{Fit, Fits, fit-frame}
+use Rattle.reorder.proofs.RowStepLaws.{frame-size}
 use Rattle.reorder.specs.ModelCalls.{readReceived}
 
 module _ (st : Settings) (few : st .channels ≤ 2) (packet : List ℕ) where

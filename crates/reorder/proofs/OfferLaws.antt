@@ -26,14 +26,14 @@ use Rattle.playout.specs.Sizes.{storeSize}
 use Rattle.playout.specs.Verdicts.{noCounts, tally, Gathered, judgeAll}
 use Rattle.layout.specs.declared.buffer.Buffer.{Buffer}
 use Rattle.reorder.specs.declared.calls.OfferAnswer.{OfferAnswer}
-use Rattle.judge.specs.declared.judging.Judged.{Judged}
+use Rattle.reorder.specs.declared.judging.Judged.{Judged}
 use Rattle.insertion.specs.declared.tally.Tally.{Tally}
 use Rattle.layout.specs.Layout.{encode, decode}
 use Rattle.layout.specs.WellFormed.{wellFormed}
-use Rattle.judge.specs.Rows.{receivedIn}
+use Rattle.reorder.specs.Rows.{receivedIn}
 use Rattle.layout.specs.Arrays.{Machine}
 use Rattle.insertion.specs.Tallies.{noTally}
-use Rattle.judge.specs.Judging.{RowsJudgeable, RowsJudged}
+use Rattle.reorder.specs.Judging.{RowsJudgeable, RowsJudged}
 use Rattle.reorder.specs.Offers.{OfferJudged}
 use Rattle.reorder.specs.Calls.{OfferNumbers, countNumbers, offerNumbers, offerRefused, offerCall}
 use Rattle.reorder.proofs.CallLaws.{offerRead, offer-reads}

@@ -15,7 +15,7 @@ use Rattle.playout.specs.Copies.{Received}
 use Rattle.playout.specs.Entries.{Held}
 use Rattle.playout.specs.Verdicts.{Gathered, judgeAll}
 use Rattle.layout.specs.Model.{Model}
-use Rattle.judge.specs.Rows.{receivedIn}
+use Rattle.reorder.specs.Rows.{receivedIn}
 
 -- a call refused, with the place of a packet's fault, or what it comes to
 pub data Result (A : Type 0) : Type 0 where

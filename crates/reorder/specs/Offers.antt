@@ -6,7 +6,7 @@ use Rattle.frame_rows.specs.Rows.{Row}
 use Rattle.playout.specs.Verdicts.{noCounts, tally, judgeAll}
 use Rattle.layout.specs.declared.buffer.Buffer.{Buffer}
 use Rattle.layout.specs.Layout.{encode, decode}
-use Rattle.judge.specs.Rows.{receivedIn}
+use Rattle.reorder.specs.Rows.{receivedIn}
 use Rattle.reorder.specs.declared.calls.OfferAnswer.{OfferAnswer}
 use Rattle.reorder.specs.Calls.{countNumbers, offerNumbers}
 

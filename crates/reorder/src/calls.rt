@@ -1,6 +1,6 @@
 // Two of the three calls on a reorder buffer: new and offer.
+use crate::judging;
 use insertion::tally::Tally;
-use judge::judging;
 use layout::buffer;
 use layout::buffer::Buffer;
 use layout::buffer::Fixed;
@@ -21,7 +21,7 @@ ghost use Rattle.rtp.specs.Faults.{faultAt};
 ghost use Rattle.frame_rows.specs.Rows.{rowsIn};
 ghost use Rattle.layout.specs.Layout.{assembled};
 ghost use Rattle.insertion.specs.Tallies.{noTally};
-ghost use Rattle.judge.specs.Judging.{RowsJudgeable};
+ghost use Rattle.reorder.specs.Judging.{RowsJudgeable};
 ghost use Rattle.reorder.specs.Calls.{newNumber, newCall, offerNumbers, offerCall};
 ghost use Rattle.reorder.specs.Offers.{OfferJudged};
 

@@ -4,9 +4,9 @@ use Prim.Native.Nat.{ℕ}
 use denote.Ref.{now}
 use Rattle.frame_rows.specs.Rows.{rowsIn}
 use Rattle.layout.specs.declared.buffer.Buffer.{Buffer}
-use Rattle.judge.specs.declared.judging.Judged.{Judged}
+use Rattle.reorder.specs.declared.judging.Judged.{Judged}
 use Rattle.layout.specs.Layout.{assembled}
-use Rattle.judge.specs.Judging.{RowsJudgeable}
+use Rattle.reorder.specs.Judging.{RowsJudgeable}
 use Rattle.reorder.proofs.OfferLaws.{rows-offer}
 use borrow.Author.Needs.{needs}
 use Rattle.reorder.proofs.calls.offer_rows.Statement.{statement}

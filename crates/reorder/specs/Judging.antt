@@ -25,7 +25,7 @@ use Rattle.insertion.specs.declared.laying.FrameHead.{FrameHead}
 use Rattle.insertion.specs.declared.tally.Tally.{Tally}
 use Rattle.insertion.specs.Laying.{classIn, channelIn}
 use Rattle.insertion.specs.Tallies.{countsOf, TallySmall}
-use Rattle.judge.specs.Rows.{receivedIn}
+use Rattle.reorder.specs.Rows.{receivedIn}
 
 -- `isLate` and `isFar`
 abbrev pub isLateOf : Fixed → FrameHead → Bool

@@ -10,12 +10,12 @@ use Rattle.frame_rows.specs.Rows.{Row, rowsIn}
 use Rattle.layout.specs.declared.buffer.Buffer.{Buffer}
 use Rattle.insertion.specs.declared.laying.FrameHead.{FrameHead}
 use Rattle.layout.specs.Layout.{assembled}
-use Rattle.judge.specs.Rows.{firstRow, restWords}
-use Rattle.judge.specs.Judging.{RowsJudgeable}
-use Rattle.judge.proofs.RowStepLaws.{rows-split, skip-asks, skip-gives, copy-asks, next-asks, next-gives}
+use Rattle.reorder.specs.Rows.{firstRow, restWords}
+use Rattle.reorder.specs.Judging.{RowsJudgeable}
+use Rattle.reorder.proofs.RowStepLaws.{rows-split, skip-asks, skip-gives, copy-asks, next-asks, next-gives}
 use borrow.Author.Needs.{needs}
-use Rattle.judge.proofs.judging.judge_row.Statement.{statement}
-use Rattle.judge.proofs.judging.judge_row.Tie as tie
+use Rattle.reorder.proofs.judging.judge_row.Statement.{statement}
+use Rattle.reorder.proofs.judging.judge_row.Tie as tie
 
 abbrev buffer-at : tie.Start → Buffer
 buffer-at s = let a = s .args in assembled (now (a .times)) (now (a .tags)) (now (a .lengths)) (now (a .slots)) (a .sum .occupied) (a .fixed)

@@ -10,16 +10,16 @@ use Rattle.frame_rows.specs.Rows.{rowsIn}
 use Rattle.frame_rows.proofs.RowLaws.{rows-none}
 use Rattle.layout.specs.declared.buffer.Buffer.{Buffer}
 use Rattle.layout.specs.Layout.{assembled}
-use Rattle.judge.proofs.RowStepLaws.{rows-over, rows-joined}
+use Rattle.reorder.proofs.RowStepLaws.{rows-over, rows-joined}
 use borrow.Author.Needs.{needs}
 use borrow.Fn.Kinds.{In, Out}
 use borrow.Fn.PlainCycle.{Measures, is, falls, and}
-use Rattle.judge.proofs.judging.judge_rows.Reads as judge-rows
-use Rattle.judge.proofs.judging.judge_rows.Kinds as judge-rows-kinds
-use Rattle.judge.proofs.judging.+judge_rows.Lts-judge_rows as judge-rows-lts
-use Rattle.judge.proofs.judging.judge_row.Reads as judge-row-reads
-use Rattle.judge.proofs.judging.+judge_rows.{statement}
-use Rattle.judge.proofs.judging.+judge_rows.Tie.{close}
+use Rattle.reorder.proofs.judging.judge_rows.Reads as judge-rows
+use Rattle.reorder.proofs.judging.judge_rows.Kinds as judge-rows-kinds
+use Rattle.reorder.proofs.judging.+judge_rows.Lts-judge_rows as judge-rows-lts
+use Rattle.reorder.proofs.judging.judge_row.Reads as judge-row-reads
+use Rattle.reorder.proofs.judging.+judge_rows.{statement}
+use Rattle.reorder.proofs.judging.+judge_rows.Tie.{close}
 
 abbrev μ-judge-rows : Measures 7 judge-rows-kinds.ps ℕ
 μ-judge-rows κs a = length (a .1 .1 .1 .1 .1 .1 .1 .0 .now)

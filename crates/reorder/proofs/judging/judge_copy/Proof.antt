@@ -6,11 +6,11 @@ use Rattle.playout.specs.Verdicts.{isLate, isFar}
 use Rattle.layout.specs.declared.buffer.Buffer.{Buffer}
 use Rattle.layout.specs.Layout.{decode, assembled}
 use Rattle.insertion.specs.Laying.{copyIn}
-use Rattle.judge.specs.Judging.{Judgeable}
-use Rattle.judge.proofs.VerdictLaws.{step-late, far-is, step-far}
+use Rattle.reorder.specs.Judging.{Judgeable}
+use Rattle.reorder.proofs.VerdictLaws.{step-late, far-is, step-far}
 use borrow.Author.Needs.{needs}
-use Rattle.judge.proofs.judging.judge_copy.Statement.{statement}
-use Rattle.judge.proofs.judging.judge_copy.Tie as tie
+use Rattle.reorder.proofs.judging.judge_copy.Statement.{statement}
+use Rattle.reorder.proofs.judging.judge_copy.Tie as tie
 
 abbrev buffer-at : tie.Start → Buffer
 buffer-at s = let a = s .args in assembled (now (a .times)) (now (a .tags)) (now (a .lengths)) (now (a .slots)) (a .occupied) (a .fixed)

@@ -19,7 +19,7 @@ use Rattle.layout.specs.WellFormed.{wellFormed}
 use Rattle.layout.specs.Arrays.{Column, Machine}
 use Rattle.layout.proofs.LayoutLaws.{column-length}
 use Rattle.layout.proofs.WellFormedLaws.{facts, times-word, back, well-formed}
-use Rattle.judge.proofs.StateLaws.{Good, good-facts}
+use Rattle.reorder.proofs.StateLaws.{Good, good-facts}
 
 -- a well-formed buffer's model
 

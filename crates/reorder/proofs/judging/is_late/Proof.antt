@@ -2,8 +2,8 @@ use mathlib.Core.Path.{ap}
 use mathlib.Core.Bool.{not}
 use borrow.Author.Tests.{eq-eqb, ne-eqb}
 use borrow.Author.Needs.{needs}
-use Rattle.judge.proofs.judging.is_late.Statement.{statement}
-use Rattle.judge.proofs.judging.is_late.Tie as tie
+use Rattle.reorder.proofs.judging.is_late.Statement.{statement}
+use Rattle.reorder.proofs.judging.is_late.Tie as tie
 
 tag-channel-requires : tie.Need-tag-channel-requires
 tag-channel-requires c κs = search needs

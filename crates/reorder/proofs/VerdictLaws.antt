@@ -29,12 +29,12 @@ use Rattle.layout.specs.WellFormed.{wellFormed}
 use Rattle.layout.specs.Arrays.{Machine}
 use Rattle.insertion.specs.Laying.{classIn, channelIn, markIn, copyIn, canReplace, beats, Replaced, canInsert, Laid}
 use Rattle.insertion.proofs.LayingLaws.{can-replace, can-insert}
-use Rattle.judge.specs.Judging.{JudgedAs}
+use Rattle.reorder.specs.Judging.{JudgedAs}
 use Rattle.layout.proofs.ColumnLaws.{inserted}
 use Rattle.slot_marks.proofs.WordLaws.{slotOf, slotsOf, free-is}
 use Rattle.slot_marks.proofs.FreeLaws.{free-when-room}
 use Rattle.layout.proofs.LayoutLaws.{tag-back, noEntry, at-member, column-insert, column-set, column-same, words-insert, words-set}
-use Rattle.judge.proofs.PlaceLaws.{heldBy, AtPlace, place-at, fits-is}
+use Rattle.reorder.proofs.PlaceLaws.{heldBy, AtPlace, place-at, fits-is}
 use Rattle.layout.proofs.WellFormedLaws.{facts, decode-length, words-held, encode-decode}
 use Rattle.codes.proofs.AllowedLaws.{allowed-frame}
 

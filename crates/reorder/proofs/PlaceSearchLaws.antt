@@ -19,12 +19,12 @@ use Rattle.slot_marks.specs.Bits.{heldIn}
 use Rattle.placing.specs.Places.{Parted}
 use Rattle.layout.specs.Layout.{entryAt, decode}
 use Rattle.insertion.specs.Laying.{channelIn, copyIn}
-use Rattle.judge.specs.Judging.{Judgeable}
+use Rattle.reorder.specs.Judging.{Judgeable}
 use Rattle.layout.proofs.LayoutLaws.{noEntry, at-member}
 use Rattle.layout.proofs.WellFormedLaws.{decode-length}
-use Rattle.judge.proofs.StateLaws.{good-facts, fit-frame}
-use Rattle.judge.proofs.BufferLaws.{buffer-good}
-use Rattle.judge.proofs.VerdictLaws.{entries-at}
+use Rattle.reorder.proofs.StateLaws.{good-facts, fit-frame}
+use Rattle.reorder.proofs.BufferLaws.{buffer-good}
+use Rattle.reorder.proofs.VerdictLaws.{entries-at}
 
 -- in an ascending list, what comes later is greater
 asc-at : (key : Entry → ℕ) (es : List Entry) → Asc key es → (i j : ℕ) → i < j → j < length es → key (getD es i noEntry) < key (getD es j noEntry)

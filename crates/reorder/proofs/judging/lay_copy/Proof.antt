@@ -10,14 +10,14 @@ use Rattle.placing.specs.declared.columns.Place.{Place}
 use Rattle.placing.specs.Places.{Parted, placeFrom}
 use Rattle.layout.specs.Layout.{assembled}
 use Rattle.insertion.specs.Laying.{classIn, channelIn, copyIn}
-use Rattle.judge.specs.Judging.{Judgeable, Timely}
+use Rattle.reorder.specs.Judging.{Judgeable, Timely}
 use Rattle.codes.proofs.AllowedLaws.{allowed-frame}
 use Rattle.placing.proofs.BoundLaws.{used-is}
-use Rattle.judge.proofs.VerdictLaws.{held-at, step-found, free-at, step-full, step-new}
-use Rattle.judge.proofs.PlaceSearchLaws.{parts}
+use Rattle.reorder.proofs.VerdictLaws.{held-at, step-found, free-at, step-full, step-new}
+use Rattle.reorder.proofs.PlaceSearchLaws.{parts}
 use borrow.Author.Needs.{needs}
-use Rattle.judge.proofs.judging.lay_copy.Statement.{statement}
-use Rattle.judge.proofs.judging.lay_copy.Tie as tie
+use Rattle.reorder.proofs.judging.lay_copy.Statement.{statement}
+use Rattle.reorder.proofs.judging.lay_copy.Tie as tie
 
 abbrev buffer-at : tie.Start → Buffer
 buffer-at s = let a = s .args in assembled (now (a .times)) (now (a .tags)) (now (a .lengths)) (now (a .slots)) (a .occupied) (a .fixed)

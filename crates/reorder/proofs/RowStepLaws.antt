@@ -27,14 +27,14 @@ use Rattle.insertion.specs.declared.laying.FrameHead.{FrameHead}
 use Rattle.layout.specs.Layout.{encode, decode}
 use Rattle.codes.specs.Allowed.{allowed}
 use Rattle.layout.specs.WellFormed.{wellFormed}
-use Rattle.judge.specs.Rows.{firstRow, restWords, receivedAs, receivedIn}
+use Rattle.reorder.specs.Rows.{firstRow, restWords, receivedAs, receivedIn}
 use Rattle.layout.specs.Arrays.{Machine}
 use Rattle.insertion.specs.Laying.{markIn, copyIn}
 use Rattle.insertion.specs.Tallies.{countsOf, tallied}
 use Rattle.insertion.proofs.TallyLaws.{tallied-is}
-use Rattle.judge.specs.Judging.{Judgeable, JudgedAs, RowsAllowed, RowsJudgeable, RowsJudged}
-use Rattle.judge.proofs.StateLaws.{Good, judge-good}
-use Rattle.judge.proofs.BufferLaws.{buffer-good, good-machine, good-fine, good-back}
+use Rattle.reorder.specs.Judging.{Judgeable, JudgedAs, RowsAllowed, RowsJudgeable, RowsJudged}
+use Rattle.reorder.proofs.StateLaws.{Good, judge-good}
+use Rattle.reorder.proofs.BufferLaws.{buffer-good, good-machine, good-fine, good-back}
 use Rattle.layout.proofs.WellFormedLaws.{encode-decode}
 
 -- a frame's bytes are as many as its row says

@@ -5,8 +5,8 @@ use denote.Ref.{now}
 use Rattle.layout.specs.Columns.{fitsFrom}
 use Rattle.placing.proofs.BoundLaws.{used-is}
 use borrow.Author.Needs.{needs}
-use Rattle.judge.proofs.judging.is_far.Statement.{statement}
-use Rattle.judge.proofs.judging.is_far.Tie as tie
+use Rattle.reorder.proofs.judging.is_far.Statement.{statement}
+use Rattle.reorder.proofs.judging.is_far.Tie as tie
 
 in-stretch-requires : tie.Need-in-stretch-requires
 in-stretch-requires c κs = search needs

@@ -22,8 +22,8 @@ ghost use Rattle.slot_marks.specs.Bits.{heldIn};
 ghost use Rattle.layout.specs.Layout.{assembled};
 ghost use Rattle.insertion.specs.Laying.{markIn, copyIn};
 ghost use Rattle.insertion.specs.Tallies.{noTally};
-ghost use Rattle.judge.specs.Rows.{firstRow, restWords};
-ghost use Rattle.judge.specs.Judging.{isLateOf, isFarOf, Judgeable, Timely, JudgedAs, RowsJudgeable, RowsJudged, RowJudged};
+ghost use Rattle.reorder.specs.Rows.{firstRow, restWords};
+ghost use Rattle.reorder.specs.Judging.{isLateOf, isFarOf, Judgeable, Timely, JudgedAs, RowsJudgeable, RowsJudged, RowJudged};
 
 // The verdict on a frame, and the occupied slots after it.
 pub struct Step {
@@ -38,7 +38,7 @@ pub struct Judged {
 }
 
 // No row judged yet, with these slots occupied.
-pub fn none_judged(occupied: [u64; 3]) -> Judged
+pub(crate) fn none_judged(occupied: [u64; 3]) -> Judged
     ensures { λ r. ⌜ r ≡ record { tally = noTally; occupied = occupied } ⌝ }
 {
     Judged {
@@ -219,7 +219,7 @@ fn judge_row(
 }
 
 // The rows judged in order, each against the buffer as the row before left it, where that can be: a well-formed buffer with its store, and rows that lie in the packet.
-pub fn judge_rows(
+pub(crate) fn judge_rows(
     times: &mut [u32; SLOTS],
     tags: &mut [u32; SLOTS],
     lengths: &mut [u32; SLOTS],

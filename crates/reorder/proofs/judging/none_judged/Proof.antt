@@ -3,9 +3,9 @@ use mathlib.Core.List.{List}
 use Prim.Native.Nat.{ℕ}
 use borrow.Author.Needs.{needs}
 use Rattle.insertion.specs.declared.tally.Tally.{Tally}
-use Rattle.judge.specs.declared.judging.Judged.{Judged}
-use Rattle.judge.proofs.judging.none_judged.Statement.{statement}
-use Rattle.judge.proofs.judging.none_judged.Tie as tie
+use Rattle.reorder.specs.declared.judging.Judged.{Judged}
+use Rattle.reorder.proofs.judging.none_judged.Statement.{statement}
+use Rattle.reorder.proofs.judging.none_judged.Tie as tie
 
 judged : List ℕ → Tally → Judged
 judged occupied t = record { tally = t; occupied = occupied }
