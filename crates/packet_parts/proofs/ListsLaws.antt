@@ -12,8 +12,8 @@ use Rattle.rtp.specs.Ranges.{inRange}
 use Rattle.rtp.specs.Refusals.{number}
 use Rattle.rtp.specs.declared.settings.Settings.{Settings}
 use Rattle.rtp.specs.declared.refusal.Refusal.{Refusal}
-use Rattle.rtp.specs.declared.refusal.Refusal.the-variants.{PacketLength, Version, HeaderTruncated, PaddingCount, UnknownPayloadType, ContentsTruncated, ReservedCode, NoFrameBlocks, TooManyRows, LengthMismatch, SettingsOutOfRange, AreaTooShort, Unwritable, RowOutsideBytes, MalformedBuffer}
 use Rattle.rtp.proofs.TestLaws.{by-test}
+use Rattle.rtp.proofs.RefusalLaws.{number-some}
 use Rattle.contents.specs.Contents.{Contents, refused, groups}
 use Rattle.frame_rows.specs.Rows.{rowsIn}
 use Rattle.encoder.specs.declared.writing.Written.{Written}
@@ -26,23 +26,6 @@ use Rattle.packet_parts.specs.ListSizes.{firstWords, offsetOf, redundant
 use Rattle.packet_parts.proofs.WordLaws.{rows-drop, take-words, drop-words}
 
 -- The answer in numbers
-
-pub number-some : (q : Refusal) → eqb (number q) 0 ≡ false
-number-some PacketLength = refl
-number-some Version = refl
-number-some HeaderTruncated = refl
-number-some PaddingCount = refl
-number-some UnknownPayloadType = refl
-number-some ContentsTruncated = refl
-number-some ReservedCode = refl
-number-some NoFrameBlocks = refl
-number-some TooManyRows = refl
-number-some LengthMismatch = refl
-number-some SettingsOutOfRange = refl
-number-some AreaTooShort = refl
-number-some Unwritable = refl
-number-some RowOutsideBytes = refl
-number-some MalformedBuffer = refl
 
 pub told-none : (w : Written) (q : Refusal) (n : Numbers) → w ≡ Written.Refused q → writtenNumbers w ≡ n → eqb (n .refusal) 0 ≡ false
 told-none w q n e h = ap (λ (m : Numbers). eqb (m .refusal) 0) (sym h ∙ ap (λ (x : Written). writtenNumbers x) e) ∙ number-some q

@@ -25,7 +25,8 @@ use Rattle.sender.specs.Room.{listsHeaders, HeadersFit, listBytes, lists
 use Rattle.rtp.proofs.RangeLaws.{ranged}
 use Rattle.packet_parts.proofs.WordLaws.{rows-take, rows-drop, first-fits, counted-rest, inside-first, inside-rest, whole-first}
 use Rattle.sender.proofs.ListBytesLaws.{headers-one, headers-more, payloads-one, payloads-more}
-use Rattle.packet_parts.proofs.ListsLaws.{number-some, lists-one, lists-more, redundant-none, redundant-long, redundant-far, redundant-all, add-none, add-rest, add-both}
+use Rattle.rtp.proofs.RefusalLaws.{number-some}
+use Rattle.packet_parts.proofs.ListsLaws.{lists-one, lists-more, redundant-none, redundant-long, redundant-far, redundant-all, add-none, add-rest, add-both}
 
 pub none-numbers : (q : Refusal) → encodedNumbers (noBytes q) ≡ refusedNumbers q
 unfolding encodedNumbers

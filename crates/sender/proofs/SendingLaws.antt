@@ -22,7 +22,7 @@ use Rattle.sender.specs.Packets.{headersBytes, blocksBytes, bodyBytes, p
 use Rattle.packet_parts.specs.ListSizes.{Counted, listsNumbers, withinNumbers, packetNumbers}
 use Rattle.sender.specs.Room.{listsHeaders, listsPayloads, listHeadersSize, PayloadsRoom, BlocksRoom, BytesRoom, PacketRoom}
 use Rattle.sender.proofs.ListBytesLaws.{length-headers}
-use Rattle.packet_parts.proofs.ListsLaws.{number-some}
+use Rattle.rtp.proofs.RefusalLaws.{number-some}
 use Rattle.rtp.proofs.RangeLaws.{ranged}
 use Rattle.sender.proofs.ListPartLaws.{none-numbers, bytes-numbers, partsSize, Agrees, agrees}
 
