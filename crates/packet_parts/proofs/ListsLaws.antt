@@ -13,6 +13,7 @@ use Rattle.rtp.specs.Refusals.{number}
 use Rattle.rtp.specs.declared.settings.Settings.{Settings}
 use Rattle.rtp.specs.declared.refusal.Refusal.{Refusal}
 use Rattle.rtp.proofs.TestLaws.{by-test}
+use Rattle.rtp.specs.declared.refusal.Refusal.the-variants.{Unwritable}
 use Rattle.rtp.proofs.RefusalLaws.{number-some}
 use Rattle.contents.specs.Contents.{Contents, refused, groups}
 use Rattle.frame_rows.specs.Rows.{rowsIn}
