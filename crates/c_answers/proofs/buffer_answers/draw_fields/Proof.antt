@@ -1,7 +1,7 @@
-use Rattle.heolstorpit.proofs.AnswerLaws.{draw-frame, draw-empty, draw-refused}
+use Rattle.c_answers.proofs.AnswerLaws.{draw-frame, draw-empty, draw-refused}
 use borrow.Author.Needs.{needs}
-use Rattle.heolstorpit.proofs.buffers.draw_fields.Statement.{statement}
-use Rattle.heolstorpit.proofs.buffers.draw_fields.Tie as tie
+use Rattle.c_answers.proofs.buffer_answers.draw_fields.Statement.{statement}
+use Rattle.c_answers.proofs.buffer_answers.draw_fields.Tie as tie
 
 enum-known-answer : tie.Need-enum-known-answer
 enum-known-answer c = search needs
