@@ -9,7 +9,7 @@ use Rattle.packet.specs.declared.reading.Packet.{Packet}
 use Rattle.packet.specs.Readings.{Numbers, readingNumbers}
 use Rattle.encoder.specs.declared.writing.Written.{Written}
 use Rattle.encoder.specs.Writings.{Numbers as WrittenNumbers, writtenNumbers}
-use Rattle.reorder.specs.declared.tally.Tally.{Tally}
+use Rattle.insertion.specs.declared.tally.Tally.{Tally}
 use Rattle.reorder.specs.declared.calls.OfferAnswer.{OfferAnswer}
 use Rattle.reorder.specs.Calls.{OfferNumbers, offerNumbers}
 use Rattle.drawing.specs.declared.draws.DrawnFrame.{DrawnFrame}

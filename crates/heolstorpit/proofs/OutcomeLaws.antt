@@ -6,7 +6,7 @@ use lib.IntN.{ℤ}
 use Rattle.layout.specs.declared.buffer.Buffer.{Buffer}
 use Rattle.reorder.specs.Calls.{NewOutcome, OfferNumbers, OfferOutcome}
 use Rattle.drawing.specs.Calls.{DrawNumbers, DrawOutcome}
-use Rattle.reception.specs.declared.record.Reception.{Reception}
+use Rattle.validity.specs.declared.record.Reception.{Reception}
 use Rattle.reception.specs.Calls.{PacketNumbers, PacketOutcome, ReportNumbers, ReportOutcome}
 
 -- new

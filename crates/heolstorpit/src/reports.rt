@@ -1,7 +1,7 @@
 // hsp_reception_new, hsp_reception_packet and hsp_reception_report: the reception reports of RFC 3550.
 use c_answers::reception_answers;
 use reception::calls;
-use reception::record::Reception;
+use validity::record::Reception;
 ghost use mathlib.Core.Path.{_≡_};
 ghost use Rattle.reception.specs.Calls.{fresh, packetCall, reportCall};
 ghost use Rattle.heolstorpit.specs.ReceptionAnswers.{receivedAnswer, reportedAnswer};
