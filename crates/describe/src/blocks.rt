@@ -1,7 +1,7 @@
 // The blocks of a redundancy payload, from their headers. Each function that prints answers whether the output takes it.
 use crate::words;
-use console::lines;
-use console::lines::LINE;
+use console_text::lines;
+use console_text::lines::LINE;
 use rtp::time;
 use rtp_headers::redundancy;
 use rtp_headers::redundancy::BlockHeader;

@@ -1,6 +1,6 @@
 // Frames in words, from their rows. Each function that prints answers whether the output takes it.
 use crate::words;
-use console::lines;
+use console_text::lines;
 use rtp::sizes::MAX_ROWS;
 use rtp::sizes::ROW_AREA;
 use rtp::sizes::ROW_WIDTH;

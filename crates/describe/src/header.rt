@@ -1,8 +1,8 @@
 // The RTP header in words, with the blocks of a redundancy payload. Each function that prints answers whether the output takes it.
 use crate::blocks;
 use crate::words;
-use console::lines;
-use console::lines::LINE;
+use console_text::lines;
+use console_text::lines::LINE;
 use rtp::settings::Settings;
 use rtp_headers::header;
 use rtp_headers::header::Header;

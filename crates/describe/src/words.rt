@@ -1,7 +1,7 @@
 // Words for numbers, classes and frame types, put into a line, and a line printed.
 use codes::coding;
-use console::lines;
-use console::lines::LINE;
+use console_text::lines;
+use console_text::lines::LINE;
 use formats::facts;
 use libc::STDOUT_FILENO;
 
