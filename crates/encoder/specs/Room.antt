@@ -13,7 +13,7 @@ use Rattle.codes.specs.Codes.{noCode, codeFor}
 use Rattle.plans.specs.Plans.{headGap, gapBetween, joins, planFrom, plan}
 use Rattle.plans.specs.Room.{wordsAt, rowAs, lengthsIn}
 use Rattle.encoder.specs.Bytes.{tableBytes}
-use Rattle.encoder.specs.Writings.{maxRequest}
+use Rattle.payload_sizes.specs.Asking.{maxRequest}
 
 -- Frames
 

@@ -1,9 +1,9 @@
 use mathlib.Core.Path.{_∙_}
 use borrow.Author.Tests.{lt-ltb, le-ltb}
-use Rattle.encoder.specs.Writings.{maxRequest, askable}
+use Rattle.payload_sizes.specs.Asking.{maxRequest, askable}
 use borrow.Author.Needs.{needs}
-use Rattle.encoder.proofs.writing.in_range.Statement.{statement}
-use Rattle.encoder.proofs.writing.in_range.Tie as tie
+use Rattle.payload_sizes.proofs.asking.in_range.Statement.{statement}
+use Rattle.payload_sizes.proofs.asking.in_range.Tie as tie
 
 returns : tie.Need-returns
 unfolding askable

@@ -4,10 +4,10 @@ use denote.Ref.{now}
 use Rattle.rtp.specs.Ranges.{inRange}
 use Rattle.plans.specs.Lists.{rowsIn}
 use Rattle.plans.specs.Plans.{plan}
-use Rattle.encoder.proofs.WritingLaws.{Answered, answered, unanswered, measured-out, measured-cut, measured-none, measured-all}
+use Rattle.payload_sizes.proofs.MeasureLaws.{Answered, answered, unanswered, measured-out, measured-cut, measured-none, measured-all}
 use borrow.Author.Needs.{needs}
-use Rattle.encoder.proofs.writing.measure_payload.Statement.{statement}
-use Rattle.encoder.proofs.writing.measure_payload.Tie as tie
+use Rattle.payload_sizes.proofs.measuring.measure_payload.Statement.{statement}
+use Rattle.payload_sizes.proofs.measuring.measure_payload.Tie as tie
 
 range-at : (c : tie.Then1) → inRange (c .before .before .before .args .asked) ≡ true
 range-at c = sym (c .before .in-range .ensures) ∙ c .if1 .taken
