@@ -7,8 +7,8 @@ use Rattle.rtp.specs.declared.refusal.Fault.{Fault}
 use Rattle.packet.specs.declared.reading.Reading.{Reading}
 use Rattle.packet.specs.declared.reading.Packet.{Packet}
 use Rattle.packet.specs.Readings.{Numbers, readingNumbers}
-use Rattle.encoder.specs.declared.writing.Written.{Written}
-use Rattle.encoder.specs.Writings.{Numbers as WrittenNumbers, writtenNumbers}
+use Rattle.payload_sizes.specs.declared.measuring.Written.{Written}
+use Rattle.payload_sizes.specs.Measures.{Numbers as WrittenNumbers, writtenNumbers}
 use Rattle.insertion.specs.declared.tally.Tally.{Tally}
 use Rattle.reorder.specs.declared.calls.OfferAnswer.{OfferAnswer}
 use Rattle.reorder.specs.Calls.{OfferNumbers, offerNumbers}

@@ -1,6 +1,6 @@
 -- The fields that C is answered, in the numbers that the library's definitions give: field by field.
 use Rattle.packet.specs.Readings.{Numbers}
-use Rattle.encoder.specs.Writings.{Numbers as WrittenNumbers}
+use Rattle.payload_sizes.specs.Measures.{Numbers as WrittenNumbers}
 use Rattle.reorder.specs.Calls.{OfferNumbers}
 use Rattle.drawing.specs.Calls.{DrawNumbers}
 use Rattle.reception.specs.Calls.{PacketNumbers, ReportNumbers}

@@ -13,9 +13,11 @@ use Rattle.rtp.proofs.TestLaws.{by-test}
 use Rattle.contents.specs.Contents.{Contents, refused, groups}
 use Rattle.plans.specs.Lists.{rowsIn, whole, outside}
 use Rattle.plans.specs.Plans.{maxPayload, plan}
-use Rattle.encoder.specs.Writings.{Encoded, noBytes, bytesOf, askable, plannedBytes, encoded, roomFor, writing, Numbers, encodedNumbers}
+use Rattle.encoder.specs.Writings.{Encoded, noBytes, bytesOf, plannedBytes, encoded, roomFor, writing, encodedNumbers}
+use Rattle.payload_sizes.specs.Measures.{Numbers}
+use Rattle.payload_sizes.specs.Asking.{askable}
 use Rattle.encoder.proofs.PayloadLaws.{listed, length-bytes}
-use Rattle.encoder.proofs.RequestLaws.{asked}
+use Rattle.payload_sizes.proofs.RequestLaws.{asked}
 use Rattle.encoder.proofs.WritingLaws.{in-range-some}
 use Rattle.packet_parts.specs.Parts.{Parts, noParts, partsOf, primaryTime, parts, countsFit}
 use Rattle.sender.specs.Packets.{bodyBytes, packetType, redundancyMissing, withinPacket, assembledFrom, assembled, sending}

@@ -1,6 +1,6 @@
 -- What C is answered, in the numbers that the library's definitions give: field by field.
 use Rattle.packet.specs.Readings.{Numbers}
-use Rattle.encoder.specs.Writings.{Numbers as WrittenNumbers}
+use Rattle.payload_sizes.specs.Measures.{Numbers as WrittenNumbers}
 use Rattle.reorder.specs.Calls.{NewOutcome, OfferNumbers}
 use Rattle.drawing.specs.Calls.{DrawNumbers}
 use Rattle.heolstorpit.specs.declared.reading.HspReading.{HspReading}

@@ -17,10 +17,10 @@ use Rattle.rtp.specs.declared.refusal.Refusal.the-variants.{Unwritable}
 use Rattle.rtp.proofs.RefusalLaws.{number-some}
 use Rattle.contents.specs.Contents.{Contents, refused, groups}
 use Rattle.frame_rows.specs.Rows.{rowsIn}
-use Rattle.encoder.specs.declared.writing.Written.{Written}
+use Rattle.payload_sizes.specs.declared.measuring.Written.{Written}
 use Rattle.plans.specs.Lists.{whole, firstTime}
 use Rattle.plans.specs.Plans.{maxPayload, plan}
-use Rattle.encoder.specs.Writings.{Numbers, writtenNumbers, plannedNumbers, refusedNumbers, measured}
+use Rattle.payload_sizes.specs.Measures.{Numbers, writtenNumbers, plannedNumbers, refusedNumbers, measured}
 use Rattle.encoder.proofs.PayloadLaws.{listed}
 use Rattle.packet_parts.specs.Parts.{maxRedundant, maxOffset, maxBlock, primaryTime}
 use Rattle.packet_parts.specs.ListSizes.{firstWords, offsetOf, redundantNumbers, addNumbers, listsNumbers, packetNumbers, sizeNumbers}

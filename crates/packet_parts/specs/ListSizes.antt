@@ -11,7 +11,7 @@ use Rattle.rtp.specs.Time.{difference}
 use Rattle.rtp.specs.declared.settings.Settings.{Settings}
 use Rattle.rtp.specs.declared.refusal.Refusal.the-variants.{Unwritable}
 use Rattle.plans.specs.Lists.{rowsIn, firstTime}
-use Rattle.encoder.specs.Writings.{Numbers, refusedNumbers, measured}
+use Rattle.payload_sizes.specs.Measures.{Numbers, refusedNumbers, measured}
 use Rattle.packet_parts.specs.Parts.{maxRedundant, maxOffset, maxBlock, total}
 
 -- the words are the lists' rows

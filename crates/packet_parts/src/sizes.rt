@@ -1,6 +1,6 @@
 // The frame lists of a packet, which lie one after another in a word area: their words, times and sizes.
-use encoder::writing;
-use encoder::writing::Written;
+use payload_sizes::measuring;
+use payload_sizes::measuring::Written;
 use rtp::refusal::Refusal;
 use rtp::settings::NO_REDUNDANCY;
 use rtp::settings::Settings;
@@ -13,7 +13,7 @@ ghost use mathlib.Core.Path.{_≡_};
 ghost use Prim.Native.Nat.{_+_, _*_, _^_, _≤_};
 ghost use lib.ListN.{length};
 ghost use Rattle.plans.specs.Lists.{rowsIn, firstTime};
-ghost use Rattle.encoder.specs.Writings.{writtenNumbers, measured};
+ghost use Rattle.payload_sizes.specs.Measures.{writtenNumbers, measured};
 ghost use Rattle.packet_parts.specs.Parts.{maxRedundant, total, countsFit, primaryTime};
 ghost use Rattle.packet_parts.specs.ListSizes.{firstWords, offsetOf, redundantNumbers, listsNumbers, withinNumbers, sizeNumbers};
 
@@ -105,7 +105,7 @@ pub fn primary_time(counts: &[u32], rows: &[u32]) -> u32
 pub fn list_size(asked: Settings, rows: &[u32]) -> usize
     ensures { λ r. ⌜ r ≡ measured asked (now (rows .entry)) .count ⌝ }
 {
-    match writing::measure_payload(asked, rows) {
+    match measuring::measure_payload(asked, rows) {
         Written::Bytes(size) => size,
         Written::Refused(_) => 0,
     }
@@ -115,7 +115,7 @@ pub fn list_size(asked: Settings, rows: &[u32]) -> usize
 fn measure_redundant(asked: Settings, time: u32, rows: &[u32]) -> Written
     ensures { λ r. ⌜ writtenNumbers r ≡ redundantNumbers asked time (now (rows .entry)) ⌝ }
 {
-    match writing::measure_payload(asked, rows) {
+    match measuring::measure_payload(asked, rows) {
         Written::Refused(_) => Written::Refused(Refusal::Unwritable),
         Written::Bytes(size) => {
             if MAX_BLOCK < size {
@@ -135,7 +135,7 @@ fn measure_lists(asked: Settings, time: u32, counts: &[u32], rows: &[u32]) -> Wr
     ensures { λ r. ⌜ writtenNumbers r ≡ listsNumbers asked time (now (counts .entry)) (now (rows .entry)) ⌝ }
 {
     if counts.len() < 2 {
-        return writing::measure_payload(asked, rows);
+        return measuring::measure_payload(asked, rows);
     }
     let n = first_words(counts, rows);
     match measure_redundant(asked, time, &rows[..n]) {

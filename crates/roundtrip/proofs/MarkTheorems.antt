@@ -11,8 +11,10 @@ use Rattle.frame_rows.specs.Rows.{Row, rowsIn, withMark, marked}
 use Rattle.frame_rows.proofs.RowLaws.{length-marked}
 use Rattle.plans.specs.Lists.{firstTime, outside}
 use Rattle.plans.specs.Plans.{planFrom, plan, stepBefore}
-use Rattle.encoder.specs.Bytes.{requestBytes, tableBytes, frameIn, frames}
-use Rattle.encoder.specs.Writings.{bytesOf, plannedBytes, encoded, writing, measured}
+use Rattle.encoder.specs.Bytes.{tableBytes, frameIn, frames}
+use Rattle.payload_sizes.specs.Asking.{requestBytes}
+use Rattle.encoder.specs.Writings.{bytesOf, plannedBytes, encoded, writing}
+use Rattle.payload_sizes.specs.Measures.{measured}
 use Rattle.packet_parts.specs.Parts.{primaryTime, primaryPart, parts}
 use Rattle.sender.specs.Packets.{assembled, sending}
 use Rattle.packet_parts.specs.Headings.{Heading}

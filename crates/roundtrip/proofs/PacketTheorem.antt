@@ -18,8 +18,9 @@ use Rattle.mode_requests.specs.Requests.{typedRequest}
 use Rattle.packet.proofs.ReadingLaws.{reading-headed}
 use Rattle.plans.specs.Lists.{rowsIn, outside}
 use Rattle.roundtrip.proofs.PayloadTheorems.{times}
-use Rattle.encoder.specs.Writings.{Encoded, noBytes, bytesOf, askable, roomFor}
-use Rattle.encoder.proofs.RequestLaws.{asked}
+use Rattle.encoder.specs.Writings.{Encoded, noBytes, bytesOf, roomFor}
+use Rattle.payload_sizes.specs.Asking.{askable}
+use Rattle.payload_sizes.proofs.RequestLaws.{asked}
 use Rattle.plans.proofs.ListLaws.{length-rows}
 use Rattle.roundtrip.proofs.PlanRowLaws.{Times}
 use Rattle.packet_parts.specs.Parts.{maxRedundant, total, primaryTime, Part, Parts, noParts, partsOf, parts, countsFit}

@@ -18,12 +18,13 @@ use Rattle.payload.specs.Payloads.{body, payload, requestOf, Rows, rowsOf, plac
 use Rattle.payload.proofs.PayloadLaws.{length-table}
 use Rattle.plans.specs.Lists.{outside, firstTime}
 use Rattle.plans.specs.Plans.{plan}
-use Rattle.encoder.specs.Bytes.{requestBytes, tableBytes, frames}
+use Rattle.encoder.specs.Bytes.{tableBytes, frames}
+use Rattle.payload_sizes.specs.Asking.{requestBytes}
 use Rattle.encoder.specs.Writings.{bytesOf, plannedBytes, encoded}
 use Rattle.contents.proofs.EntryLaws.{size-some}
 use Rattle.encoder.proofs.EntryLaws.{length-table as length-table-bytes}
 use Rattle.encoder.proofs.FrameBytesLaws.{length-frames}
-use Rattle.encoder.proofs.RequestLaws.{length-request}
+use Rattle.payload_sizes.proofs.RequestLaws.{length-request}
 use Rattle.roundtrip.specs.Marks.{AllMarked}
 use Rattle.roundtrip.specs.ReadingBack.{readRequest, SameFrames}
 use Rattle.roundtrip.proofs.TableBackLaws.{Runs, table-back}

@@ -25,11 +25,12 @@ use Rattle.frame_rows.proofs.FirstLaws.{sizes-passed}
 use Rattle.frame_rows.specs.Rows.{rowsIn}
 use Rattle.plans.specs.Lists.{firstTime, whole, outside}
 use Rattle.plans.specs.Plans.{maxPayload, plan}
-use Rattle.encoder.specs.Bytes.{requestBytes, tableBytes, frames}
-use Rattle.encoder.specs.Writings.{noBytes, bytesOf, maxRequest, askable, plannedBytes, encoded, roomFor, writing}
+use Rattle.encoder.specs.Bytes.{tableBytes, frames}
+use Rattle.payload_sizes.specs.Asking.{requestBytes, maxRequest, askable}
+use Rattle.encoder.specs.Writings.{noBytes, bytesOf, plannedBytes, encoded, roomFor, writing}
 use Rattle.plans.proofs.ListLaws.{length-rows}
 use Rattle.encoder.proofs.PayloadLaws.{listed, length-bytes}
-use Rattle.encoder.proofs.RequestLaws.{asked}
+use Rattle.payload_sizes.proofs.RequestLaws.{asked}
 use Rattle.encoder.proofs.WritingLaws.{in-range-some}
 use Rattle.roundtrip.specs.ReadingBack.{Bytes, Words, SameFrames, ReadsTo}
 use Rattle.roundtrip.specs.PayloadClaims.{RoundTrip, PayloadOf, Longer, Unreadable, Answer, written, unwritable, too-short, Writing}

@@ -16,11 +16,12 @@ use Rattle.frame_rows.specs.Rows.{Row}
 use Rattle.payload.specs.Payloads.{body}
 use Rattle.plans.specs.Lists.{rowsIn}
 use Rattle.plans.specs.Plans.{headGap, plan}
-use Rattle.encoder.specs.Bytes.{requestBytes, halves, flag, firstByte, entryBytes, tableBytes, frames}
+use Rattle.encoder.specs.Bytes.{halves, flag, firstByte, entryBytes, tableBytes, frames}
+use Rattle.payload_sizes.specs.Asking.{requestBytes}
 use Rattle.encoder.specs.Writings.{bytesOf, plannedBytes, encoded}
 use Rattle.encoder.proofs.EntryLaws.{length-entry}
 use Rattle.encoder.proofs.WritingLaws.{in-range-some}
-use Rattle.encoder.proofs.RequestLaws.{one-request}
+use Rattle.payload_sizes.proofs.RequestLaws.{one-request}
 use Rattle.roundtrip.specs.PayloadClaims.{firstDisplacement, Zeros, ZeroBits, FirstDisplacement, RequestBits}
 use Rattle.roundtrip.proofs.EntryBackLaws.{Run, half-later, half-back, first-back, gaps-back, small-gaps}
 use Rattle.roundtrip.proofs.TableBackLaws.{Runs, table-back}

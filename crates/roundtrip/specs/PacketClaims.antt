@@ -11,7 +11,8 @@ use Rattle.rtp.specs.declared.refusal.Refusal.the-variants.{Unwritable}
 use Rattle.frame_rows.specs.Rows.{Row}
 use Rattle.packet.specs.Readings.{readAs, reading}
 use Rattle.plans.specs.Lists.{rowsIn, outside}
-use Rattle.encoder.specs.Writings.{noBytes, bytesOf, askable}
+use Rattle.encoder.specs.Writings.{noBytes, bytesOf}
+use Rattle.payload_sizes.specs.Asking.{askable}
 use Rattle.packet_parts.specs.Parts.{primaryTime}
 use Rattle.sender.specs.Packets.{sending}
 use Rattle.packet_parts.specs.Headings.{Heading, markerBit}

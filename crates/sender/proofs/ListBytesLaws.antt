@@ -6,7 +6,7 @@ use native.Mathlib.Omega.{arith}
 use lib.ListN.{length, getD, take, drop}
 use Rattle.rtp.specs.Sizes.{rowWidth}
 use Rattle.rtp.specs.declared.settings.Settings.{Settings}
-use Rattle.encoder.specs.Writings.{measured}
+use Rattle.payload_sizes.specs.Measures.{measured}
 use Rattle.packet_parts.specs.Headings.{blockHeaderBytes}
 use Rattle.packet_parts.specs.ListSizes.{offsetOf}
 use Rattle.sender.specs.Room.{listsHeaders, HeaderFits, HeadersFit, listBytes, listsPayloads, listHeadersSize}

@@ -15,8 +15,10 @@ use Rattle.rtp.specs.declared.refusal.Refusal.the-variants.{Unwritable}
 use Rattle.rtp.proofs.TestLaws.{by-test}
 use Rattle.frame_rows.specs.Rows.{rowsIn}
 use Rattle.plans.specs.Lists.{outside}
-use Rattle.encoder.specs.Writings.{Encoded, noBytes, bytesOf, encoded, Numbers, encodedNumbers, encodedBytes, refusedNumbers, measured}
-use Rattle.encoder.proofs.WritingLaws.{in-range-some, numbers-encoded, measured-plan}
+use Rattle.encoder.specs.Writings.{Encoded, noBytes, bytesOf, encoded, encodedNumbers, encodedBytes}
+use Rattle.payload_sizes.specs.Measures.{Numbers, refusedNumbers, measured}
+use Rattle.encoder.proofs.WritingLaws.{in-range-some, numbers-encoded}
+use Rattle.payload_sizes.proofs.MeasureLaws.{measured-plan}
 use Rattle.packet_parts.specs.Parts.{maxOffset, maxBlock, Part, Parts, noParts, partsOf, primaryPart, prependPart, redundantPart, parts}
 use Rattle.packet_parts.specs.Headings.{blockHeaderBytes}
 use Rattle.sender.specs.Packets.{headersBytes, blocksBytes}

@@ -14,8 +14,10 @@ use Rattle.rtp.specs.declared.refusal.Refusal.the-variants.{SettingsOutOfRange,
 use Rattle.rtp.proofs.TestLaws.{by-test, not-both}
 use Rattle.frame_rows.specs.Rows.{rowsIn}
 use Rattle.plans.specs.Lists.{outside}
-use Rattle.encoder.specs.Writings.{Encoded, noBytes, bytesOf, askable, roomFor, Numbers, encodedNumbers, encodedBytes}
-use Rattle.encoder.proofs.RequestLaws.{asked}
+use Rattle.encoder.specs.Writings.{Encoded, noBytes, bytesOf, roomFor, encodedNumbers, encodedBytes}
+use Rattle.payload_sizes.specs.Measures.{Numbers}
+use Rattle.payload_sizes.specs.Asking.{askable}
+use Rattle.payload_sizes.proofs.RequestLaws.{asked}
 use Rattle.packet_parts.specs.Parts.{maxRedundant, total, primaryTime, Part, Parts, noParts, partsOf, parts, countsFit}
 use Rattle.packet_parts.specs.Headings.{Heading, headerBytes}
 use Rattle.sender.specs.Packets.{headersBytes, blocksBytes, bodyBytes, packetType, redundancyMissing, withinPacket, assembledFrom, assembled, sending}

@@ -10,7 +10,8 @@ use Rattle.rtp.specs.declared.settings.Settings.{Settings}
 use Rattle.rtp.specs.declared.refusal.Refusal.the-variants.{SettingsOutOfRange, RowOutsideBytes, Unwritable}
 use Rattle.frame_rows.specs.Rows.{Row}
 use Rattle.plans.specs.Lists.{rowsIn, outside}
-use Rattle.encoder.specs.Writings.{Encoded, noBytes, bytesOf, askable, roomFor}
+use Rattle.encoder.specs.Writings.{Encoded, noBytes, bytesOf, roomFor}
+use Rattle.payload_sizes.specs.Asking.{askable}
 use Rattle.packet_parts.specs.Parts.{primaryTime, Part, Parts, noParts, partsOf, parts, countsFit}
 use Rattle.packet_parts.specs.Headings.{Heading, headerBytes, blockHeaderBytes}
 

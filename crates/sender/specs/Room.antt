@@ -7,7 +7,9 @@ use lib.ListN.{length, take, drop}
 use Rattle.rtp.specs.Sizes.{rowWidth}
 use Rattle.rtp.specs.declared.settings.Settings.{Settings}
 use Rattle.plans.specs.Lists.{rowsIn, outside}
-use Rattle.encoder.specs.Writings.{Encoded, noBytes, bytesOf, askable, encoded, encodedBytes, measured}
+use Rattle.encoder.specs.Writings.{Encoded, noBytes, bytesOf, encoded, encodedBytes}
+use Rattle.payload_sizes.specs.Measures.{measured}
+use Rattle.payload_sizes.specs.Asking.{askable}
 use Rattle.packet_parts.specs.Parts.{maxOffset, maxBlock, parts}
 use Rattle.packet_parts.specs.Headings.{Heading, blockHeaderBytes}
 use Rattle.packet_parts.specs.ListSizes.{Counted, offsetOf}

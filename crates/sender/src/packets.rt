@@ -1,8 +1,9 @@
 // Packets, written.
 use encoder::writing;
-use encoder::writing::Written;
 use packet_parts::headers;
 use packet_parts::sizes;
+use payload_sizes::asking;
+use payload_sizes::measuring::Written;
 use plans::lists;
 use rtp::refusal::Refusal;
 use rtp::settings::Settings;
@@ -13,7 +14,8 @@ ghost use mathlib.Core.List.{_++_};
 ghost use lib.ListN.{length};
 ghost use Rattle.rtp.specs.Areas.{over};
 ghost use Rattle.plans.specs.Lists.{rowsIn};
-ghost use Rattle.encoder.specs.Writings.{writtenNumbers, encodedNumbers, encodedBytes, measured};
+ghost use Rattle.encoder.specs.Writings.{encodedNumbers, encodedBytes};
+ghost use Rattle.payload_sizes.specs.Measures.{writtenNumbers, measured};
 ghost use Rattle.packet_parts.specs.Parts.{parts};
 ghost use Rattle.packet_parts.specs.Headings.{blockHeaderBytes};
 ghost use Rattle.packet_parts.specs.ListSizes.{offsetOf};
@@ -168,7 +170,7 @@ pub fn write_packet(
         (encodedBytes (sending asked «mode_request» (record { marker = marker; sequence = sequence; source = source }) (now (counts .entry)) (now (rows .entry))
         (now (bytes .entry)) (length (now (out .entry))))) (now (out .entry))) ⌝ }
 {
-    if writing::in_range(asked, mode_request) {
+    if asking::in_range(asked, mode_request) {
         if lists::any_outside(rows, bytes.len()) {
             return Written::Refused(Refusal::RowOutsideBytes);
         }

@@ -1,9 +1,9 @@
 // Lists of frames written and printed.
 use encoder::writing;
-use encoder::writing::Written;
 use packet::reading;
 use packet::reading::Reading;
 use payload::reading::NO_REQUEST;
+use payload_sizes::measuring::Written;
 use rtp::refusal;
 use rtp::settings::AMR;
 use rtp::settings::Settings;

@@ -3,7 +3,7 @@ use native.Mathlib.Omega.{arith}
 use lib.ListN.{take, drop, length-take, length-drop, length}
 use denote.Ref.{now}
 use Rattle.rtp.proofs.AreaLaws.{part-to-end}
-use Rattle.encoder.specs.Writings.{Numbers, writtenNumbers}
+use Rattle.payload_sizes.specs.Measures.{Numbers, writtenNumbers}
 use Rattle.packet_parts.specs.ListSizes.{redundantNumbers, addNumbers, listsNumbers}
 use Rattle.packet_parts.proofs.ListsLaws.{told-none, told-bytes, lists-one, lists-rest, add-none, add-rest, add-both, redundant-small, lists-small}
 use borrow.Author.Needs.{needs}
@@ -13,7 +13,7 @@ use borrow.Fn.PlainCycle.{Measures, is, falls, and}
 use Rattle.packet_parts.proofs.sizes.measure_lists.Reads as measure-lists
 use Rattle.packet_parts.proofs.sizes.measure_lists.Kinds as measure-lists-kinds
 use Rattle.packet_parts.proofs.sizes.+measure_lists.Lts-measure_lists as measure-lists-lts
-use Rattle.encoder.proofs.writing.measure_payload.Reads as measure-payload-reads
+use Rattle.payload_sizes.proofs.measuring.measure_payload.Reads as measure-payload-reads
 use Rattle.packet_parts.proofs.sizes.first_words.Reads as first-words-reads
 use Rattle.packet_parts.proofs.sizes.measure_redundant.Reads as measure-redundant-reads
 use Rattle.packet_parts.proofs.sizes.+measure_lists.{statement}

@@ -1,6 +1,6 @@
 use mathlib.Core.Path.{ap, sym, _∙_}
-use Rattle.encoder.specs.declared.writing.Written.{Written}
-use Rattle.encoder.specs.Writings.{Numbers, writtenNumbers}
+use Rattle.payload_sizes.specs.declared.measuring.Written.{Written}
+use Rattle.payload_sizes.specs.Measures.{Numbers, writtenNumbers}
 use Rattle.packet_parts.proofs.ListsLaws.{told-bytes}
 use borrow.Author.Needs.{needs}
 use Rattle.packet_parts.proofs.sizes.list_size.Statement.{statement}

@@ -1,7 +1,7 @@
 use mathlib.Core.Path.{_≡_, subst}
 use Prim.Native.Nat.{ℕ, _≤_, _<_}
 use denote.Ref.{now}
-use Rattle.encoder.specs.Writings.{measured}
+use Rattle.payload_sizes.specs.Measures.{measured}
 use Rattle.packet_parts.specs.Parts.{maxOffset}
 use Rattle.packet_parts.proofs.ListsLaws.{told-none, told-bytes, redundant-none, redundant-long, redundant-far, redundant-all}
 use borrow.Author.Needs.{needs}

@@ -4,7 +4,7 @@ use native.Mathlib.Omega.{arith}
 use borrow.Author.Tests.{lt-ltb, le-ltb, eq-eqb, ne-eqb}
 use lib.ListN.{length}
 use denote.Ref.{now}
-use Rattle.encoder.specs.Writings.{Numbers}
+use Rattle.payload_sizes.specs.Measures.{Numbers}
 use Rattle.plans.specs.Plans.{maxPayload}
 use Rattle.packet_parts.specs.Parts.{maxRedundant, maxBlock}
 use Rattle.packet_parts.specs.ListSizes.{listsNumbers, packetNumbers, sizeNumbers}

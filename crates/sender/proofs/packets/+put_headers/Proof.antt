@@ -7,7 +7,7 @@ use denote.Ref.{now}
 use Rattle.rtp.specs.Sizes.{rowWidth}
 use Rattle.rtp.specs.Areas.{over}
 use Rattle.rtp.proofs.AreaLaws.{over-part, part-length, part-to-end, over-one}
-use Rattle.encoder.specs.Writings.{measured}
+use Rattle.payload_sizes.specs.Measures.{measured}
 use Rattle.packet_parts.specs.Headings.{blockHeaderBytes}
 use Rattle.packet_parts.specs.ListSizes.{offsetOf}
 use Rattle.sender.specs.Room.{listsHeaders, HeaderFits, HeadersFit}

@@ -13,7 +13,7 @@ use Rattle.packet_parts.specs.Headings.{Heading, headerBytes}
 use Rattle.sender.specs.Packets.{assembledFrom}
 use Rattle.sender.specs.Room.{listsHeaders, listsPayloads}
 use Rattle.rtp.proofs.RangeLaws.{ranged}
-use Rattle.encoder.proofs.RequestLaws.{asked}
+use Rattle.payload_sizes.proofs.RequestLaws.{asked}
 use Rattle.packet_parts.proofs.HeadingLaws.{header-in}
 use Rattle.sender.proofs.SendingLaws.{Plain, plain-packet, Redundant, redundant-packet}
 use borrow.Author.Needs.{needs}

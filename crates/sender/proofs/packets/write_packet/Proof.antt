@@ -5,8 +5,10 @@ use denote.Ref.{now}
 use Rattle.rtp.specs.Areas.{over}
 use Rattle.frame_rows.specs.Rows.{rowsIn}
 use Rattle.plans.specs.Lists.{outside}
-use Rattle.encoder.specs.Writings.{Encoded, askable, roomFor, writtenNumbers, encodedNumbers, encodedBytes}
-use Rattle.encoder.proofs.RequestLaws.{asked}
+use Rattle.encoder.specs.Writings.{Encoded, roomFor, encodedNumbers, encodedBytes}
+use Rattle.payload_sizes.specs.Measures.{writtenNumbers}
+use Rattle.payload_sizes.specs.Asking.{askable}
+use Rattle.payload_sizes.proofs.RequestLaws.{asked}
 use Rattle.encoder.proofs.WritingLaws.{refused-pair}
 use Rattle.packet_parts.specs.Parts.{parts, countsFit}
 use Rattle.packet_parts.specs.Headings.{Heading}
