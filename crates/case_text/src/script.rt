@@ -40,7 +40,7 @@ pub fn next() -> [u8; LINE] {
 }
 
 // The byte at a place, 0 past the room.
-pub fn byte(line: &[u8; LINE], i: usize) -> u8 {
+pub(crate) fn byte(line: &[u8; LINE], i: usize) -> u8 {
     if i < LINE { line[i] } else { 0 }
 }
 
@@ -109,7 +109,7 @@ fn print_byte(byte: u8) {
 }
 
 // Prints the words after the k-th space, and the line's end.
-pub fn print(line: &[u8; LINE], k: usize) {
+fn print(line: &[u8; LINE], k: usize) {
     let mut i = place(line, k);
     while i < LINE {
         print_byte(line[i]);
@@ -123,4 +123,13 @@ pub fn print(line: &[u8; LINE], k: usize) {
 pub fn malformed(line: &[u8; LINE]) {
     io::write_all(STDOUT_FILENO, b"malformed: ");
     print(line, 0);
+}
+
+// Prints all words after the first.
+pub fn print_label(line: &[u8; LINE]) {
+    if count(line) == 0 {
+        malformed(line);
+    } else {
+        print(line, 1);
+    }
 }

@@ -35,7 +35,7 @@ fn give_area(case: Case, line: &[u8; LINE]) -> Case {
 // A line that sets nothing: a label, bytes, or a packet to be read.
 fn run(case: Case, line: &[u8; LINE], bytes: &mut [u8; ROOM]) {
     if script::first_is(line, b"case") {
-        script::print(line, 1);
+        script::print_label(line);
     } else if script::first_is(line, b"packet") {
         values::clear(bytes);
         values::put_bytes(line, 1, bytes, 0);

@@ -1,19 +1,8 @@
 use native.Mathlib.Omega.{arith}
 use lib.ListN.{length-take}
 use borrow.Author.Needs.{needs}
-use Rattle.write_examples.proofs.example.requesting.Statement.{statement}
-use Rattle.write_examples.proofs.example.requesting.Tie as tie
-use Rattle.write_examples.proofs.example.requesting.Reads as reads
-use Rattle.write_examples.proofs.example.requesting.Lts as lts
-use Rattle.sender.proofs.packets.write_packet.Reads as write-packet-reads
-use Rattle.write_examples.proofs.example.area.Reads as area-reads
-use Rattle.write_examples.proofs.example.read_back.Reads as read-back-reads
-use Rattle.write_examples.proofs.example.show.Reads as show-reads
-use Rattle.write_examples.proofs.example.sound.Reads as sound-reads
-use Rattle.write_examples.proofs.example.title.Reads as title-reads
-
-title-requires : tie.Need-title-requires
-title-requires c κs = search needs
+use Rattle.write_examples.proofs.example.packet.Statement.{statement}
+use Rattle.write_examples.proofs.example.packet.Tie as tie
 
 sound-requires : tie.Need-sound-requires
 sound-requires c κs = search needs
@@ -54,11 +43,10 @@ returns-2 c = search needs
 returns-3 : tie.Need-returns-3
 returns-3 c = search needs
 
-pub requesting-spec : {M : Type 1} → statement M
-requesting-spec =
+pub packet-spec : {M : Type 1} → statement M
+packet-spec =
     tie.close
     (tie.spec
-    title-requires
     sound-requires
     area-requires
     slice-aggregate-write-packet
