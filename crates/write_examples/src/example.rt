@@ -2,11 +2,7 @@
 use encoder::writing;
 use packet::reading;
 use packet::reading::Reading;
-<<<<<<< HEAD
-use payload::reading::NO_REQUEST;
 use payload_sizes::measuring::Written;
-=======
->>>>>>> d1baad0 (Writing examples as data: the lists of rows are lines on standard input)
 use rtp::refusal;
 use rtp::settings::AMR;
 use rtp::settings::Settings;
