@@ -1,7 +1,7 @@
 // A program's arguments: four numbers, the settings.
-use crate::lines;
-use crate::numbers;
-use crate::numbers::Number;
+use console_text::lines;
+use console_text::numbers;
+use console_text::numbers::Number;
 use libc::STDERR_FILENO;
 use libc::STDOUT_FILENO;
 use rtp::settings;

@@ -1,8 +1,8 @@
 // Refusals in words.
-use crate::lines;
-use crate::lines::LINE;
+use console_text::lines;
+use console_text::lines::LINE;
 ghost use Rattle.io.specs.Counts.{Counts};
-ghost use Rattle.console.specs.Lines.{Continued};
+ghost use Rattle.console_text.specs.Lines.{Continued};
 
 // Why a call other than a reading is refused.
 fn put_call_reason(line: &mut [u8; LINE], at: usize, number: u32) -> usize

@@ -1,5 +1,5 @@
 // The stream of packets on standard input, in the framing of RFC 4571: each packet behind its length in bytes, a 16-bit number with the high byte first.
-use crate::lines;
+use console_text::lines;
 use libc::STDERR_FILENO;
 use libc::STDIN_FILENO;
 ghost use Prim.Native.Nat.{_<_, _≤_};

@@ -13,7 +13,7 @@ use Rattle.rtp.specs.Numbers.{byteAt}
 use Rattle.rtp.specs.Sizes.{maxFrame}
 use Rattle.rtp.specs.declared.refusal.Refusal.{Refusal}
 use Rattle.rtp.proofs.TestLaws.{by-test}
-use Rattle.rtp.proofs.RedundancyLaws.{Bytes}
+use Rattle.rtp.proofs.ByteLaws.{Bytes}
 use Rattle.formats.specs.declared.frames.Frame.{Frame}
 use Rattle.formats.specs.declared.frames.Coded.{Coded}
 use Rattle.contents.specs.declared.entries.Entry.{Entry}

@@ -11,7 +11,7 @@ use Rattle.rtp.specs.Sizes.{rowArea}
 use Rattle.rtp.specs.Ranges.{inRange}
 use Rattle.rtp.specs.declared.settings.Settings.{Settings}
 use Rattle.rtp.proofs.TestLaws.{by-test}
-use Rattle.payload.specs.Rows.{Row}
+use Rattle.frame_rows.specs.Rows.{Row}
 use Rattle.packet.specs.Readings.{Outcome, reading}
 use Rattle.playout.specs.Sizes.{storeSize}
 use Rattle.playout.specs.Copies.{Received}
@@ -19,7 +19,8 @@ use Rattle.playout.specs.Entries.{Held}
 use Rattle.playout.specs.Verdicts.{judgeAll}
 use Rattle.playout.proofs.JudgeLaws.{judgeAll-append}
 use Rattle.playout.proofs.HeldLaws.{Frames, Marks}
-use Rattle.reorder.specs.Rows.{receivedIn, readReceived}
+use Rattle.reorder.specs.Rows.{receivedIn}
+use Rattle.reorder.specs.ModelCalls.{readReceived}
 use Rattle.reorder.proofs.StateLaws.{Fits}
 use Rattle.reorder.proofs.CopyLaws.{read-fit, fits-append, fits-frames, fits-marks}
 use Rattle.delivery.specs.Runs.{lent, Offer}

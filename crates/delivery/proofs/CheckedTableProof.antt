@@ -10,17 +10,17 @@ use borrow.Author.Tests.{le-ltb}
 use Rattle.rtp.specs.Sizes.{rowArea}
 use Rattle.rtp.specs.Areas.{over}
 use Rattle.rtp.specs.Ranges.{maxChannels, inRange}
-use Rattle.rtp.specs.Header.{payloadStart, payloadEnd, fields, header}
+use Rattle.rtp_headers.specs.Header.{payloadStart, payloadEnd, fields, header}
 use Rattle.rtp.specs.declared.settings.Settings.{Settings}
 use Rattle.formats.specs.Formats.{formatOf}
 use Rattle.formats.specs.Frames.{sound, g719Length, lengthIn, frameIn}
-use Rattle.formats.specs.Codes.{codeBelow, codeFor}
+use Rattle.codes.specs.Codes.{codeBelow, codeFor}
 use Rattle.contents.specs.Contents.{minEntry, gapsSize, entrySize, entryOf as tableEntry, gapAt, gapsFrom, meaning, contentsBy, contents, sizeIn, framesIn}
-use Rattle.payload.specs.Rows.{timeAfter, blockRows, groupRows, tableRows, marked}
+use Rattle.frame_rows.specs.Rows.{timeAfter, blockRows, groupRows, tableRows, marked}
 use Rattle.payload.specs.Payloads.{payload, placedRows, payloadRows}
 use Rattle.packet.specs.Readings.{headedBy, typedRows, reading}
-use Rattle.packet.specs.CheckedTable.{row}
-use Rattle.packet.proofs.CheckedTableProof.{checked-table}
+use Rattle.packet_claims.specs.CheckedTable.{row}
+use Rattle.packet_claims.proofs.CheckedTableProof.{checked-table}
 use Rattle.playout.specs.Sizes.{storeSize}
 use Rattle.playout.specs.Pairs.{ahead, after, order}
 use Rattle.playout.specs.Copies.{quality, soundness, greater, rank, betterFrame}
@@ -28,7 +28,7 @@ use Rattle.playout.specs.Entries.{view, entryOf, remarked, put, findBy, slotUse
 use Rattle.playout.specs.Verdicts.{noCounts, counted, allWithin, fits, judgeHeld, judge, tally, judgeAll}
 use Rattle.playout.specs.declared.verdict.Verdict.the-variants.{Better, Repeated}
 use Rattle.layout.specs.declared.buffer.Buffer.{Buffer}
-use Rattle.layout.specs.Bits.{weight, wordAt}
+use Rattle.slot_marks.specs.Bits.{weight, wordAt}
 use Rattle.layout.specs.Columns.{zeros}
 use Rattle.layout.specs.Layout.{padTo, entriesFrom}
 use Rattle.layout.specs.Model.{ascending, slotsApart, entriesFine, fine}

@@ -16,7 +16,7 @@ use Rattle.rtp.specs.declared.refusal.Refusal.the-variants.{SettingsOutOfRange,
 use Rattle.rtp.proofs.TestLaws.{by-test}
 use Rattle.rtp.proofs.RefusalLaws.{number-positive}
 use Rattle.rtp.specs.Areas.{over}
-use Rattle.payload.specs.Rows.{words}
+use Rattle.frame_rows.specs.Rows.{words}
 use Rattle.playout.specs.Entries.{Entry, Held}
 use Rattle.playout.specs.Verdicts.{Counts, noCounts, tally, judgeAll}
 use Rattle.playout.proofs.JudgeLaws.{judgeAll-count, tally-append}

@@ -12,7 +12,7 @@ use Rattle.rtp.specs.Refusals.{number}
 use Rattle.rtp.specs.Areas.{over}
 use Rattle.rtp.specs.declared.settings.Settings.{Settings}
 use Rattle.rtp.proofs.RefusalLaws.{number-positive}
-use Rattle.payload.specs.Rows.{words}
+use Rattle.frame_rows.specs.Rows.{words}
 use Rattle.playout.specs.Sizes.{storeSize}
 use Rattle.playout.specs.Copies.{Received}
 use Rattle.playout.specs.Entries.{Entry, Held, frameOf, view}

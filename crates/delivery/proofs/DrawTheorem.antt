@@ -13,12 +13,12 @@ use Rattle.playout.specs.Sizes.{slots, slotSize, storeSize}
 use Rattle.playout.specs.Entries.{Entry, Held}
 use Rattle.playout.proofs.HeldLaws.{drawnFirst}
 use Rattle.layout.specs.declared.buffer.Buffer.{Buffer}
-use Rattle.layout.specs.Bits.{markOf, wordsOf, lowestFrom}
+use Rattle.slot_marks.specs.Bits.{markOf, wordsOf, lowestFrom}
 use Rattle.layout.specs.Arrays.{Machine}
 use Rattle.layout.specs.Layout.{decode}
 use Rattle.layout.specs.WellFormed.{wellFormed}
 use Rattle.drawing.specs.Calls.{drawCall}
-use Rattle.layout.proofs.WordLaws.{slotsOf, Distinct, count-here, count-else, distinct-tail, mark-count, own-distinct}
+use Rattle.slot_marks.proofs.WordLaws.{slotsOf, Distinct, count-here, count-else, distinct-tail, mark-count, own-distinct}
 use Rattle.drawing.proofs.CallLaws.{drawFirst, draw-goes}
 use Rattle.reorder.proofs.StateLaws.{Good, draw-good}
 use Rattle.layout.proofs.WellFormedLaws.{words-held}

@@ -20,7 +20,7 @@ use Rattle.packet.specs.Readings.{Outcome, refused as unread, readAs, reading}
 use Rattle.playout.specs.declared.verdict.Verdict.{Verdict}
 use Rattle.playout.specs.declared.verdict.Verdict.the-variants.{Late, Far, Repeated, Better, NoRoom, Inserted}
 use Rattle.playout.specs.Sizes.{slotSize, storeSize}
-use Rattle.formats.specs.Tags.{redundantMark, eitherMark}
+use Rattle.tags.specs.Tags.{redundantMark, eitherMark}
 use Rattle.playout.specs.Copies.{Copy, Received}
 use Rattle.playout.specs.Entries.{Entry, Held, remarked, placed}
 use Rattle.playout.specs.Verdicts.{holding, Judged, judge, Counts, noCounts, counted, Judgement, tally, judgeAll}

@@ -14,9 +14,9 @@ use lib.Seq.{getD-set-same, getD-set-other}
 use Rattle.rtp.proofs.TestLaws.{and-then}
 use Rattle.playout.specs.Sizes.{slots}
 use Rattle.playout.specs.Entries.{Entry}
-use Rattle.layout.specs.Bits.{bitAt, markOf, wordAt, wordsOf, marked, sameWords}
-use Rattle.layout.proofs.BitLaws.{add-lt}
-use Rattle.layout.proofs.WordLaws.{countIn, Distinct, count-here, count-else, count-none, distinct-tail, mark-count, words-cons, slotsOf}
+use Rattle.slot_marks.specs.Bits.{bitAt, markOf, wordAt, wordsOf, marked, sameWords}
+use Rattle.slot_marks.proofs.BitLaws.{add-lt}
+use Rattle.slot_marks.proofs.WordLaws.{countIn, Distinct, count-here, count-else, count-none, distinct-tail, mark-count, words-cons, slotsOf}
 use Rattle.delivery.specs.WellFormedClaims.{HasSlot}
 
 -- a bit is 0 or 1

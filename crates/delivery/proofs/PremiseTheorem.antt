@@ -14,7 +14,7 @@ use Rattle.rtp.specs.Areas.{over}
 use Rattle.rtp.specs.declared.settings.Settings.{Settings}
 use Rattle.rtp.proofs.TestLaws.{by-test}
 use Rattle.rtp.proofs.RefusalLaws.{number-positive}
-use Rattle.payload.specs.Rows.{words}
+use Rattle.frame_rows.specs.Rows.{words}
 use Rattle.playout.specs.Sizes.{slots, storeSize}
 use Rattle.playout.specs.Entries.{Held}
 use Rattle.playout.specs.Verdicts.{noCounts, Judgement, tally, Gathered, judgeAll}

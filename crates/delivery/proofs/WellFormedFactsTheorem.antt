@@ -11,24 +11,24 @@ use lib.Dec.{eqb}
 use Rattle.rtp.proofs.TestLaws.{not-both, both as in-turn, and-then, either}
 use Rattle.rtp.proofs.RangeLaws.{few-channels}
 use Rattle.formats.specs.Frames.{noData}
-use Rattle.formats.specs.Codes.{noCode, codeFor}
-use Rattle.formats.proofs.CodeLaws.{code-back, code-below, code-some}
+use Rattle.codes.specs.Codes.{noCode, codeFor}
+use Rattle.codes.proofs.CodeLaws.{code-back, code-below, code-some}
 use Rattle.playout.specs.Sizes.{slots}
 use Rattle.playout.specs.Entries.{Entry}
 use Rattle.playout.proofs.RankLaws.{frame-class}
 use Rattle.playout.proofs.DistinctLaws.{Differ}
 use Rattle.playout.proofs.HeldLaws.{Rising, Stretch, rising-sorted, sorted-stretch}
 use Rattle.layout.specs.declared.buffer.Buffer.{Buffer}
-use Rattle.layout.specs.Bits.{markOf, heldIn}
+use Rattle.slot_marks.specs.Bits.{markOf, heldIn}
 use Rattle.layout.specs.Columns.{zeros}
 use Rattle.layout.specs.Arrays.{Machine}
 use Rattle.layout.specs.Layout.{entryAt, entriesFrom, decode, isFlag, unusedZero}
-use Rattle.layout.specs.Model.{allowed}
+use Rattle.codes.specs.Allowed.{allowed}
 use Rattle.layout.specs.WellFormed.{wellFormed}
-use Rattle.layout.proofs.WordLaws.{slotOf, SlotFacts, own-distinct, own-few}
+use Rattle.slot_marks.proofs.WordLaws.{slotOf, SlotFacts, own-distinct, own-few}
 use Rattle.layout.proofs.LayoutLaws.{by-flag, Octets}
-use Rattle.formats.proofs.TagLaws.{mark-small}
-use Rattle.layout.proofs.AllowedLaws.{allowed-frame}
+use Rattle.tags.proofs.TagLaws.{mark-small}
+use Rattle.codes.proofs.AllowedLaws.{allowed-frame}
 use Rattle.layout.proofs.ModelLaws.{both, and, Facts, facts-fine, fine-exactly}
 use Rattle.layout.proofs.WellFormedLaws.{facts, words-held, times-word, encode-decode, back, well-formed}
 use Rattle.delivery.specs.WellFormedClaims.{Typed, AscendingEntries, EntriesWithinStretch, SlotsDistinct, HasSlot, FrameAllowed, WellFormedFacts, WellFormedExactly, UndoEachOther}

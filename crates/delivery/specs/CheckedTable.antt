@@ -9,9 +9,9 @@ use Rattle.rtp.specs.Ranges.{g719}
 use Rattle.rtp.specs.Areas.{over}
 use Rattle.rtp.specs.declared.settings.Settings.{Settings}
 use Rattle.formats.specs.Frames.{sound}
-use Rattle.formats.specs.Tags.{primaryMark}
-use Rattle.payload.specs.Rows.{Row, words}
-use Rattle.packet.specs.CheckedTable.{CheckedTable, plainType, settingsOf, packetOf, row}
+use Rattle.tags.specs.Tags.{primaryMark}
+use Rattle.frame_rows.specs.Rows.{Row, words}
+use Rattle.packet_claims.specs.CheckedTable.{CheckedTable, plainType, settingsOf, packetOf, row}
 use Rattle.playout.specs.declared.verdict.Verdict.the-variants.{Late, Far, Repeated, Better, Inserted}
 use Rattle.playout.specs.Sizes.{storeSize}
 use Rattle.playout.specs.Entries.{Entry, stored}

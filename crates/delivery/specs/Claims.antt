@@ -20,7 +20,7 @@ use Rattle.layout.specs.declared.buffer.Buffer.{Buffer}
 use Rattle.layout.specs.Arrays.{Machine}
 use Rattle.layout.specs.Layout.{decode}
 use Rattle.layout.specs.WellFormed.{wellFormed}
-use Rattle.reorder.specs.Rows.{readReceived}
+use Rattle.reorder.specs.ModelCalls.{readReceived}
 use Rattle.reorder.specs.Calls.{newCall, OfferNumbers}
 use Rattle.drawing.specs.Calls.{noFrame}
 use Rattle.delivery.specs.Runs.{State, lent, Offer, Call, offer, draw, Yield, offered, drew, step, Run, run, begun, refusalOf, judged, Served, served, frames}

@@ -9,7 +9,7 @@ use Rattle.rtp.specs.Areas.{over}
 use Rattle.playout.specs.Sizes.{slotSize, storeSize}
 use Rattle.playout.specs.Entries.{Entry, frameOf}
 use Rattle.layout.specs.declared.buffer.Buffer.{Buffer}
-use Rattle.layout.specs.Bits.{markOf, lowestFree}
+use Rattle.slot_marks.specs.Bits.{markOf, lowestFree}
 use Rattle.layout.specs.Arrays.{Machine}
 use Rattle.layout.specs.Layout.{decode}
 use Rattle.layout.specs.WellFormed.{wellFormed}

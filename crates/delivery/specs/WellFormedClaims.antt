@@ -9,14 +9,13 @@ use lib.ListN.{getD}
 use Rattle.rtp.specs.Ranges.{inRange}
 use Rattle.rtp.specs.declared.settings.Settings.{Settings}
 use Rattle.formats.specs.Formats.{formatOf}
-use Rattle.formats.specs.Tags.{redundantMark}
-use Rattle.formats.specs.Frames.{frame, frameOf}
+use Rattle.tags.specs.Tags.{redundantMark}
+use Rattle.formats.specs.Frames.{frame, frameOf, FrameClass}
 use Rattle.playout.specs.Sizes.{slots}
 use Rattle.playout.specs.Pairs.{half, ahead, order}
-use Rattle.playout.specs.Copies.{FrameClass}
 use Rattle.playout.specs.Entries.{Entry, Held, remarked, sideOfEntry}
 use Rattle.layout.specs.declared.buffer.Buffer.{Buffer}
-use Rattle.layout.specs.Bits.{markOf, heldIn}
+use Rattle.slot_marks.specs.Bits.{markOf, heldIn}
 use Rattle.layout.specs.Arrays.{Machine}
 use Rattle.layout.specs.Layout.{encode, decode}
 use Rattle.layout.specs.Model.{fine}

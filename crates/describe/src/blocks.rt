@@ -1,12 +1,12 @@
 // The blocks of a redundancy payload, from their headers. Each function that prints answers whether the output takes it.
 use crate::words;
-use console::lines;
-use console::lines::LINE;
-use rtp::redundancy;
-use rtp::redundancy::BlockHeader;
-use rtp::redundancy::HeadersRead;
-use rtp::redundancy::Redundant;
+use console_text::lines;
+use console_text::lines::LINE;
 use rtp::time;
+use rtp_headers::redundancy;
+use rtp_headers::redundancy::BlockHeader;
+use rtp_headers::redundancy::HeadersRead;
+use rtp_headers::redundancy::Redundant;
 
 // What follows a block header: another, none, or nothing more is printed.
 enum Next {

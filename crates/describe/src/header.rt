@@ -1,12 +1,12 @@
 // The RTP header in words, with the blocks of a redundancy payload. Each function that prints answers whether the output takes it.
 use crate::blocks;
 use crate::words;
-use console::lines;
-use console::lines::LINE;
-use rtp::header;
-use rtp::header::Header;
-use rtp::header::HeaderRead;
+use console_text::lines;
+use console_text::lines::LINE;
 use rtp::settings::Settings;
+use rtp_headers::header;
+use rtp_headers::header::Header;
+use rtp_headers::header::HeaderRead;
 
 // The fields of the fixed header.
 fn print_fields(head: Header) -> bool {

@@ -1,7 +1,7 @@
 // The place at fault in a packet, with the bytes around it.
 use crate::words;
-use console::lines;
-use console::lines::LINE;
+use console_text::lines;
+use console_text::lines::LINE;
 ghost use Prim.Native.Nat.{_≤_};
 
 // The bytes that are shown before a place, and after it.

@@ -1,7 +1,7 @@
 // Words for numbers, classes and frame types, put into a line, and a line printed.
-use console::lines;
-use console::lines::LINE;
-use formats::codes;
+use codes::coding;
+use console_text::lines;
+use console_text::lines::LINE;
 use formats::facts;
 use libc::STDOUT_FILENO;
 
@@ -25,7 +25,7 @@ pub(crate) fn put_class(line: &mut [u8; LINE], at: usize, class: u32) -> usize {
 // The frame type, in a format whose codes are a type and a quality bit: it follows from class and length.
 pub(crate) fn put_type(line: &mut [u8; LINE], at: usize, format: u8, class: u32, n: u32) -> usize {
     if facts::format_of(format).graded {
-        let code = codes::code_for(format, class, n);
+        let code = coding::code_for(format, class, n);
         return lines::put_number(line, at, b", type ", (code / 2) as u64);
     }
     at

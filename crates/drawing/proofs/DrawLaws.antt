@@ -10,17 +10,17 @@ use Rattle.rtp.specs.Areas.{over}
 use Rattle.playout.specs.Sizes.{slots, slotSize}
 use Rattle.playout.specs.Entries.{Entry, frameOf}
 use Rattle.layout.specs.declared.buffer.Buffer.{Buffer}
-use Rattle.layout.specs.Bits.{wordsOf, unmarked}
+use Rattle.slot_marks.specs.Bits.{wordsOf, unmarked}
 use Rattle.layout.specs.Columns.{removeFirst}
 use Rattle.placing.specs.Bounds.{removal}
 use Rattle.layout.specs.Layout.{entryTag, column, entryAt, entriesFrom, decode}
 use Rattle.drawing.specs.Drawable.{Drawable}
 use Rattle.placing.proofs.BoundLaws.{removal-is}
 use Rattle.drawing.proofs.CallLaws.{drawFirst}
-use Rattle.layout.proofs.WordLaws.{slotOf, slotsOf, words-first}
+use Rattle.slot_marks.proofs.WordLaws.{slotOf, slotsOf, words-first}
 use Rattle.layout.proofs.LayoutLaws.{column-rest, words-remove}
 use Rattle.layout.proofs.WellFormedLaws.{facts, decode-length, words-held, encode-decode}
-use Rattle.layout.proofs.AllowedLaws.{allowed-frame}
+use Rattle.codes.proofs.AllowedLaws.{allowed-frame}
 
 -- bytes laid at the front
 paste-front : (area f : List ℕ) → paste area 0 f (length f) ≡ over f area

@@ -7,7 +7,7 @@ use lib.ListN.{length}
 use Rattle.playout.specs.Sizes.{slotSize, storeSize}
 use Rattle.layout.specs.declared.buffer.Buffer.{Buffer}
 use Rattle.layout.specs.Arrays.{Machine}
-use Rattle.layout.specs.Bits.{heldIn}
+use Rattle.slot_marks.specs.Bits.{heldIn}
 use Rattle.layout.specs.WellFormed.{wellFormed}
 
 -- a well-formed buffer of n entries, at least one, with its store and an area for a frame

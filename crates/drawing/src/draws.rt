@@ -1,6 +1,4 @@
 // The third call on a reorder buffer: draw.
-use formats::tagging;
-use layout::bits;
 use layout::buffer::Buffer;
 use layout::buffer::Fixed;
 use layout::buffer::SLOT_SIZE;
@@ -10,6 +8,8 @@ use placing::areas;
 use placing::columns;
 use rtp::refusal::Refusal;
 use rtp::settings;
+use slot_marks::bits;
+use tags::tagging;
 ghost use mathlib.Core.Path.{_≡_};
 ghost use mathlib.Core.Bool.{true};
 ghost use Rattle.rtp.specs.Ranges.{inRange};

@@ -7,17 +7,16 @@ use native.Mathlib.Omega.{arith}
 use lib.ListN.{length, take, drop, set, length-append}
 use borrow.Rule.Slice.PartMut.{putMid}
 use Rattle.rtp.specs.Areas.{over}
-use Rattle.rtp.proofs.AreaLaws.{over-part}
+use Rattle.rtp.proofs.AreaLaws.{over-part, over-one, over-two}
 use Rattle.rtp.proofs.TestLaws.{by-test}
 use Rattle.formats.specs.Formats.{formatOf, stepOf}
 use Rattle.contents.specs.Contents.{Group, minEntry, gapsSize, entrySize, sizeIn}
-use Rattle.formats.specs.Codes.{noCode, codeFor}
+use Rattle.codes.specs.Codes.{noCode, codeFor}
 use Rattle.encoder.specs.Bytes.{halves, flag, firstByte, startBytes, gapBytes, entryBytes, tableBytes}
 use Rattle.formats.proofs.FormatLaws.{code-placed}
-use Rattle.formats.proofs.CodeLaws.{code-below}
+use Rattle.codes.proofs.CodeLaws.{code-below}
 use Rattle.plans.specs.Room.{rowAs, wordsAt}
 use Rattle.encoder.specs.Room.{blockGaps, runGroup, GapRoom, StartRoom, EntryRoom}
-use Rattle.encoder.proofs.StoreLaws.{over-one, over-two}
 use Rattle.encoder.proofs.GapLaws.{length-gaps}
 
 -- the first byte is a byte

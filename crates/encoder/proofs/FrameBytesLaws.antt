@@ -12,7 +12,7 @@ use Rattle.rtp.specs.Sizes.{rowWidth}
 use Rattle.rtp.specs.Areas.{over}
 use Rattle.rtp.proofs.TestLaws.{by-test, not-both}
 use Rattle.rtp.proofs.AreaLaws.{over-none, over-part, part-size}
-use Rattle.payload.specs.Rows.{Row}
+use Rattle.frame_rows.specs.Rows.{Row}
 use Rattle.plans.specs.Lists.{rowsIn, outside}
 use Rattle.encoder.specs.Bytes.{frames}
 use Rattle.plans.specs.Room.{lengthsIn}

@@ -9,12 +9,11 @@ use lib.ListN.{length, getD, take, drop, set, length-drop}
 use lib.Seq.{drop-drop, getD-drop}
 use borrow.Rule.Slice.PartMut.{putMid}
 use Rattle.rtp.specs.Areas.{over}
-use Rattle.rtp.proofs.AreaLaws.{over-none, over-part}
+use Rattle.rtp.proofs.AreaLaws.{over-none, over-part, over-one}
 use Rattle.formats.specs.Formats.{stepOf}
 use Rattle.plans.specs.Plans.{gapBetween}
 use Rattle.encoder.specs.Bytes.{halves}
 use Rattle.encoder.specs.Room.{blockGaps, Halves, GapRoom}
-use Rattle.encoder.proofs.StoreLaws.{over-one}
 
 pub length-gaps : (step w n p : ℕ) (ws : List ℕ) → length (blockGaps step w n p ws) ≡ n
 unfolding blockGaps

@@ -4,6 +4,5 @@ pub mod GapLaws
 pub mod EntryLaws
 pub mod TableLaws
 pub mod FrameBytesLaws
-pub mod RequestLaws
 pub mod PayloadLaws
 pub mod WritingLaws

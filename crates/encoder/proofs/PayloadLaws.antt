@@ -6,21 +6,21 @@ use Prim.Native.Nat.{ℕ, _+_, _-_, _*_, _/_, _%_, _^_, _≤_, _<_}
 use native.Mathlib.Omega.{arith}
 use native.Mathlib.Nat.{zero-div}
 use lib.ListN.{length, getD, take, drop, length-append}
-use lib.Dec.{ltb, leb, eqb}
+use lib.Dec.{ltb}
 use borrow.Author.Tests.{ltb-true, ltb-false}
 use borrow.Rule.Slice.PartMut.{putMid}
 use Rattle.rtp.specs.Sizes.{rowWidth, maxRows}
-use Rattle.rtp.specs.Areas.{over}
+use Rattle.rtp.specs.Areas.{over, fitted as laid}
 use Rattle.rtp.specs.Time.{difference}
-use Rattle.rtp.specs.declared.refusal.Fault.{Fault}
 use Rattle.rtp.proofs.TestLaws.{by-test}
 use Rattle.rtp.proofs.AreaLaws.{over-part}
-use Rattle.formats.specs.Formats.{formatOf, stepOf, maxGap}
+use Rattle.formats.specs.Formats.{formatOf, stepOf}
 use Rattle.contents.specs.Contents.{Group, Contents, refused, groups, sizeIn, framesIn}
-use Rattle.payload.specs.Rows.{Row}
+use Rattle.frame_rows.specs.Rows.{Row}
 use Rattle.plans.specs.Lists.{rowsIn, outside}
-use Rattle.plans.specs.Plans.{maxPayload, unwritable, gapBetween, headGap, joins, attach, follows, nextChannel, planFrom, stepBefore, payloadSize, fitting, plan}
-use Rattle.encoder.specs.Bytes.{requestBytes, tableBytes, frames}
+use Rattle.plans.specs.Plans.{maxPayload, gapBetween, planFrom, stepBefore, payloadSize, fitting, plan}
+use Rattle.payload_sizes.specs.Asking.{requestBytes}
+use Rattle.encoder.specs.Bytes.{tableBytes, frames}
 use Rattle.encoder.specs.Writings.{plannedBytes, encodedBytes}
 use Rattle.plans.specs.Room.{rowAs, wordsAt}
 use Rattle.encoder.specs.Room.{FramesRoom, timed, Near, PlanRoom, TableRoom, planBytes, WholePlan, ListRoom, PayloadRoom}
@@ -29,41 +29,7 @@ use Rattle.plans.proofs.BlockLaws.{no-plan, plan-time, frames-all}
 use Rattle.encoder.proofs.RunLaws.{first-gap}
 use Rattle.encoder.proofs.EntryLaws.{length-table}
 use Rattle.encoder.proofs.FrameBytesLaws.{length-frames}
-use Rattle.encoder.proofs.RequestLaws.{length-request}
-
--- Where there is no plan, the reason is 13
-
-abbrev Plain : Contents → Type 0
-Plain (refused q) = q ≡ unwritable
-Plain (groups gs) = Unit {0}
-
-plain-attach : (format : ℕ) (r : Row) (gap : ℕ) (x : Contents) → Plain x → Plain (attach format r gap x)
-plain-attach format r gap (refused q) h = h
-plain-attach format r gap (groups []) h = tt
-plain-attach format r gap (groups (g ∷ gs)) h =
-    by-test (joins format r g) (λ a. rw a tt) (λ a. by-test (leb (headGap g) (maxGap format)) (λ b. rw (a, b) tt) (λ b. rw (a, b) refl))
-
-plain-from : (format ch c : ℕ) (p : Row) (rs : List Row) → Plain (planFrom format ch c p rs)
-unfolding planFrom
-plain-from format ch c p [] = by-test (eqb c 0) (λ a. rw a tt) (λ a. rw a refl)
-plain-from format ch c p (r ∷ rs) =
-    let i = plain-from format ch (nextChannel ch c) r rs in
-    by-test (follows format c p r)
-    (λ a. by-test (eqb c 0) (λ b. rw (a, b) (plain-attach format r _ (planFrom format ch (nextChannel ch c) r rs) i)) (λ b. rw (a, b) i))
-    (λ a. rw a refl)
-
-plain-fitting : (format ch : ℕ) (x : Contents) → Plain x → Plain (fitting format ch x)
-plain-fitting format ch (refused q) h = h
-plain-fitting format ch (groups gs) h = by-test (ltb maxPayload (payloadSize format ch gs)) (λ a. rw a refl) (λ a. rw a tt)
-
-plain-plan : (format ch : ℕ) (rs : List Row) → Plain (plan format ch rs)
-unfolding plan
-plain-plan format ch [] = refl
-plain-plan format ch (r ∷ rs) =
-    by-test (ltb maxRows (length (r ∷ rs))) (λ a. rw a refl) (λ a. rw a (plain-fitting format ch (planFrom format ch 0 (stepBefore format r) (r ∷ rs)) (plain-from format ch 0 (stepBefore format r) (r ∷ rs))))
-
-pub plan-refused : (format ch : ℕ) (rs : List Row) (q : Fault) → plan format ch rs ≡ refused q → q ≡ unwritable
-plan-refused format ch rs q e = subst (λ (x : Contents). Plain x) e (plain-plan format ch rs)
+use Rattle.payload_sizes.proofs.RequestLaws.{length-request, lay-request, four-bits}
 
 -- What a plan says of a whole list
 
@@ -185,9 +151,10 @@ whole-bytes format request ch table bytes rs area (refused q) w = absurd w
 whole-bytes format request ch table bytes rs area (groups gs) w = refl
 
 module _ (format request ch table : ℕ) (ws bytes : List ℕ) (area : ℕ) (r : PayloadRoom format request ch table (length bytes) ws area) where
-  pub put-all : (l m z : List ℕ) (n : ℕ) → n ≡ formatOf format .header → m ≡ over (requestBytes format request) l
+  pub put-all : (l m z : List ℕ) (n : ℕ) → length l ≡ area → n ≡ formatOf format .header → m ≡ laid (requestBytes format (request % 16)) l
       → z ≡ over (planBytes format (plan format ch (rowsIn ws)) ++ frames bytes (rowsIn ws)) (take (length m - n) (drop n m))
       → putMid n (length m - n) m z ≡ over (encodedBytes (plannedBytes format request bytes (rowsIn ws) (plan format ch (rowsIn ws)))) l
-  put-all l m z n e p q =
-      over-part (requestBytes format request) (planBytes format (plan format ch (rowsIn ws)) ++ frames bytes (rowsIn ws)) l m z n (length-request format request ∙ sym e) p q
+  put-all l m z n k e p q =
+      let s : laid (requestBytes format (request % 16)) l ≡ over (requestBytes format request) l = ap (λ (x : ℕ). laid (requestBytes format x) l) (four-bits request (r .small)) ∙ lay-request format request l (omega (arith, k, r .room)) in
+      over-part (requestBytes format request) (planBytes format (plan format ch (rowsIn ws)) ++ frames bytes (rowsIn ws)) l m z n (length-request format request ∙ sym e) (p ∙ s) q
       ∙ ap (λ (s : List ℕ). over s l) (sym (whole-bytes format request ch table bytes (rowsIn ws) _ (plan format ch (rowsIn ws)) (r .list .planned)))

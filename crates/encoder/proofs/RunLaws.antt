@@ -13,8 +13,8 @@ use Rattle.rtp.specs.Sizes.{rowWidth}
 use Rattle.rtp.proofs.TestLaws.{by-test}
 use Rattle.formats.specs.Formats.{stepOf, maxGap}
 use Rattle.contents.specs.Contents.{Group, Contents, refused, groups}
-use Rattle.payload.specs.Rows.{Row}
-use Rattle.formats.specs.Codes.{noCode, codeFor}
+use Rattle.frame_rows.specs.Rows.{Row}
+use Rattle.codes.specs.Codes.{noCode, codeFor}
 use Rattle.formats.proofs.FormatLaws.{gap-small}
 use Rattle.plans.specs.Lists.{rowsIn}
 use Rattle.plans.specs.Plans.{joinsRun, gapBetween, headGap, single, joins, attach, planFrom}

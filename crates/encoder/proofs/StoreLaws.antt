@@ -1,6 +1,6 @@
 -- Laws of stores into an area that is written over from its front.
-use mathlib.Core.Path.{_≡_, refl, ap, sym, _∙_}
-use mathlib.Core.List.{List, [], _∷_, _++_}
+use mathlib.Core.Path.{_≡_, ap, sym, _∙_}
+use mathlib.Core.List.{List, _++_}
 use Prim.Native.Nat.{ℕ, suc, _+_, _≤_, _<_}
 use native.Mathlib.Omega.{arith}
 use native.Mathlib.Numerals.{add-one}
@@ -24,15 +24,3 @@ over-next s l i h k =
 
 pub over-whole : (s l : List ℕ) (i : ℕ) → length s ≤ i → over (take i s) l ≡ over s l
 over-whole s l i h = ap (λ (m : List ℕ). over m l) (take-all i s h)
-
--- one store and two at the front
-pub over-one : (l : List ℕ) (a : ℕ) → 1 ≤ length l → set l 0 a ≡ over (a ∷ []) l
-unfolding over
-over-one [] a h = absurd (omega arith)
-over-one (x ∷ l) a h = refl
-
-pub over-two : (l : List ℕ) (a b : ℕ) → 2 ≤ length l → set (set l 0 a) 1 b ≡ over (a ∷ b ∷ []) l
-unfolding over
-over-two [] a b h = absurd (omega arith)
-over-two (x ∷ []) a b h = absurd (omega arith)
-over-two (x ∷ y ∷ l) a b h = refl

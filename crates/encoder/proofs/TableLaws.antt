@@ -15,7 +15,7 @@ use Rattle.rtp.proofs.TestLaws.{by-test}
 use Rattle.rtp.proofs.AreaLaws.{over-none, over-part}
 use Rattle.formats.specs.Formats.{stepOf}
 use Rattle.contents.specs.Contents.{Group, Contents, refused, groups, entrySize, sizeIn}
-use Rattle.payload.specs.Rows.{Row}
+use Rattle.frame_rows.specs.Rows.{Row}
 use Rattle.formats.proofs.FormatLaws.{gap-small}
 use Rattle.plans.specs.Lists.{rowsIn}
 use Rattle.plans.specs.Plans.{planFrom}

@@ -1,4 +1,4 @@
--- Laws of writing and measuring a payload, case by case.
+-- Laws of writing a payload, case by case.
 use mathlib.Core.Path.{_≡_, refl, ap, sym, _∙_, subst}
 use mathlib.Core.List.{List, _++_}
 use mathlib.Core.Bool.{true, false}
@@ -15,47 +15,20 @@ use Rattle.rtp.specs.declared.refusal.Refusal.the-variants.{SettingsOutOfRange,
 use Rattle.rtp.proofs.TestLaws.{by-test}
 use Rattle.rtp.proofs.AreaLaws.{over-none}
 use Rattle.formats.specs.Formats.{formatOf}
-use Rattle.contents.specs.Contents.{Group, Contents, refused, groups, sizeIn}
+use Rattle.contents.specs.Contents.{Contents, refused, groups}
 use Rattle.plans.specs.declared.planning.Sizes.{Sizes}
-use Rattle.plans.specs.declared.planning.ListPlan.{ListPlan}
-use Rattle.encoder.specs.declared.writing.Written.{Written}
+use Rattle.payload_sizes.specs.declared.measuring.Written.{Written}
+use Rattle.payload_sizes.specs.Asking.{requestBytes, maxRequest, askable}
+use Rattle.payload_sizes.specs.Measures.{writtenNumbers, plannedNumbers, refusedNumbers, measured}
 use Rattle.plans.specs.Lists.{rowsIn, whole, outside}
 use Rattle.plans.specs.Plans.{maxPayload, unwritable, payloadSize, plan}
-use Rattle.encoder.specs.Bytes.{requestBytes, tableBytes, frames}
-use Rattle.encoder.specs.Writings.{Encoded, noBytes, bytesOf, maxRequest, askable, plannedBytes, encoded, roomFor, writing, writtenNumbers, encodedNumbers, encodedBytes, plannedNumbers, refusedNumbers, measured}
-use Rattle.plans.specs.Room.{listAnswer}
+use Rattle.encoder.specs.Bytes.{tableBytes, frames}
+use Rattle.encoder.specs.Writings.{Encoded, noBytes, bytesOf, plannedBytes, encoded, roomFor, writing, encodedNumbers, encodedBytes}
 use Rattle.encoder.specs.Room.{WholePlan, PayloadRoom}
 pub use Rattle.rtp.proofs.RangeLaws.{in-range-some}
-use Rattle.encoder.proofs.RequestLaws.{asked}
-use Rattle.encoder.proofs.PayloadLaws.{plan-refused, listed, length-bytes}
-
--- The plan that an answer stands for
-
-abbrev tableOf : ListPlan → ℕ
-tableOf (ListPlan.Fits s) = s .table
-tableOf ListPlan.Unwritable = 0
-
-abbrev payloadOf : ListPlan → ℕ
-payloadOf (ListPlan.Fits s) = s .payload
-payloadOf ListPlan.Unwritable = 0
-
-pub record Answered (format ch : ℕ) (x : Contents) (s : Sizes) : Type 0 where
-  pub table-groups : List Group
-  pub planned : x ≡ groups table-groups
-  pub table : s .table ≡ sizeIn format table-groups
-  pub payload : s .payload ≡ payloadSize format ch table-groups
-
-pub answered : (format ch : ℕ) (x : Contents) (s : Sizes) → ListPlan.Fits s ≡ listAnswer format ch x → Answered format ch x s
-unfolding listAnswer
-answered format ch (refused q) s e = let z : _≡_ {A = ℕ} 0 1 = cc in absurd (omega arith)
-answered format ch (groups gs) s e = record { table-groups = gs; planned = refl; table = ap tableOf e; payload = ap payloadOf e }
-
-pub unanswered : (format ch : ℕ) (ws : List ℕ) → ListPlan.Unwritable ≡ listAnswer format ch (plan format ch (rowsIn ws)) → plan format ch (rowsIn ws) ≡ refused unwritable
-unanswered format ch ws e = by-plan (plan format ch (rowsIn ws)) refl e
-  where
-    by-plan : (x : Contents) → plan format ch (rowsIn ws) ≡ x → ListPlan.Unwritable ≡ listAnswer format ch x → plan format ch (rowsIn ws) ≡ refused unwritable
-    by-plan (refused q) x y = x ∙ ap refused (plan-refused format ch (rowsIn ws) q x)
-    by-plan (groups gs) x y = let z : _≡_ {A = ℕ} 0 1 = unfold listAnswer in cc in absurd (omega arith)
+use Rattle.payload_sizes.proofs.RequestLaws.{asked}
+use Rattle.payload_sizes.proofs.MeasureLaws.{Answered}
+use Rattle.encoder.proofs.PayloadLaws.{listed, length-bytes}
 
 -- Writing
 
@@ -115,28 +88,6 @@ module _ (st : Settings) (request : ℕ) (ws bytes : List ℕ) (area : ℕ) (i :
             planned = subst (λ (x : Contents). WholePlan (st .format) (st .channels) (s .table) (area - formatOf (st .format) .header) x) (sym (d .planned)) (d .table, omega (arith, d .table, d .payload));
           };
         }
-
--- Measuring
-
-pub measured-out : (st : Settings) (ws : List ℕ) → inRange st ≡ false → refusedNumbers SettingsOutOfRange ≡ measured st ws
-unfolding measured
-measured-out st ws h = rw h
-
-module _ (st : Settings) (ws : List ℕ) (i : inRange st ≡ true) where
-  pub measured-cut : (length ws % rowWidth ≡ 0 → ⊥) → refusedNumbers Unwritable ≡ measured st ws
-  unfolding measured
-  measured-cut w = rw (i, ne-eqb (length ws % rowWidth) 0 w)
-
-  module _ (w : length ws % rowWidth ≡ 0) where
-    pub measured-plan : measured st ws ≡ plannedNumbers (st .format) (st .channels) (plan (st .format) (st .channels) (rowsIn ws))
-    unfolding measured
-    measured-plan = rw (i, eq-eqb (length ws % rowWidth) 0 w)
-
-    pub measured-none : plan (st .format) (st .channels) (rowsIn ws) ≡ refused unwritable → refusedNumbers Unwritable ≡ measured st ws
-    measured-none e = sym (measured-plan ∙ ap (plannedNumbers (st .format) (st .channels)) e)
-
-    pub measured-all : (s : Sizes) → Answered (st .format) (st .channels) (plan (st .format) (st .channels) (rowsIn ws)) s → writtenNumbers (Written.Bytes (s .payload)) ≡ measured st ws
-    measured-all s d = sym (measured-plan ∙ ap (plannedNumbers (st .format) (st .channels)) (d .planned) ∙ rw (← (d .payload)))
 
 -- what is measured is what is encoded, where the rows lie inside their bytes
 pub numbers-encoded : (st : Settings) (request : ℕ) (ws bytes : List ℕ) → 0 < st .channels → outside (length bytes) (rowsIn ws) ≡ false

@@ -1,17 +1,12 @@
--- The bytes of a payload: the mode request, a plan and its frames. Reserved and padding bits are 0, and so is the first entry's DIS1, since a plan's first gap is.
+-- The bytes of a payload after its mode request: a plan and its frames. Reserved and padding bits are 0, and so is the first entry's DIS1, since a plan's first gap is.
 use Prim.Native.Nat.{ℕ, _+_, _*_}
-use lib.Dec.{eqb}
 use mathlib.Core.List.{List, [], _∷_, _++_}
 use mathlib.Core.Bool.{Bool, true, false, cond}
 use lib.ListN.{length, take, drop}
 use Rattle.formats.specs.Formats.{formatOf}
 use Rattle.contents.specs.Contents.{Group}
-use Rattle.payload.specs.Rows.{Row}
-use Rattle.formats.specs.Codes.{codeFor}
-
--- the bytes before the table: none, or the mode request in the high half of one byte, with four reserved bits after it (RFC 4867's payload header)
-unfoldable pub requestBytes : ℕ → ℕ → List ℕ
-requestBytes format request = cond (eqb (formatOf format .header) 0) [] (16 * request ∷ [])
+use Rattle.frame_rows.specs.Rows.{Row}
+use Rattle.codes.specs.Codes.{codeFor}
 
 -- 4-bit numbers in bytes, high half first, with four zero bits after an odd number
 unfoldable pub halves : List ℕ → List ℕ

@@ -7,13 +7,13 @@ use lib.ListN.{length, getD, drop}
 use Rattle.rtp.specs.Sizes.{maxRows, rowWidth}
 use Rattle.contents.specs.Contents.{Group, Contents, refused, groups, minEntry, entrySize, sizeIn, framesIn}
 use Rattle.formats.specs.Formats.{formatOf, stepOf, maxGap}
-use Rattle.payload.specs.Rows.{Row}
+use Rattle.frame_rows.specs.Rows.{Row}
 use Rattle.plans.specs.Lists.{rowsIn, outside}
-use Rattle.formats.specs.Codes.{noCode, codeFor}
+use Rattle.codes.specs.Codes.{noCode, codeFor}
 use Rattle.plans.specs.Plans.{headGap, gapBetween, joins, planFrom, plan}
 use Rattle.plans.specs.Room.{wordsAt, rowAs, lengthsIn}
 use Rattle.encoder.specs.Bytes.{tableBytes}
-use Rattle.encoder.specs.Writings.{maxRequest}
+use Rattle.payload_sizes.specs.Asking.{maxRequest}
 
 -- Frames
 

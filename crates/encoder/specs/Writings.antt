@@ -1,20 +1,20 @@
 -- A payload written alone: `writing` is the whole meaning of a call of `write_payload`, refusals included.
 use Prim.Native.Nat.{ℕ}
 use mathlib.Core.List.{List, [], _++_}
-use mathlib.Core.Bool.{Bool, false, cond}
+use mathlib.Core.Bool.{cond}
 use lib.ListN.{length}
 use lib.Dec.{ltb}
-use Rattle.rtp.specs.Ranges.{inRange}
 use Rattle.rtp.specs.Refusals.{number}
 use Rattle.rtp.specs.declared.settings.Settings.{Settings}
 use Rattle.rtp.specs.declared.refusal.Refusal.{Refusal}
 use Rattle.rtp.specs.declared.refusal.Refusal.the-variants.{SettingsOutOfRange, RowOutsideBytes, Unwritable, AreaTooShort}
 use Rattle.contents.specs.Contents.{Contents, refused, groups}
-use Rattle.payload.specs.Rows.{Row}
-use Rattle.encoder.specs.declared.writing.Written.{Written}
+use Rattle.frame_rows.specs.Rows.{Row}
 use Rattle.plans.specs.Lists.{rowsIn, whole, outside}
-use Rattle.plans.specs.Plans.{payloadSize, plan}
-use Rattle.encoder.specs.Bytes.{requestBytes, tableBytes, frames}
+use Rattle.plans.specs.Plans.{plan}
+use Rattle.payload_sizes.specs.Asking.{requestBytes, askable}
+use Rattle.payload_sizes.specs.Measures.{Numbers}
+use Rattle.encoder.specs.Bytes.{tableBytes, frames}
 
 -- bytes to be written, or why there are none
 pub data Encoded : Type 0 where
@@ -34,14 +34,6 @@ abbrev pub roomFor : ℕ → Encoded → Encoded
 roomFor area (noBytes q) = noBytes q
 roomFor area (bytesOf p) = cond (ltb area (length p)) (noBytes AreaTooShort) (bytesOf p)
 
--- the largest mode request: it has 4 bits
-abbrev pub maxRequest : ℕ
-maxRequest = 15
-
--- what a writer is asked with is in range: a mode request over 15 is a setting out of range in every format (document 02, P1)
-unfoldable pub askable : Settings → ℕ → Bool
-askable st request = cond (ltb maxRequest request) false (inRange st)
-
 -- writing a list of so many words into an area of so many bytes: the order is 11, 14, 13, 12
 unfoldable pub writing : Settings → ℕ → List ℕ → List ℕ → ℕ → Encoded
 writing st request ws bytes area =
@@ -50,17 +42,7 @@ writing st request ws bytes area =
     (cond (whole ws) (roomFor area (encoded st request bytes (rowsIn ws))) (noBytes Unwritable)))
     (noBytes SettingsOutOfRange)
 
--- The answer in numbers: the refusal number or 0, and the byte count, 0 on refusal
-pub record Numbers : Type 0 where
-  pub refusal : ℕ
-  pub count : ℕ
-
--- of the code's answer, case by case
-abbrev pub writtenNumbers : Written → Numbers
-writtenNumbers (Written.Refused r) = record { refusal = number r; count = 0 }
-writtenNumbers (Written.Bytes n) = record { refusal = 0; count = n }
-
--- of what writing comes to
+-- the answer of what writing comes to, in numbers
 unfoldable pub encodedNumbers : Encoded → Numbers
 encodedNumbers (noBytes r) = record { refusal = number r; count = 0 }
 encodedNumbers (bytesOf p) = record { refusal = 0; count = length p }
@@ -69,19 +51,3 @@ encodedNumbers (bytesOf p) = record { refusal = 0; count = length p }
 unfoldable pub encodedBytes : Encoded → List ℕ
 encodedBytes (noBytes r) = []
 encodedBytes (bytesOf p) = p
-
--- Measuring: the byte count of a list's payload, whatever its mode request, or why it has none. Whether the rows lie inside the bytes that they point into
--- is not asked.
-
-abbrev pub refusedNumbers : Refusal → Numbers
-refusedNumbers r = record { refusal = number r; count = 0 }
-
-abbrev pub plannedNumbers : ℕ → ℕ → Contents → Numbers
-plannedNumbers format ch (refused f) = refusedNumbers (f .refusal)
-plannedNumbers format ch (groups gs) = record { refusal = 0; count = payloadSize format ch gs }
-
-unfoldable pub measured : Settings → List ℕ → Numbers
-measured st ws =
-    cond (inRange st)
-    (cond (whole ws) (plannedNumbers (st .format) (st .channels) (plan (st .format) (st .channels) (rowsIn ws))) (refusedNumbers Unwritable))
-    (refusedNumbers SettingsOutOfRange)

@@ -1,19 +1,19 @@
 // Tables of contents and frames, written from left to right.
+use codes::coding;
 use contents::entries;
-use formats::codes;
 use formats::facts;
-use formats::tagging;
 use plans::lists;
 use plans::lists::RowWords;
 use plans::planning;
 use rtp::sizes::ROW_WIDTH;
+use tags::tagging;
 ghost use mathlib.Core.Path.{_≡_};
 ghost use Prim.Native.Nat.{_≤_, _<_};
 ghost use lib.ListN.{length};
 ghost use Rattle.rtp.specs.Areas.{over};
 ghost use Rattle.formats.specs.Formats.{stepOf};
 ghost use Rattle.plans.specs.Lists.{rowsIn};
-ghost use Rattle.formats.specs.Codes.{noCode, codeFor};
+ghost use Rattle.codes.specs.Codes.{noCode, codeFor};
 ghost use Rattle.plans.specs.Plans.{planFrom};
 ghost use Rattle.encoder.specs.Bytes.{flag, halves, firstByte, startBytes, entryBytes, frames};
 ghost use Rattle.plans.specs.Room.{rowAs};
@@ -76,7 +76,7 @@ fn first_byte(format: u8, more: bool, class: u32, length: u32) -> u8
     requires { ⌜ codeFor format class length < noCode ⌝ }
     ensures { λ r. ⌜ r ≡ firstByte format more class length ⌝ }
 {
-    let code = codes::code_for(format, class, length) as usize;
+    let code = coding::code_for(format, class, length) as usize;
     let facts = facts::format_of(format);
     (flag_of(more) + facts.unit * code) as u8
 }

@@ -1,6 +1,3 @@
 pub mod TableRule
-pub mod TagLaws
 pub mod FormatLaws
-pub mod CodeLaws
-pub mod AmrLaws
 pub mod NumberLaws

@@ -1,5 +1,7 @@
 -- Document 01, "G.719 tables of contents" and "GSM-HR tables", and document 02, P1: frame codes, classes and lengths.
 use Prim.Native.Nat.{ℕ, _+_, _-_, _*_, _/_, _%_}
+use mathlib.Core.Path.{_≡_}
+use mathlib.Core.Logic.{_⊎_}
 use mathlib.Core.Bool.{Bool, cond}
 use mathlib.Core.List.{List, [], _∷_}
 use lib.ListN.{getD}
@@ -35,6 +37,10 @@ damagedSid = damaged + sid
 
 abbrev pub maxClass : ℕ
 maxClass = damagedSid
+
+-- the class of a frame: sound or SID, good or damaged
+abbrev pub FrameClass : ℕ → Type 0
+FrameClass class = (class ≡ sound) ⊎ ((class ≡ sid) ⊎ ((class ≡ damagedSound) ⊎ (class ≡ damagedSid)))
 
 -- the mark of a reserved code
 abbrev pub reserved : ℕ

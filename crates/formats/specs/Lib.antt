@@ -1,5 +1,3 @@
 pub mod Formats
 pub mod Frames
-pub mod Codes
-pub mod Tags
 pub mod Room

@@ -1,6 +1,4 @@
 // What each format is. No other module tests a format's number.
-use crate::amr::AMR_SID;
-use crate::amr::AMR_WB_SID;
 use rtp::settings::AMR;
 use rtp::settings::AMR_WB;
 use rtp::settings::G719;
@@ -35,6 +33,11 @@ pub struct Format {
 
 // No type of a format is a SID.
 const NO_SID: usize = 32;
+
+// The types of AMR and AMR-WB that are SIDs.
+pub const AMR_SID: usize = 8;
+
+pub const AMR_WB_SID: usize = 9;
 
 // A code of 5 bits: two reserved bits lie below it.
 const FIVE_BIT_UNIT: usize = 4;

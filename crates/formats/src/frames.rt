@@ -61,7 +61,7 @@ const G719_LENGTHS: [usize; 32] = [
 ];
 
 // The bytes of a GSM-HR frame.
-pub(crate) const GSM_HR_FRAME: usize = 14;
+pub const GSM_HR_FRAME: usize = 14;
 
 pub struct Frame {
     pub class: usize,

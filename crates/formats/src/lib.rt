@@ -1,6 +1,4 @@
-// The payload formats as data: what each is, its frame table, and the codes of its frames.
+// The payload formats as data: what each is, and its frame table.
 mod amr;
-pub mod codes;
 pub mod facts;
 pub mod frames;
-pub mod tagging;

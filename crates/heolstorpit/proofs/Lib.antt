@@ -1,4 +1,3 @@
-pub mod AnswerLaws
+pub mod OutcomeLaws
 pub mod SizeLaws
 pub mod PlaceLaws
-pub mod ReceptionAnswerLaws

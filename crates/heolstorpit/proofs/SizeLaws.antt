@@ -13,13 +13,15 @@ use Rattle.rtp.proofs.TestLaws.{by-test}
 use Rattle.contents.specs.Contents.{Contents, refused, groups}
 use Rattle.plans.specs.Lists.{rowsIn, whole, outside}
 use Rattle.plans.specs.Plans.{maxPayload, plan}
-use Rattle.encoder.specs.declared.writing.Written.{Written}
-use Rattle.encoder.specs.Writings.{Encoded, noBytes, bytesOf, askable, plannedBytes, encoded, roomFor, writing, writtenNumbers, encodedNumbers}
+use Rattle.encoder.specs.Writings.{Encoded, noBytes, bytesOf, plannedBytes, encoded, roomFor, writing, encodedNumbers}
+use Rattle.payload_sizes.specs.Measures.{Numbers}
+use Rattle.payload_sizes.specs.Asking.{askable}
 use Rattle.encoder.proofs.PayloadLaws.{listed, length-bytes}
-use Rattle.encoder.proofs.RequestLaws.{asked}
+use Rattle.payload_sizes.proofs.RequestLaws.{asked}
 use Rattle.encoder.proofs.WritingLaws.{in-range-some}
-use Rattle.sender.specs.Parts.{Parts, noParts, partsOf, primaryTime, parts}
-use Rattle.sender.specs.Packets.{Heading, headerBytes, bodyBytes, packetType, redundancyMissing, withinPacket, assembledFrom, assembled, countsFit, sending}
+use Rattle.packet_parts.specs.Parts.{Parts, noParts, partsOf, primaryTime, parts, countsFit}
+use Rattle.sender.specs.Packets.{bodyBytes, packetType, redundancyMissing, withinPacket, assembledFrom, assembled, sending}
+use Rattle.packet_parts.specs.Headings.{Heading, headerBytes}
 
 abbrev Short : ℕ → Encoded → Type 0
 Short m (noBytes r) = Unit {0}
@@ -29,10 +31,10 @@ room-short : (m area : ℕ) (x : Encoded) → Short m x → Short m (roomFor are
 room-short m area (noBytes r) s = tt
 room-short m area (bytesOf p) s = by-test (ltb area (length p)) (λ a. rw a tt) (λ a. rw a s)
 
-count-short : (m n : ℕ) (y : Encoded) → Short m y → writtenNumbers (Written.Bytes n) ≡ encodedNumbers y → n ≤ m
+count-short : (m : ℕ) (n : Numbers) (y : Encoded) → Short m y → n ≡ encodedNumbers y → n .count ≤ m
 unfolding encodedNumbers
-count-short m n (noBytes q) s g = let c : n ≡ 0 = ap (λ k. k .count) g in omega (arith, c)
-count-short m n (bytesOf p) s g = let c : n ≡ length p = ap (λ k. k .count) g in omega (arith, c, s)
+count-short m n (noBytes q) s g = let c : n .count ≡ 0 = ap (λ k. k .count) g in omega (arith, c)
+count-short m n (bytesOf p) s g = let c : n .count ≡ length p = ap (λ k. k .count) g in omega (arith, c, s)
 
 -- Payloads
 
@@ -52,9 +54,9 @@ writing-short st request ws bytes area =
     (λ b. by-test (whole ws) (λ c. rw (a, b, c) (room-short maxPayload area (encoded st request bytes (rowsIn ws)) (encoded-short st request ws bytes (in-range-some st (asked st request a .settings)) b))) (λ c. rw (a, b, c) tt)))
     (λ a. rw a tt)
 
-pub payload-count-fits : (st : Settings) (request : ℕ) (ws bytes : List ℕ) (area : ℕ) (x : Written) (n : ℕ) → x ≡ Written.Bytes n
-    → writtenNumbers x ≡ encodedNumbers (writing st request ws bytes area) → n ≤ maxPayload
-payload-count-fits st request ws bytes area x n e k = count-short maxPayload n (writing st request ws bytes area) (writing-short st request ws bytes area) (rw e at k)
+pub payload-count-fits : (st : Settings) (request : ℕ) (ws bytes : List ℕ) (area : ℕ) (n : Numbers) → n ≡ encodedNumbers (writing st request ws bytes area)
+    → n .count ≤ maxPayload
+payload-count-fits st request ws bytes area n = count-short maxPayload n (writing st request ws bytes area) (writing-short st request ws bytes area)
 
 -- Packets
 
@@ -73,6 +75,6 @@ sending-short st request h counts ws bytes area =
     (λ b. by-test (countsFit counts ws) (λ c. rw (a, b, c) (room-short maxPacket area (assembled st request h counts bytes (rowsIn ws)) (assembled-short st h (primaryTime counts (rowsIn ws)) (parts st request bytes (primaryTime counts (rowsIn ws)) counts (rowsIn ws))))) (λ c. rw (a, b, c) tt)))
     (λ a. rw a tt)
 
-pub packet-count-fits : (st : Settings) (request : ℕ) (h : Heading) (counts ws bytes : List ℕ) (area : ℕ) (x : Written) (n : ℕ) → x ≡ Written.Bytes n
-    → writtenNumbers x ≡ encodedNumbers (sending st request h counts ws bytes area) → n ≤ maxPacket
-packet-count-fits st request h counts ws bytes area x n e k = count-short maxPacket n (sending st request h counts ws bytes area) (sending-short st request h counts ws bytes area) (rw e at k)
+pub packet-count-fits : (st : Settings) (request : ℕ) (h : Heading) (counts ws bytes : List ℕ) (area : ℕ) (n : Numbers)
+    → n ≡ encodedNumbers (sending st request h counts ws bytes area) → n .count ≤ maxPacket
+packet-count-fits st request h counts ws bytes area n = count-short maxPacket n (sending st request h counts ws bytes area) (sending-short st request h counts ws bytes area)

@@ -1,14 +1,12 @@
 -- What C is answered, in the numbers that the library's definitions give: field by field.
 use Rattle.packet.specs.Readings.{Numbers}
-use Rattle.encoder.specs.Writings.{Numbers as WrittenNumbers}
+use Rattle.payload_sizes.specs.Measures.{Numbers as WrittenNumbers}
 use Rattle.reorder.specs.Calls.{NewOutcome, OfferNumbers}
 use Rattle.drawing.specs.Calls.{DrawNumbers}
 use Rattle.heolstorpit.specs.declared.reading.HspReading.{HspReading}
 use Rattle.heolstorpit.specs.declared.writing.HspWritten.{HspWritten}
 use Rattle.heolstorpit.specs.declared.buffers.HspFresh.{HspFresh}
-use Rattle.heolstorpit.specs.declared.buffers.OfferFields.{OfferFields}
 use Rattle.heolstorpit.specs.declared.buffers.HspOffered.{HspOffered}
-use Rattle.heolstorpit.specs.declared.buffers.DrawFields.{DrawFields}
 use Rattle.heolstorpit.specs.declared.buffers.HspDrawn.{HspDrawn}
 
 -- hsp_reading
@@ -24,19 +22,7 @@ writtenAnswer r = record { refusal = r .refusal; count = r .length }
 abbrev pub freshAnswer : HspFresh → NewOutcome
 freshAnswer r = record { refusal = r .refusal; buffer = r .buffer }
 
--- hsp_offered but for the buffer: as the code holds it by itself, and in the struct
-abbrev pub offerFields : OfferFields → OfferNumbers
-offerFields r = record {
-  refusal = r .refusal;
-  offset = r .offset;
-  late = r .late;
-  far = r .far;
-  repeated = r .repeated;
-  better = r .better;
-  noRoom = r .«no_room»;
-  inserted = r .inserted;
-}
-
+-- hsp_offered but for the buffer
 abbrev pub offeredAnswer : HspOffered → OfferNumbers
 offeredAnswer r = record {
   refusal = r .refusal;
@@ -49,9 +35,6 @@ offeredAnswer r = record {
   inserted = r .inserted;
 }
 
--- hsp_drawn but for the buffer, likewise
-abbrev pub drawFields : DrawFields → DrawNumbers
-drawFields r = record { refusal = r .refusal; empty = r .empty; time = r .time; channel = r .channel; class = r .«frame_class»; length = r .length; primary = r .primary }
-
+-- hsp_drawn but for the buffer
 abbrev pub drawnAnswer : HspDrawn → DrawNumbers
 drawnAnswer r = record { refusal = r .refusal; empty = r .empty; time = r .time; channel = r .channel; class = r .«frame_class»; length = r .length; primary = r .primary }

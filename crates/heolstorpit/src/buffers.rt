@@ -1,18 +1,13 @@
 // hsp_new, hsp_offer and hsp_draw: the calls on a reorder buffer.
+use c_answers::buffer_answers;
 use drawing::draws;
-use drawing::draws::DrawAnswer;
 use layout::buffer::Buffer;
 use reorder::calls;
-use reorder::calls::NewAnswer;
-use reorder::calls::OfferAnswer;
-use rtp::refusal;
 use rtp::settings::Settings;
 ghost use mathlib.Core.Path.{_≡_};
-ghost use Prim.Native.Nat.{_≤_};
-ghost use Rattle.rtp.specs.Sizes.{maxPacket};
-ghost use Rattle.reorder.specs.Calls.{newCall, offerNumbers, offerCall};
-ghost use Rattle.drawing.specs.Calls.{drawNumbers, drawCall};
-ghost use Rattle.heolstorpit.specs.Answers.{freshAnswer, offerFields, offeredAnswer, drawFields, drawnAnswer};
+ghost use Rattle.reorder.specs.Calls.{newCall, offerCall};
+ghost use Rattle.drawing.specs.Calls.{drawCall};
+ghost use Rattle.heolstorpit.specs.Answers.{freshAnswer, offeredAnswer, drawnAnswer};
 
 // hsp_fresh: the refusal number or 0.
 #[repr(C)]
@@ -58,55 +53,9 @@ pub extern "C" fn hsp_new(settings: Settings) -> HspFresh
     let fresh = calls::new(settings);
     let buffer = fresh.buffer;
     let answer = fresh.answer;
-    match answer {
-        NewAnswer::Accepted => HspFresh { refusal: 0, buffer },
-        NewAnswer::Refused(reason) => HspFresh {
-            refusal: refusal::refusal_number(reason),
-            buffer,
-        },
-    }
-}
-
-// hsp_offered but for the buffer.
-pub struct OfferFields {
-    pub refusal: u32,
-    pub offset: u32,
-    pub late: u32,
-    pub far: u32,
-    pub repeated: u32,
-    pub better: u32,
-    pub no_room: u32,
-    pub inserted: u32,
-}
-
-fn offer_fields(answer: OfferAnswer) -> OfferFields
-    requires { ⌜ offerNumbers answer .offset ≤ maxPacket ⌝ }
-    ensures { λ r. ⌜ offerFields r ≡ offerNumbers answer ⌝ }
-{
-    match answer {
-        OfferAnswer::Judged(tally) => OfferFields {
-            refusal: 0,
-            offset: 0,
-            late: tally.late,
-            far: tally.far,
-            repeated: tally.repeated,
-            better: tally.better,
-            no_room: tally.no_room,
-            inserted: tally.inserted,
-        },
-        OfferAnswer::Refused(fault) => {
-            let reason = fault.refusal;
-            OfferFields {
-                refusal: refusal::refusal_number(reason),
-                offset: fault.offset as u32,
-                late: 0,
-                far: 0,
-                repeated: 0,
-                better: 0,
-                no_room: 0,
-                inserted: 0,
-            }
-        }
+    HspFresh {
+        refusal: buffer_answers::new_number(answer),
+        buffer,
     }
 }
 
@@ -123,10 +72,10 @@ pub extern "C" fn hsp_offer(
     let offered = calls::offer(buffer, packet, rows, store);
     let left = offered.buffer;
     let answer = offered.answer;
-    let fields = offer_fields(answer);
+    let fields = buffer_answers::offer_fields(answer);
     HspOffered {
         refusal: fields.refusal,
-        offset: fields.offset,
+        offset: fields.offset as u32,
         late: fields.late,
         far: fields.far,
         repeated: fields.repeated,
@@ -134,51 +83,6 @@ pub extern "C" fn hsp_offer(
         no_room: fields.no_room,
         inserted: fields.inserted,
         buffer: left,
-    }
-}
-
-// hsp_drawn but for the buffer.
-pub struct DrawFields {
-    pub refusal: u32,
-    pub empty: u32,
-    pub time: u32,
-    pub channel: u32,
-    pub frame_class: u32,
-    pub length: u32,
-    pub primary: u32,
-}
-
-fn draw_fields(answer: DrawAnswer) -> DrawFields
-    ensures { λ r. ⌜ drawFields r ≡ drawNumbers answer ⌝ }
-{
-    match answer {
-        DrawAnswer::Frame(frame) => DrawFields {
-            refusal: 0,
-            empty: 0,
-            time: frame.time,
-            channel: frame.channel,
-            frame_class: frame.class,
-            length: frame.length,
-            primary: frame.primary,
-        },
-        DrawAnswer::Empty => DrawFields {
-            refusal: 0,
-            empty: 1,
-            time: 0,
-            channel: 0,
-            frame_class: 0,
-            length: 0,
-            primary: 0,
-        },
-        DrawAnswer::Refused(reason) => DrawFields {
-            refusal: refusal::refusal_number(reason),
-            empty: 0,
-            time: 0,
-            channel: 0,
-            frame_class: 0,
-            length: 0,
-            primary: 0,
-        },
     }
 }
 
@@ -190,7 +94,7 @@ pub extern "C" fn hsp_draw(buffer: Buffer, store: &[u8], area: &mut [u8]) -> Hsp
     let drawn = draws::draw(buffer, store, area);
     let left = drawn.buffer;
     let answer = drawn.answer;
-    let fields = draw_fields(answer);
+    let fields = buffer_answers::draw_fields(answer);
     HspDrawn {
         refusal: fields.refusal,
         empty: fields.empty,

@@ -1,7 +1,6 @@
 // hsp_write_packet: a packet written.
 use crate::writing::HspWritten;
-use encoder::writing::Written;
-use rtp::refusal;
+use c_answers::write_answers;
 use rtp::settings::Settings;
 use sender::packets;
 ghost use mathlib.Core.Path.{_≡_};
@@ -31,7 +30,7 @@ pub extern "C" fn hsp_write_packet(
         (encodedBytes (sending settings «mode_request» (record { marker = marker; sequence = sequence; source = source }) (now (counts .entry))
         (now (rows .entry)) (now (bytes .entry)) (length (now (out .entry))))) (now (out .entry))) ⌝ }
 {
-    match packets::write_packet(
+    let answer = packets::write_packet(
         settings,
         mode_request,
         marker,
@@ -41,14 +40,10 @@ pub extern "C" fn hsp_write_packet(
         rows,
         bytes,
         out,
-    ) {
-        Written::Refused(reason) => HspWritten {
-            refusal: refusal::refusal_number(reason),
-            length: 0,
-        },
-        Written::Bytes(count) => HspWritten {
-            refusal: 0,
-            length: count as u32,
-        },
+    );
+    let fields = write_answers::written_fields(answer);
+    HspWritten {
+        refusal: fields.refusal,
+        length: fields.length as u32,
     }
 }

@@ -1,7 +1,6 @@
 // hsp_read: a packet read into frame rows.
+use c_answers::read_answers;
 use packet::reading;
-use packet::reading::Reading;
-use rtp::refusal;
 use rtp::settings::Settings;
 ghost use mathlib.Core.Path.{_≡_};
 ghost use lib.ListN.{length};
@@ -28,29 +27,16 @@ pub extern "C" fn hsp_read(settings: Settings, packet: &[u8], rows: &mut [u32]) 
     ensures { λ r. ⌜ (readingAnswer r ≡ outcomeNumbers (reading settings (length (now (rows .entry))) (now (packet .entry))))
         × (now (rows .exit) ≡ over (outcomeWords (reading settings (length (now (rows .entry))) (now (packet .entry)))) (now (rows .entry))) ⌝ }
 {
-    match reading::read(settings, packet, rows) {
-        Reading::Refused(fault) => {
-            let reason = fault.refusal;
-            HspReading {
-                refusal: refusal::refusal_number(reason),
-                offset: fault.offset as u32,
-                rows: 0,
-                marker: 0,
-                sequence: 0,
-                timestamp: 0,
-                source: 0,
-                mode_request: 0,
-            }
-        }
-        Reading::Read(found) => HspReading {
-            refusal: 0,
-            offset: 0,
-            rows: found.rows,
-            marker: found.marker as u32,
-            sequence: found.sequence as u32,
-            timestamp: found.timestamp,
-            source: found.source,
-            mode_request: found.mode_request as u32,
-        },
+    let answer = reading::read(settings, packet, rows);
+    let fields = read_answers::reading_fields(answer);
+    HspReading {
+        refusal: fields.refusal,
+        offset: fields.offset as u32,
+        rows: fields.rows,
+        marker: fields.marker,
+        sequence: fields.sequence,
+        timestamp: fields.timestamp,
+        source: fields.source,
+        mode_request: fields.mode_request,
     }
 }

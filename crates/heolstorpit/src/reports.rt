@@ -1,9 +1,7 @@
 // hsp_reception_new, hsp_reception_packet and hsp_reception_report: the reception reports of RFC 3550.
+use c_answers::reception_answers;
 use reception::calls;
-use reception::calls::PacketAnswer;
-use reception::calls::ReportAnswer;
-use reception::record::Reception;
-use rtp::refusal;
+use validity::record::Reception;
 ghost use mathlib.Core.Path.{_≡_};
 ghost use Rattle.reception.specs.Calls.{fresh, packetCall, reportCall};
 ghost use Rattle.heolstorpit.specs.ReceptionAnswers.{receivedAnswer, reportedAnswer};
@@ -46,22 +44,11 @@ pub extern "C" fn hsp_reception_packet(
     let received = calls::packet(reception, sequence, timestamp, arrival);
     let left = received.reception;
     let answer = received.answer;
-    match answer {
-        PacketAnswer::Valid => HspReceived {
-            refusal: 0,
-            valid: 1,
-            reception: left,
-        },
-        PacketAnswer::Invalid => HspReceived {
-            refusal: 0,
-            valid: 0,
-            reception: left,
-        },
-        PacketAnswer::Refused(reason) => HspReceived {
-            refusal: refusal::refusal_number(reason),
-            valid: 0,
-            reception: left,
-        },
+    let fields = reception_answers::received_fields(answer);
+    HspReceived {
+        refusal: fields.refusal,
+        valid: fields.valid,
+        reception: left,
     }
 }
 
@@ -72,22 +59,13 @@ pub extern "C" fn hsp_reception_report(reception: Reception) -> HspReported
     let reported = calls::report(reception);
     let left = reported.reception;
     let answer = reported.answer;
-    match answer {
-        ReportAnswer::Block(block) => HspReported {
-            refusal: 0,
-            fraction_lost: block.fraction_lost,
-            cumulative_lost: block.cumulative_lost,
-            highest_sequence: block.highest_sequence,
-            jitter: block.jitter,
-            reception: left,
-        },
-        ReportAnswer::Refused(reason) => HspReported {
-            refusal: refusal::refusal_number(reason),
-            fraction_lost: 0,
-            cumulative_lost: 0,
-            highest_sequence: 0,
-            jitter: 0,
-            reception: left,
-        },
+    let fields = reception_answers::reported_fields(answer);
+    HspReported {
+        refusal: fields.refusal,
+        fraction_lost: fields.fraction_lost,
+        cumulative_lost: fields.cumulative_lost,
+        highest_sequence: fields.highest_sequence,
+        jitter: fields.jitter,
+        reception: left,
     }
 }

@@ -1,7 +1,6 @@
 // hsp_write_payload: a payload written alone.
+use c_answers::write_answers;
 use encoder::writing;
-use encoder::writing::Written;
-use rtp::refusal;
 use rtp::settings::Settings;
 ghost use mathlib.Core.Path.{_≡_};
 ghost use lib.ListN.{length};
@@ -29,14 +28,10 @@ pub extern "C" fn hsp_write_payload(
         × (now (out .exit) ≡ over
         (encodedBytes (writing settings «mode_request» (now (rows .entry)) (now (bytes .entry)) (length (now (out .entry))))) (now (out .entry))) ⌝ }
 {
-    match writing::write_payload(settings, mode_request, rows, bytes, out) {
-        Written::Refused(reason) => HspWritten {
-            refusal: refusal::refusal_number(reason),
-            length: 0,
-        },
-        Written::Bytes(count) => HspWritten {
-            refusal: 0,
-            length: count as u32,
-        },
+    let answer = writing::write_payload(settings, mode_request, rows, bytes, out);
+    let fields = write_answers::written_fields(answer);
+    HspWritten {
+        refusal: fields.refusal,
+        length: fields.length as u32,
     }
 }

@@ -9,22 +9,17 @@ use native.Mathlib.Omega.{arith}
 use borrow.Author.Tests.{ltb-true, eqb-true, not-true, not-false}
 use lib.Dec.{ltb, eqb}
 use lib.ListN.{getD}
-use Rattle.formats.specs.declared.facts.FrameTable.{FrameTable}
-use Rattle.formats.specs.Formats.{formatOf}
-use Rattle.formats.specs.Frames.{noData}
-use Rattle.formats.specs.Codes.{noCode}
-use Rattle.formats.proofs.CodeLaws.{table-code}
-use Rattle.formats.specs.Tags.{tagClass, tagChannel}
+use Rattle.codes.specs.Allowed.{allowed}
+use Rattle.tags.specs.Tags.{tagClass, tagChannel}
 use Rattle.playout.specs.Sizes.{slots}
 use Rattle.playout.specs.Pairs.{half, ahead, order, isAfter, sideOf}
 use Rattle.playout.specs.declared.order.Side.{Side}
 use Rattle.playout.specs.Entries.{Entry}
 use Rattle.layout.specs.declared.buffer.Buffer.{Buffer}
 use Rattle.layout.specs.declared.buffer.Fixed.{Fixed}
-use Rattle.layout.specs.Bits.{markOf, marked, isFree, claimed, sameWords}
+use Rattle.slot_marks.specs.Bits.{markOf, marked, isFree, claimed, sameWords}
 use Rattle.layout.specs.Layout.{entryAt, entriesFrom, assembled}
-use Rattle.layout.specs.Model.{allowed}
-use Rattle.layout.specs.Checks.{allowedIn, classFine, ascends, passes, allPass}
+use Rattle.layout.specs.Checks.{classFine, ascends, passes, allPass}
 use Rattle.layout.proofs.PositionLaws.{up, turn}
 use Rattle.rtp.proofs.TestLaws.{both}
 
@@ -48,10 +43,6 @@ when x y e = ap (λ (b : Bool). cond b x y) e
 
 otherwise : {b : Bool} (x y : Bool) → b ≡ false → cond b x y ≡ y
 otherwise x y e = ap (λ (b : Bool). cond b x y) e
-
--- what a format allows, by its frame table
-pub allowed-in : (format class n : ℕ) (t : FrameTable) → t ≡ formatOf format .table → allowedIn t class n ≡ allowed format class n
-allowed-in format class n t h = ap (λ (k : ℕ). cond (eqb class noData) false (ltb k noCode)) (table-code format class n t (sym h))
 
 -- the entry before a place, if any
 abbrev pub beforeAt : Buffer → ℕ → Option Entry

@@ -11,16 +11,16 @@ use lib.ListN.{length, getD, take, drop, set, length-map, List·getD-map}
 use lib.Seq.{map-set-same}
 use Rattle.rtp.specs.declared.settings.Settings.{Settings}
 use Rattle.rtp.proofs.TestLaws.{not-both}
-use Rattle.formats.specs.Tags.{tagOf, tagMark, tagClass, tagChannel}
-use Rattle.formats.proofs.TagLaws.{of-parts, mark-of, class-of}
+use Rattle.tags.specs.Tags.{tagOf, tagMark, tagClass, tagChannel}
+use Rattle.tags.proofs.TagLaws.{of-parts, mark-of, class-of}
 use Rattle.playout.specs.Sizes.{slots}
 use Rattle.playout.specs.Entries.{Entry, Held}
 use Rattle.layout.specs.declared.buffer.Buffer.{Buffer}
-use Rattle.layout.specs.Bits.{wordAt, wordsOf, marked, unmarked}
+use Rattle.slot_marks.specs.Bits.{weight, wordAt, wordsOf, marked, unmarked}
 use Rattle.layout.specs.Columns.{insertAt, removeFirst}
 use Rattle.layout.specs.Layout.{entryTag, padTo, column, flagOf, encode, entryAt, entriesFrom, decode, isFlag, fresh}
 use Rattle.layout.proofs.ColumnLaws.{inserting, insert-start, inserted, map-inserted}
-use Rattle.layout.proofs.WordLaws.{slotOf, slotsOf, SlotFacts, held-slots, words-inserted, words-rest}
+use Rattle.slot_marks.proofs.WordLaws.{slotOf, slotsOf, SlotFacts, held-slots, mark-adds, words-rest}
 
 abbrev pub noEntry : Entry
 noEntry = record { time = 0; channel = 0; class = 0; length = 0; slot = 0; primary = 0 }
@@ -115,6 +115,15 @@ module _ (f : Entry → ℕ) where
   column-first e es = refl
 
 -- The words of their slots
+
+word-inserted : (k i s : ℕ) (ss : List ℕ) → wordAt k (inserted i s ss) ≡ wordAt k ss + weight k s
+unfolding inserted wordAt
+word-inserted k zero s ss = omega arith
+word-inserted k (suc i) s [] = omega arith
+word-inserted k (suc i) s (x ∷ ss) = omega (arith, word-inserted k i s ss)
+
+words-inserted : (i s : ℕ) (ss : List ℕ) → s < slots → wordsOf (inserted i s ss) ≡ marked (wordsOf ss) s
+words-inserted i s ss l = sym (mark-adds ss (inserted i s ss) s l (word-inserted 0 i s ss) (word-inserted 1 i s ss) (word-inserted 2 i s ss))
 
 pub words-insert : (es : List Entry) (i : ℕ) (e : Entry) → e .slot < slots → wordsOf (slotsOf (inserted i e es)) ≡ marked (wordsOf (slotsOf es)) (e .slot)
 words-insert es i e h = ap wordsOf (map-inserted slotOf i e es) ∙ words-inserted i (e .slot) (slotsOf es) h

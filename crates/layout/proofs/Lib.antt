@@ -1,12 +1,8 @@
-pub mod BitLaws
 pub mod ColumnLaws
 pub mod PositionLaws
 pub mod CheckLaws
-pub mod WordLaws
 pub mod LayoutLaws
 pub mod ModelLaws
 pub mod PassLaws
 pub mod WellFormedLaws
-pub mod AllowedLaws
-pub mod FreeLaws
 pub mod MachineLaws

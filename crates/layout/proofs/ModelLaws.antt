@@ -15,11 +15,12 @@ use Rattle.playout.specs.Entries.{Entry, Held, sideOfEntry, slotUsed}
 use Rattle.playout.proofs.RankLaws.{frame-class}
 use Rattle.playout.proofs.HeldLaws.{Rising, Stretch, all-within}
 use Rattle.playout.proofs.PlayoutLaws.{within-all}
-use Rattle.layout.specs.Model.{Model, ascending, inStretch, slotsApart, allowed, afterLast, entryFine, entriesFine, lastFine, fine}
+use Rattle.codes.specs.Allowed.{allowed}
+use Rattle.layout.specs.Model.{Model, ascending, inStretch, slotsApart, afterLast, entryFine, entriesFine, lastFine, fine}
 use Rattle.layout.proofs.PositionLaws.{after-gt}
-use Rattle.layout.proofs.WordLaws.{slotsOf, SlotFacts, own-few, own-distinct, distinct-own, Distinct, countIn, count-here, distinct-none, distinct-tail, distinct-cons, used-count}
+use Rattle.slot_marks.proofs.WordLaws.{slotsOf, SlotFacts, own-few, own-distinct, distinct-own, Distinct, countIn, count-here, distinct-none, distinct-tail, distinct-cons, used-count}
 use Rattle.layout.proofs.LayoutLaws.{Octets, InTag}
-use Rattle.layout.proofs.AllowedLaws.{allowed-frame}
+use Rattle.codes.proofs.AllowedLaws.{allowed-frame}
 
 -- The facts
 

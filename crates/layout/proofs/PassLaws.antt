@@ -9,7 +9,7 @@ use native.Mathlib.Omega.{arith}
 use borrow.Author.Tests.{ltb-true, eq-eqb, lt-ltb}
 use lib.Dec.{ltb, eqb}
 use lib.ListN.{getD}
-use Rattle.formats.proofs.TagLaws.{mark-small}
+use Rattle.tags.proofs.TagLaws.{mark-small}
 use Rattle.playout.specs.Sizes.{slots}
 use Rattle.playout.specs.Pairs.{half, ahead, order, isAfter}
 use Rattle.playout.specs.Entries.{Entry}
@@ -17,14 +17,15 @@ use Rattle.playout.proofs.HeldLaws.{all-within}
 use Rattle.playout.proofs.PlayoutLaws.{within-all}
 use Rattle.layout.specs.declared.buffer.Buffer.{Buffer}
 use Rattle.layout.specs.declared.buffer.Fixed.{Fixed}
-use Rattle.layout.specs.Bits.{markOf, heldIn, wordAt, wordsOf, isFree, sameWords}
+use Rattle.slot_marks.specs.Bits.{markOf, heldIn, wordAt, wordsOf, isFree, sameWords}
 use Rattle.layout.specs.Layout.{isFlag, unusedZero, entriesFrom, decode, model, assembled}
-use Rattle.layout.specs.Model.{allowed, ascending, inStretch, afterLast}
+use Rattle.codes.specs.Allowed.{allowed}
+use Rattle.layout.specs.Model.{ascending, inStretch, afterLast}
 use Rattle.layout.specs.WellFormed.{wellFormed}
 use Rattle.layout.specs.Checks.{lastKept, sinceLast, ascends, passes, allPass, entriesPass}
 use Rattle.rtp.proofs.TestLaws.{both as in-turn, and-then}
 use Rattle.layout.proofs.CheckLaws.{free-parts}
-use Rattle.layout.proofs.WordLaws.{slotsOf, countIn, Distinct, count-none, count-here, distinct-none, distinct-cons, mark-count, words-cons}
+use Rattle.slot_marks.proofs.WordLaws.{slotsOf, countIn, Distinct, count-none, count-here, distinct-none, distinct-cons, mark-count, words-cons}
 use Rattle.layout.proofs.LayoutLaws.{by-flag, entries-each}
 use Rattle.layout.proofs.ModelLaws.{both, and, entry-tests, clauses, from-clauses, apart-distinct, distinct-apart}
 

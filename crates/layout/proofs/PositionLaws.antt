@@ -9,7 +9,7 @@ use borrow.Author.Tests.{ltb-true, lt-ltb}
 use lib.Dec.{ltb}
 use lib.ListN.{getD}
 use Rattle.rtp.proofs.TestLaws.{by-test, not-both}
-use Rattle.formats.specs.Tags.{tagChannel}
+use Rattle.tags.specs.Tags.{tagChannel}
 use Rattle.playout.specs.Pairs.{half, ahead, order, isAfter}
 use Rattle.playout.proofs.WrapLaws.{ahead-self, Near, place, after-near, place-near, order-after, after-place}
 use Rattle.layout.specs.Checks.{positionOf}

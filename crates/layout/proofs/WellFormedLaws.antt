@@ -10,18 +10,18 @@ use lib.Dec.{eqb}
 use lib.ListN.{length, getD, take, drop, length-map}
 use lib.Seq.{drop-cons}
 use Rattle.rtp.specs.declared.settings.Settings.{Settings}
-use Rattle.formats.specs.Tags.{tagChannel}
+use Rattle.tags.specs.Tags.{tagChannel}
 use Rattle.playout.specs.Sizes.{slots}
 use Rattle.playout.specs.Entries.{Entry, Held}
 use Rattle.layout.specs.declared.buffer.Buffer.{Buffer}
-use Rattle.layout.specs.Bits.{heldIn, wordAt, wordsOf, sameWords}
+use Rattle.slot_marks.specs.Bits.{heldIn, wordAt, wordsOf, sameWords}
 use Rattle.layout.specs.Columns.{zeros}
 use Rattle.layout.specs.Layout.{entryTag, padTo, column, flagOf, encode, entryAt, entriesFrom, decode, model, isFlag, unusedZero, marksKept, fresh}
 use Rattle.layout.specs.Model.{ascending, slotsApart, entriesFine, fine}
 use Rattle.layout.specs.WellFormed.{wellFormed}
 use Rattle.layout.specs.Arrays.{Machine}
 use Rattle.rtp.proofs.TestLaws.{both as in-turn, and-then}
-use Rattle.layout.proofs.WordLaws.{slotOf, slotsOf, held-slots}
+use Rattle.slot_marks.proofs.WordLaws.{slotOf, slotsOf, held-slots}
 use Rattle.layout.proofs.LayoutLaws.{by-flag, tag-back, Octets, entries-each, decode-encode}
 use Rattle.layout.proofs.ModelLaws.{both, and, in-tag, Facts, fine-facts, facts-fine}
 

@@ -5,25 +5,19 @@ use mathlib.Core.Bool.{Bool, true, false, cond, _&&_}
 use mathlib.Core.Option.{Option, none, some}
 use lib.ListN.{getD}
 use lib.Dec.{ltb, eqb}
-use Rattle.formats.specs.declared.facts.FrameTable.{FrameTable}
-use Rattle.formats.specs.Frames.{noData}
-use Rattle.formats.specs.Codes.{noCode, tableCode}
-use Rattle.formats.specs.Tags.{tagClass, tagChannel}
+use Rattle.codes.specs.Allowed.{allowed}
+use Rattle.tags.specs.Tags.{tagClass, tagChannel}
 use Rattle.playout.specs.Pairs.{half, ahead, order, isAfter}
 use Rattle.playout.specs.Entries.{Entry}
 use Rattle.layout.specs.declared.buffer.Buffer.{Buffer}
 use Rattle.layout.specs.declared.buffer.Fixed.{Fixed}
-use Rattle.layout.specs.Bits.{marked, isFree, sameWords}
+use Rattle.slot_marks.specs.Bits.{marked, isFree, sameWords}
 use Rattle.layout.specs.Layout.{isFlag, entriesFrom, assembled}
-use Rattle.layout.specs.Model.{allowed, lastFine}
+use Rattle.layout.specs.Model.{lastFine}
 
 -- the flag and the last pair
 abbrev pub lastKept : Fixed → Bool
 lastKept f = isFlag (f .drawn) && lastFine (f .settings) (eqb (f .drawn) 1) (f .«last_time») (f .«last_channel»)
-
--- `allowed`, by the format's frame table
-abbrev pub allowedIn : FrameTable → ℕ → ℕ → Bool
-allowedIn t class n = cond (eqb class noData) false (ltb (tableCode t class n) noCode)
 
 -- an entry's class, length and channel, of its tag and length
 abbrev pub classFine : Fixed → ℕ → ℕ → Bool

@@ -5,12 +5,12 @@ use mathlib.Core.Bool.{Bool, cond, _&&_, _||_}
 use lib.ListN.{getD, drop, replicate}
 use lib.Dec.{eqb}
 use Rattle.rtp.specs.declared.settings.Settings.{Settings}
-use Rattle.formats.specs.Tags.{tagOf, tagMark, tagClass, tagChannel}
+use Rattle.tags.specs.Tags.{tagOf, tagMark, tagClass, tagChannel}
 use Rattle.playout.specs.Sizes.{slots}
 use Rattle.playout.specs.Entries.{Entry, Held}
 use Rattle.layout.specs.declared.buffer.Buffer.{Buffer}
 use Rattle.layout.specs.declared.buffer.Fixed.{Fixed}
-use Rattle.layout.specs.Bits.{heldIn, wordsOf, sameWords}
+use Rattle.slot_marks.specs.Bits.{heldIn, wordsOf, sameWords}
 use Rattle.layout.specs.Columns.{zeros}
 use Rattle.layout.specs.Model.{Model}
 

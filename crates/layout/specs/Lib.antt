@@ -1,4 +1,3 @@
-pub mod Bits
 pub mod Columns
 pub mod Model
 pub mod Arrays

@@ -4,8 +4,7 @@ use mathlib.Core.List.{List, [], _∷_}
 use mathlib.Core.Bool.{Bool, true, false, cond, not, _&&_}
 use lib.Dec.{ltb, eqb}
 use Rattle.rtp.specs.declared.settings.Settings.{Settings}
-use Rattle.formats.specs.Frames.{noData}
-use Rattle.formats.specs.Codes.{noCode, codeFor}
+use Rattle.codes.specs.Allowed.{allowed}
 use Rattle.playout.specs.Sizes.{slots}
 use Rattle.playout.specs.Pairs.{order, isAfter}
 use Rattle.playout.specs.Entries.{Entry, Held, sideOfEntry, slotUsed}
@@ -31,10 +30,6 @@ inStretch (e ∷ es) = allWithin (e .time) (e ∷ es)
 unfoldable pub slotsApart : List Entry → Bool
 slotsApart [] = true
 slotsApart (e ∷ es) = ltb (e .slot) slots && not (slotUsed (e .slot) es) && slotsApart es
-
--- a class other than no data, and a length, such as reading under the format can give
-abbrev pub allowed : ℕ → ℕ → ℕ → Bool
-allowed format class n = cond (eqb class noData) false (ltb (codeFor format class n) noCode)
 
 -- after the last pair drawn, if any
 abbrev pub afterLast : Held → Entry → Bool

@@ -1,11 +1,10 @@
 // The reorder buffer's layout.
 use rtp::settings::Settings;
 use rtp::sizes::MAX_FRAME;
+use slot_marks::bits::SLOTS;
 ghost use mathlib.Core.Path.{_≡_};
 ghost use Rattle.layout.specs.Layout.{fresh};
 
-// Entries and slots of a buffer.
-pub const SLOTS: usize = 192;
 // The bytes of a slot: of the longest frame.
 pub const SLOT_SIZE: usize = MAX_FRAME;
 // The bytes of the store.

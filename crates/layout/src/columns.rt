@@ -1,5 +1,5 @@
 // Columns of a buffer.
-use crate::buffer::SLOTS;
+use slot_marks::bits::SLOTS;
 ghost use mathlib.Core.Path.{_≡_};
 ghost use Prim.Native.Nat.{_≤_};
 ghost use lib.ListN.{drop};

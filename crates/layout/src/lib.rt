@@ -1,5 +1,4 @@
-// The reorder buffer's layout: its columns and marks, and the test of well-formedness.
-pub mod bits;
+// The reorder buffer's layout: its columns, and the test of well-formedness.
 pub mod buffer;
 pub mod columns;
 pub mod well_formed;

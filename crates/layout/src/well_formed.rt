@@ -1,14 +1,14 @@
 // Whether a buffer is well-formed.
-use crate::bits;
 use crate::buffer::Fixed;
-use crate::buffer::SLOTS;
 use crate::columns;
-use formats::codes;
+use codes::coding;
 use formats::facts;
 use formats::facts::FrameTable;
-use formats::tagging;
 use playout::order;
 use playout::order::Side;
+use slot_marks::bits;
+use slot_marks::bits::SLOTS;
+use tags::tagging;
 ghost use mathlib.Core.Path.{_≡_};
 ghost use mathlib.Core.Bool.{true};
 ghost use Prim.Native.Nat.{_^_, _≤_, _<_};
@@ -17,7 +17,7 @@ ghost use Rattle.playout.specs.Sizes.{slots as slotCount};
 ghost use Rattle.playout.specs.Pairs.{isAfter, order};
 ghost use Rattle.layout.specs.Layout.{unusedZero, assembled};
 ghost use Rattle.layout.specs.WellFormed.{wellFormed};
-ghost use Rattle.layout.specs.Checks.{lastKept, allowedIn, classFine, baseOf, startOf, positionOf, entriesPass};
+ghost use Rattle.layout.specs.Checks.{lastKept, classFine, baseOf, startOf, positionOf, entriesPass};
 
 // The positions of a stretch under half the range of time.
 const STRETCH: u64 = 256 * (order::HALF as u64);
@@ -31,16 +31,6 @@ pub fn pair_after(t: u32, c: u32, h: u32, d: u32) -> bool
         Side::Same => false,
         Side::Before => false,
     }
-}
-
-// Whether reading under a format with this frame table can give a frame of this class and length.
-fn is_allowed(table: FrameTable, class: u32, length: u32) -> bool
-    ensures { λ r. ⌜ r ≡ allowedIn table class length ⌝ }
-{
-    if class == 0 {
-        return false;
-    }
-    codes::table_has(table, class, length)
 }
 
 // Whether the flag is one, and the last pair is kept as zeros or is in range.
@@ -64,7 +54,7 @@ fn class_fine(table: FrameTable, fixed: Fixed, tag: u32, length: u32) -> bool
     requires { ⌜ table ≡ formatOf (fixed .settings .format) .table ⌝ }
     ensures { λ r. ⌜ r ≡ classFine fixed tag length ⌝ }
 {
-    if !is_allowed(table, tagging::tag_class(tag), length) {
+    if !coding::is_allowed(table, tagging::tag_class(tag), length) {
         return false;
     }
     tagging::tag_channel(tag) < (fixed.settings.channels as u32)

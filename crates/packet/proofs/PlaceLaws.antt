@@ -9,25 +9,25 @@ use mathlib.Core.Bool.{true}
 use borrow.Author.Tests.{ltb-true, ltb-false}
 use Rattle.rtp.specs.Sizes.{maxPacket, rowArea}
 use Rattle.rtp.specs.Ranges.{inRange}
-use Rattle.formats.specs.Tags.{primaryMark}
-use Rattle.rtp.specs.Redundancy.{redundancyHeaders, headersAnswer}
-use Rattle.rtp.specs.Header.{header}
+use Rattle.tags.specs.Tags.{primaryMark}
+use Rattle.rtp_headers.specs.Redundancy.{redundancyHeaders, headersAnswer}
+use Rattle.rtp_headers.specs.Header.{header}
 use Rattle.rtp.specs.declared.settings.Settings.{Settings}
-use Rattle.rtp.specs.declared.header.Header.{Header}
-use Rattle.rtp.specs.declared.header.HeaderRead.{HeaderRead}
+use Rattle.rtp_headers.specs.declared.header.Header.{Header}
+use Rattle.rtp_headers.specs.declared.header.HeaderRead.{HeaderRead}
 use Rattle.rtp.specs.declared.refusal.Fault.{Fault}
-use Rattle.rtp.specs.declared.redundancy.HeadersRead.{HeadersRead}
+use Rattle.rtp_headers.specs.declared.redundancy.HeadersRead.{HeadersRead}
 use Rattle.rtp.proofs.TestLaws.{by-test}
-use Rattle.rtp.proofs.HeaderLaws.{within}
-use Rattle.rtp.proofs.RedundancyLaws.{InFront, front}
+use Rattle.rtp_headers.proofs.HeaderLaws.{within}
+use Rattle.rtp_headers.proofs.RedundancyLaws.{InFront, front}
 use Rattle.payload.specs.Payloads.{Rows, noRows, rowsOf, rowsAnswer}
-use Rattle.packet.specs.Blocks.{redundantRows}
-use Rattle.packet.specs.Room.{blocksFrom, Headed}
-use Rattle.packet.specs.Requests.{typedRequest}
+use Rattle.red.specs.Blocks.{redundantRows}
+use Rattle.red.specs.Room.{blocksFrom, Headed}
+use Rattle.mode_requests.specs.Requests.{typedRequest}
 use Rattle.packet.specs.Readings.{payloadIn, typedRows, Outcome, refused, readAs, outcomeOf, headedBy, reading}
-use Rattle.packet.proofs.AnswerLaws.{Inside, inside-more}
-use Rattle.packet.proofs.BlockLaws.{pay-inside, from-inside}
-use Rattle.packet.proofs.SplitLaws.{split-refused, split-short, split-place, split-blocks, headers-at}
+use Rattle.red.proofs.AnswerLaws.{Inside, inside-more}
+use Rattle.red.proofs.BlockLaws.{pay-inside, from-inside}
+use Rattle.red.proofs.SplitLaws.{split-refused, split-short, split-place, split-blocks, headers-at}
 use Rattle.packet.proofs.ReadingLaws.{payload-fits}
 
 abbrev RowsInside : ℕ → Rows → Type 0

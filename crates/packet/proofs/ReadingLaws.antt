@@ -9,25 +9,26 @@ use borrow.Author.Tests.{eq-eqb, ne-eqb, lt-ltb, le-ltb}
 use Rattle.rtp.specs.Areas.{over}
 use Rattle.rtp.specs.Sizes.{maxPacket, rowArea}
 use Rattle.rtp.specs.Ranges.{inRange}
-use Rattle.formats.specs.Tags.{primaryMark}
-use Rattle.rtp.specs.Header.{header}
+use Rattle.tags.specs.Tags.{primaryMark}
+use Rattle.rtp_headers.specs.Header.{header}
 use Rattle.rtp.specs.Faults.{fault}
 use Rattle.rtp.specs.declared.refusal.Fault.{Fault}
 use Rattle.rtp.specs.declared.settings.Settings.{Settings}
-use Rattle.rtp.specs.declared.header.Header.{Header}
-use Rattle.rtp.specs.declared.header.HeaderRead.{HeaderRead}
+use Rattle.rtp_headers.specs.declared.header.Header.{Header}
+use Rattle.rtp_headers.specs.declared.header.HeaderRead.{HeaderRead}
 use Rattle.rtp.specs.declared.refusal.Refusal.{Refusal}
 use Rattle.rtp.specs.declared.refusal.Refusal.the-variants.{UnknownPayloadType, SettingsOutOfRange, AreaTooShort}
 use Rattle.rtp.proofs.AreaLaws.{over-none}
-use Rattle.rtp.proofs.HeaderLaws.{within}
+use Rattle.rtp_headers.proofs.HeaderLaws.{within}
 use Rattle.payload.specs.declared.reading.PayloadRead.{PayloadRead}
 use Rattle.payload.specs.Payloads.{Rows, noRows, rowsOf, rowsAnswer, rowsWords, askedRows}
 use Rattle.payload.proofs.PayloadLaws.{asked-in}
 use Rattle.packet.specs.declared.reading.Reading.{Reading}
-use Rattle.packet.specs.Blocks.{redundantRows}
-use Rattle.packet.specs.Requests.{typedRequest}
+use Rattle.red.specs.Blocks.{askedRedundant}
+use Rattle.mode_requests.specs.Requests.{typedRequest}
 use Rattle.packet.specs.Readings.{payloadIn, typedRows, Outcome, refused, outcomeOf, reading, readingNumbers, outcomeNumbers, outcomeWords}
-use Rattle.packet.proofs.AnswerLaws.{Gives}
+use Rattle.red.proofs.AnswerLaws.{Gives}
+use Rattle.red.proofs.AskedLaws.{redundant-in}
 
 -- the payload lies inside the longest packet
 pub payload-fits : (s : List ℕ) (h : Header) → header s ≡ HeaderRead.Header h → h .start + length (payloadIn s h) ≤ maxPacket
@@ -40,9 +41,10 @@ module _ (st : Settings) (h : Header) (s : List ℕ) where
   typed-plain i area f q e = asked-in primaryMark st 0 area (h .timestamp) (h .start) (payloadIn s h) i (omega arith) (payload-fits s h q) ∙ rw (eq-eqb _ _ e)
 
   module _ (n : h .«payload_type» ≡ st .«payload_type» → ⊥) where
-    pub typed-redundant : h .«payload_type» ≡ st .«redundancy_type» → redundantRows st (h .timestamp) (h .start) (payloadIn s h) ≡ typedRows st h (payloadIn s h)
+    pub typed-redundant : inRange st ≡ true → (area : ℕ) → rowArea ≤ area → header s ≡ HeaderRead.Header h → h .«payload_type» ≡ st .«redundancy_type»
+        → askedRedundant st area (h .timestamp) (h .start) (payloadIn s h) ≡ typedRows st h (payloadIn s h)
     unfolding typedRows
-    typed-redundant e = rw (ne-eqb _ _ n, eq-eqb _ _ e)
+    typed-redundant i area f q e = redundant-in st area (h .timestamp) (h .start) (payloadIn s h) i f (payload-fits s h q) ∙ rw (ne-eqb _ _ n, eq-eqb _ _ e)
 
     pub typed-other : (h .«payload_type» ≡ st .«redundancy_type» → ⊥) → typedRows st h (payloadIn s h) ≡ noRows (fault UnknownPayloadType)
     unfolding typedRows

@@ -2,7 +2,7 @@
 use mathlib.Core.Path.{_≡_, refl, subst}
 use mathlib.Core.List.{List, [], _∷_}
 use Prim.Native.Nat.{ℕ, _+_, _-_, _≤_, _<_}
-use Rattle.formats.specs.Tags.{primaryMark, redundantMark}
+use Rattle.tags.specs.Tags.{primaryMark, redundantMark}
 use native.Mathlib.Omega.{arith}
 use lib.ListN.{length, take, drop, length-append, length-take, length-drop}
 use lib.Dec.{ltb, eqb}
@@ -10,20 +10,20 @@ use borrow.Author.Tests.{eqb-false}
 use Rattle.rtp.specs.Sizes.{maxRows, rowArea}
 use Rattle.rtp.specs.Ranges.{inRange}
 use Rattle.rtp.specs.Time.{difference}
-use Rattle.rtp.specs.Redundancy.{Headers, refused as unheaded, headersOf, redundancyHeaders, headersSize, redundantSize}
-use Rattle.rtp.specs.Header.{header}
+use Rattle.rtp_headers.specs.Redundancy.{Headers, refused as unheaded, headersOf, redundancyHeaders, headersSize, redundantSize}
+use Rattle.rtp_headers.specs.Header.{header}
 use Rattle.rtp.specs.declared.settings.Settings.{Settings}
-use Rattle.rtp.specs.declared.header.Header.{Header}
-use Rattle.rtp.specs.declared.header.HeaderRead.{HeaderRead}
-use Rattle.rtp.specs.declared.redundancy.Redundant.{Redundant}
+use Rattle.rtp_headers.specs.declared.header.Header.{Header}
+use Rattle.rtp_headers.specs.declared.header.HeaderRead.{HeaderRead}
+use Rattle.rtp_headers.specs.declared.redundancy.Redundant.{Redundant}
 use Rattle.rtp.proofs.TestLaws.{by-test}
-use Rattle.rtp.proofs.HeaderLaws.{within}
-use Rattle.payload.specs.Rows.{Row}
+use Rattle.rtp_headers.proofs.HeaderLaws.{within}
+use Rattle.frame_rows.specs.Rows.{Row}
 use Rattle.payload.specs.Payloads.{Rows, noRows, rowsOf}
 use Rattle.payload.proofs.RowFactLaws.{RowFine, AllRows, all-append, FineRows, payload-fine}
-use Rattle.packet.specs.Blocks.{Block, cut, typedBlockRows, prependRows, thenRows, blocksRows, splitRows, redundantRows}
+use Rattle.red.specs.Blocks.{Block, cut, typedBlockRows, prependRows, thenRows, blocksRows, splitRows, redundantRows}
 use Rattle.packet.specs.Readings.{payloadIn, typedRows, Outcome, refused, readAs, outcomeOf, headedBy, reading}
-use Rattle.packet.proofs.BlockLaws.{block}
+use Rattle.red.proofs.BlockLaws.{block}
 
 -- A redundancy payload
 

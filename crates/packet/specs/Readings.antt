@@ -8,18 +8,18 @@ use Rattle.rtp.specs.Sizes.{rowArea}
 use Rattle.rtp.specs.Ranges.{inRange}
 use Rattle.rtp.specs.Refusals.{number}
 use Rattle.rtp.specs.Faults.{fault}
-use Rattle.rtp.specs.Header.{header}
+use Rattle.rtp_headers.specs.Header.{header}
 use Rattle.rtp.specs.declared.settings.Settings.{Settings}
-use Rattle.formats.specs.Tags.{primaryMark}
-use Rattle.rtp.specs.declared.header.Header.{Header}
-use Rattle.rtp.specs.declared.header.HeaderRead.{HeaderRead}
+use Rattle.tags.specs.Tags.{primaryMark}
+use Rattle.rtp_headers.specs.declared.header.Header.{Header}
+use Rattle.rtp_headers.specs.declared.header.HeaderRead.{HeaderRead}
 use Rattle.rtp.specs.declared.refusal.Fault.{Fault}
 use Rattle.rtp.specs.declared.refusal.Refusal.the-variants.{UnknownPayloadType, SettingsOutOfRange, AreaTooShort}
-use Rattle.payload.specs.Rows.{Row, words}
+use Rattle.frame_rows.specs.Rows.{Row, words}
 use Rattle.payload.specs.Payloads.{Rows, noRows, rowsOf, payloadRows}
 use Rattle.packet.specs.declared.reading.Reading.{Reading}
-use Rattle.packet.specs.Blocks.{redundantRows}
-use Rattle.packet.specs.Requests.{typedRequest}
+use Rattle.red.specs.Blocks.{redundantRows}
+use Rattle.mode_requests.specs.Requests.{typedRequest}
 
 -- the payload of a packet: what lies between its headers and its padding
 abbrev pub payloadIn : List ℕ → Header → List ℕ

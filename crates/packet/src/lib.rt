@@ -1,4 +1,2 @@
 // Packets: read into frame rows.
-pub mod blocks;
 pub mod reading;
-pub mod requests;

@@ -1,16 +1,16 @@
 // A packet read into frame rows.
-use crate::blocks;
-use crate::requests;
-use formats::tagging::PRIMARY;
+use mode_requests::requests;
 use payload::reading;
 use payload::reading::PayloadRead;
-use rtp::header;
-use rtp::header::Header;
-use rtp::header::HeaderRead;
+use red::blocks;
 use rtp::refusal::Fault;
 use rtp::refusal::Refusal;
 use rtp::settings::Settings;
 use rtp::sizes::ROW_AREA;
+use rtp_headers::header;
+use rtp_headers::header::Header;
+use rtp_headers::header::HeaderRead;
+use tags::tagging::PRIMARY;
 ghost use mathlib.Core.Path.{_≡_};
 ghost use mathlib.Core.Bool.{true};
 ghost use Prim.Native.Nat.{_≤_};
@@ -18,9 +18,9 @@ ghost use lib.ListN.{length};
 ghost use Rattle.rtp.specs.Sizes.{rowArea};
 ghost use Rattle.rtp.specs.Areas.{over};
 ghost use Rattle.rtp.specs.Ranges.{inRange};
-ghost use Rattle.rtp.specs.Header.{header};
+ghost use Rattle.rtp_headers.specs.Header.{header};
 ghost use Rattle.payload.specs.Payloads.{rowsAnswer, rowsWords};
-ghost use Rattle.rtp.specs.declared.header.HeaderRead.{HeaderRead};
+ghost use Rattle.rtp_headers.specs.declared.header.HeaderRead.{HeaderRead};
 ghost use Rattle.packet.specs.Readings.{payloadIn, typedRows, reading, readingNumbers, outcomeNumbers, outcomeWords};
 
 // What a packet that was read says of itself: the number of its rows, its header, and its mode request.

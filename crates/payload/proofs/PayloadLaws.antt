@@ -23,15 +23,16 @@ use Rattle.payload.specs.declared.reading.PayloadRead.{PayloadRead}
 use Rattle.formats.specs.Formats.{formatOf}
 use Rattle.formats.specs.Frames.{stepOf}
 use Rattle.contents.specs.Contents.{minEntry, entryOf, Group, Contents, refused, groups, contents, passFirst, rowCount, sizeIn, sizesAnswer}
-use Rattle.payload.specs.Rows.{tableRows, timeAfter}
-use Rattle.payload.specs.Payloads.{exact, body, tableStart, startingAt, payload, noRequest, requestOf, Rows, noRows, placedRows, payloadRows, rowsWords, rowsAnswer, askedRows}
-use Rattle.payload.specs.Room.{TableRoom, contentsWords}
+use Rattle.frame_rows.specs.Rows.{tableRows, timeAfter}
+use Rattle.payload.specs.Payloads.{body, tableStart, startingAt, payload, noRequest, requestOf, Rows, noRows, placedRows, payloadRows, rowsWords, rowsAnswer, askedRows}
+use Rattle.frame_rows.specs.Tables.{exact, fittingWords}
 use Rattle.formats.proofs.FormatLaws.{header-small}
 use Rattle.contents.proofs.EntryLaws.{min-some}
 use Rattle.contents.proofs.ContentsLaws.{at-refused, Small, Within, within}
-use Rattle.payload.proofs.RowLaws.{length-marked}
-use Rattle.payload.proofs.GroupLaws.{length-group}
-use Rattle.payload.proofs.FirstLaws.{sizes-passed}
+use Rattle.frame_rows.proofs.RowLaws.{length-marked}
+use Rattle.frame_rows.proofs.GroupLaws.{length-group}
+use Rattle.frame_rows.proofs.FirstLaws.{sizes-passed}
+use Rattle.frame_rows.proofs.ExactLaws.{same-sizes, exact-refused, Exact, exact-is, answer-refused, exact-within}
 
 -- as many rows as the table says
 pub length-table : (step ch time start : ℕ) (gs : List Group) → length (tableRows step ch time start gs) ≡ rowCount ch gs
@@ -41,30 +42,19 @@ length-table step ch time start (g ∷ gs) =
     let e = length-table step ch (timeAfter step time (g .gaps)) (start + length (g .gaps) * ch * g .length) gs in
     simp (length-append, length-group, e)
 
-same-sizes : (a b : Sizes) → ContentsRead.Contents a ≡ ContentsRead.Contents b → a ≡ b
-same-sizes a b h = cc
+-- the answer of a table that was read
+rows-in : (mark format ch time at k : ℕ) (t : Sizes) (p : Contents) → sizesAnswer format ch p ≡ ContentsRead.Contents t → rowsAnswer (placedRows mark format ch time at (startingAt k p)) ≡ PayloadRead.Rows (t .rows)
+unfolding sizesAnswer placedRows rowsAnswer
+rows-in mark format ch time at k t (refused r) h = let z : _≡_ {A = ℕ} 0 1 = cc in absurd (omega arith)
+rows-in mark format ch time at k t (groups gs) h =
+    let start = at + formatOf format .header + sizeIn format gs in
+    ap PayloadRead.Rows (length-marked mark (tableRows (stepOf format) ch time start gs) ∙ length-table (stepOf format) ch time start gs ∙ ap (λ (x : Sizes). x .rows) (same-sizes _ t h))
 
-exact-refused : (format ch n : ℕ) (r : Fault) (p : Contents) → sizesAnswer format ch p ≡ ContentsRead.Refused r → exact format ch n p ≡ refused r
-unfolding sizesAnswer
-exact-refused format ch n r (refused q) h = cc
-exact-refused format ch n r (groups gs) h = let z : _≡_ {A = ℕ} 0 1 = cc in absurd (omega arith)
-
--- what a table that was read is
-record Is (mark format ch n time at : ℕ) (p : Contents) (t : Sizes) : Type 0 where
-  whole : t .size + t .frames ≡ n → exact format ch n p ≡ p
-  part : (t .size + t .frames ≡ n → ⊥) → exact format ch n p ≡ refused (faultAt (t .size) LengthMismatch)
-  rows : (k : ℕ) → rowsAnswer (placedRows mark format ch time at (startingAt k p)) ≡ PayloadRead.Rows (t .rows)
-  words : (k : ℕ) → rowsWords (placedRows mark format ch time at (startingAt k p)) ≡ contentsWords mark format ch time (at + formatOf format .header + t .size) p
-
-is : (mark format ch n time at : ℕ) (t : Sizes) (p : Contents) → sizesAnswer format ch p ≡ ContentsRead.Contents t → Is mark format ch n time at p t
-unfolding sizesAnswer placedRows rowsAnswer rowsWords contentsWords
-is mark format ch n time at t (refused r) h = let z : _≡_ {A = ℕ} 0 1 = cc in absurd (omega arith)
-is mark format ch n time at t (groups gs) h = subst (λ (x : Sizes). Is mark format ch n time at (groups gs) x) (same-sizes _ t h) (record {
-  whole = λ e. simp (eq-eqb _ _ e);
-  part = λ e. simp (ne-eqb _ _ e);
-  rows = λ k. ap PayloadRead.Rows (length-marked mark (tableRows (stepOf format) ch time (at + formatOf format .header + sizeIn format gs) gs) ∙ length-table (stepOf format) ch time (at + formatOf format .header + sizeIn format gs) gs);
-  words = λ k. refl;
-})
+-- its words
+words-in : (mark format ch time at k : ℕ) (p : Contents) → fittingWords mark format ch time (at + formatOf format .header) p ≡ rowsWords (placedRows mark format ch time at (startingAt k p))
+unfolding placedRows rowsWords fittingWords
+words-in mark format ch time at k (refused r) = refl
+words-in mark format ch time at k (groups gs) = refl
 
 -- the rows of a payload, by what reading its table answered
 module _ (mark format ch done time at : ℕ) (s : List ℕ) where
@@ -109,11 +99,8 @@ module _ (mark format ch done time at : ℕ) (s : List ℕ) where
     passed : sizesAnswer format ch (passFirst Table) ≡ ContentsRead.Contents t
     passed = sizes-passed format ch Table ∙ h
 
-    abbrev What : Type 0
-    What = Is mark format ch (length (body format s)) time at (passFirst Table) t
-
-    table-is : What
-    table-is = is mark format ch (length (body format s)) time at t (passFirst Table) passed
+    table-is : Exact mark format ch (length (body format s)) time at (passFirst Table) t
+    table-is = exact-is mark format ch (length (body format s)) time at t (passFirst Table) passed
 
     pub part-fault : (t .size + t .frames ≡ length (body format s) → ⊥)
         → payloadRows mark format ch done time at s ≡ noRows (faultAt (at + (tableStart format s + t .size)) LengthMismatch)
@@ -126,22 +113,33 @@ module _ (mark format ch done time at : ℕ) (s : List ℕ) where
 
     pub pay-rows : t .size + t .frames ≡ length (body format s) → rowsAnswer (payloadRows mark format ch done time at s) ≡ PayloadRead.Rows (t .rows)
     unfolding payloadRows payload
-    pay-rows f = rw (table-is .whole f) (table-is .rows (tableStart format s))
-
-    pub pay-words : t .size + t .frames ≡ length (body format s)
-        → rowsWords (payloadRows mark format ch done time at s) ≡ contentsWords mark format ch time (at + formatOf format .header + t .size) (passFirst Table)
-    unfolding payloadRows payload
-    pay-words f = rw (table-is .whole f) (table-is .words (tableStart format s))
+    pay-rows f = rw (table-is .whole f) (rows-in mark format ch time at (tableStart format s) t (passFirst Table) passed)
 
     pub pay-small : Small done (length (body format s)) t
     pay-small = subst (λ (r : ContentsRead). Within done (length (body format s)) r) h (within format ch done (body format s))
 
-    pub pay-room : (area start : ℕ) → ch ≤ 256 → rowArea ≤ rowWidth * done + area → at + length s ≤ maxPacket → t .size + t .frames ≡ length (body format s)
-        → start ≡ at + formatOf format .header + t .size → TableRoom ch start area (sizesAnswer format ch (contents format ch done (body format s)))
-    pay-room area start few a b f e =
-        let w = pay-small in
-        let n : length (body format s) ≤ length s = rw length-drop (omega arith) in
-        rw h (omega arith, omega (arith, header-small format), few)
+  -- The same by what putting its table and its frames answered, which stand after its header
+
+  abbrev Put : Contents
+  Put = exact format ch (length (body format s)) (passFirst Table)
+
+  pub put-words : fittingWords mark format ch time (at + formatOf format .header) Put ≡ rowsWords (payloadRows mark format ch done time at s)
+  unfolding payloadRows payload
+  put-words = words-in mark format ch time at (tableStart format s) Put
+
+  pub put-within : Within done (length (body format s)) (sizesAnswer format ch (exact format ch (length (body format s)) (passFirst (contents format ch done (body format s)))))
+  put-within = exact-within format ch done (body format s)
+
+  pub put-refused : (r : Fault) (n : ℕ) → formatOf format .header ≤ length s → n ≡ at + formatOf format .header + r .offset
+      → sizesAnswer format ch (exact format ch (length (body format s)) (passFirst (contents format ch done (body format s)))) ≡ ContentsRead.Refused r
+      → payloadRows mark format ch done time at s ≡ noRows (faultAt n (r .refusal))
+  unfolding payloadRows payload placedRows
+  put-refused r n l e h = rw (answer-refused format ch r Put h) (ap (λ (k : ℕ). noRows (faultAt k (r .refusal))) (omega (arith, e, starts l)))
+
+  pub put-rows : (t : Sizes) → sizesAnswer format ch (exact format ch (length (body format s)) (passFirst (contents format ch done (body format s)))) ≡ ContentsRead.Contents t
+      → rowsAnswer (payloadRows mark format ch done time at s) ≡ PayloadRead.Rows (t .rows)
+  unfolding payloadRows payload
+  put-rows t h = rows-in mark format ch time at (tableStart format s) t Put h
 
 -- The payload of a call
 

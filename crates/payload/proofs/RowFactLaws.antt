@@ -17,15 +17,16 @@ use Rattle.contents.specs.declared.entries.EntryRead.{EntryRead}
 use Rattle.contents.specs.declared.entries.ContentsRead.{ContentsRead}
 use Rattle.formats.specs.Formats.{formatOf}
 use Rattle.formats.specs.Frames.{frameOf, stepOf}
-use Rattle.formats.specs.Codes.{noCode, codeFor}
+use Rattle.codes.specs.Codes.{noCode, codeFor}
 use Rattle.contents.specs.Contents.{minEntry, codeIn, blocksIn, entrySize, codedEntry, entryOf, Group, Contents, refused, groups, meaning, prepend, contentsStep, contents, passFirst, sizeIn, framesIn, sizesAnswer}
-use Rattle.payload.specs.Rows.{Row, placed, nextPlace, timeAfter, blockRows, groupRows, tableRows, marked}
-use Rattle.payload.proofs.RowLaws.{length-marked}
-use Rattle.payload.specs.Payloads.{tableStart, startingAt, exact, body, payload, Rows, noRows, rowsOf, placedRows, payloadRows}
-use Rattle.formats.proofs.CodeLaws.{code-some}
+use Rattle.frame_rows.specs.Rows.{Row, placed, nextPlace, timeAfter, blockRows, groupRows, tableRows, marked}
+use Rattle.frame_rows.specs.Tables.{exact}
+use Rattle.frame_rows.proofs.RowLaws.{length-marked}
+use Rattle.payload.specs.Payloads.{tableStart, startingAt, body, payload, Rows, noRows, rowsOf, placedRows, payloadRows}
+use Rattle.codes.proofs.CodeLaws.{code-some}
 use Rattle.contents.proofs.EntryLaws.{code-in}
 use Rattle.contents.proofs.ContentsLaws.{contents-step, shorter, Within, within}
-use Rattle.payload.proofs.FirstLaws.{sizes-passed}
+use Rattle.frame_rows.proofs.FirstLaws.{sizes-passed}
 use Rattle.payload.proofs.PayloadLaws.{length-table, pay-headless}
 
 -- a row that was read: its frame is one of the format, its channel one of ch, its time a word, its mark 0 or 1, and its bytes lie within n

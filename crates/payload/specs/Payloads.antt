@@ -8,20 +8,16 @@ use Rattle.rtp.specs.Sizes.{maxPacket, rowWidth, rowArea}
 use Rattle.rtp.specs.Numbers.{byteAt}
 use Rattle.rtp.specs.Ranges.{inRange}
 use Rattle.rtp.specs.Refusals.{number}
-use Rattle.rtp.specs.Faults.{faultAt, fault, shifted}
+use Rattle.rtp.specs.Faults.{fault, shifted}
 use Rattle.rtp.specs.declared.settings.Settings.{Settings}
 use Rattle.rtp.specs.declared.refusal.Fault.{Fault}
-use Rattle.rtp.specs.declared.refusal.Refusal.the-variants.{PacketLength, LengthMismatch, SettingsOutOfRange, AreaTooShort}
+use Rattle.rtp.specs.declared.refusal.Refusal.the-variants.{PacketLength, SettingsOutOfRange, AreaTooShort}
 use Rattle.payload.specs.declared.reading.PayloadRead.{PayloadRead}
 use Rattle.formats.specs.Formats.{formatOf}
 use Rattle.formats.specs.Frames.{stepOf}
-use Rattle.contents.specs.Contents.{Contents, refused, groups, contents, passFirst, sizeIn, framesIn}
-use Rattle.payload.specs.Rows.{Row, words, tableRows, marked}
-
--- a table and just the frames that it tells of, in n bytes; if they do not come out, the first byte after the table is at fault
-abbrev pub exact : ℕ → ℕ → ℕ → Contents → Contents
-exact format ch n (refused f) = refused f
-exact format ch n (groups gs) = cond (eqb (sizeIn format gs + framesIn ch gs) n) (groups gs) (refused (faultAt (sizeIn format gs) LengthMismatch))
+use Rattle.contents.specs.Contents.{Contents, refused, groups, contents, passFirst, sizeIn}
+use Rattle.frame_rows.specs.Rows.{Row, words, tableRows, marked}
+use Rattle.frame_rows.specs.Tables.{exact}
 
 -- what follows a payload's header: the table and the frames
 abbrev pub body : ℕ → List ℕ → List ℕ

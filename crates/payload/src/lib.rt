@@ -1,3 +1,2 @@
 // The payload formats: a payload read into frame rows.
 pub mod reading;
-pub mod rows;

@@ -1,8 +1,8 @@
 // A payload read into frame rows.
-use crate::rows;
 use contents::entries;
 use contents::entries::ContentsRead;
 use formats::facts;
+use frame_rows::rows;
 use rtp::refusal::Fault;
 use rtp::refusal::Refusal;
 use rtp::settings;
@@ -14,7 +14,7 @@ ghost use mathlib.Core.Path.{_≡_};
 ghost use lib.ListN.{length};
 ghost use Rattle.rtp.specs.Sizes.{rowArea};
 ghost use Rattle.rtp.specs.Areas.{over};
-ghost use Rattle.formats.specs.Tags.{redundantMark};
+ghost use Rattle.tags.specs.Tags.{redundantMark};
 ghost use Rattle.payload.specs.Payloads.{requestOf, askedRows, payloadNumbers, rowsNumbers, rowsWords};
 
 // The mode request of a payload without one.
@@ -105,7 +105,16 @@ pub fn read_payload(
                 offset: at as usize,
             });
         }
-        match entries::read_contents(asked.format, asked.channels, done, &s[header..]) {
+        match rows::put_table(
+            area,
+            mark,
+            &s[header..],
+            asked.format,
+            asked.channels,
+            done,
+            time,
+            at + (header as u32),
+        ) {
             ContentsRead::Refused(fault) => {
                 let refusal = fault.refusal;
                 PayloadRead::Refused(Fault {
@@ -113,26 +122,7 @@ pub fn read_payload(
                     offset: (at as usize) + header + fault.offset,
                 })
             }
-            ContentsRead::Contents(sizes) => {
-                if header + sizes.size + sizes.frames == s.len() {
-                    rows::put_contents(
-                        area,
-                        mark,
-                        &s[header..],
-                        asked.format,
-                        asked.channels as usize,
-                        done as usize,
-                        rows::origin(asked.format, time, &s[header..]),
-                        (at as usize) + header + sizes.size,
-                    );
-                    PayloadRead::Rows(sizes.rows as u32)
-                } else {
-                    PayloadRead::Refused(Fault {
-                        refusal: Refusal::LengthMismatch,
-                        offset: (at as usize) + header + sizes.size,
-                    })
-                }
-            }
+            ContentsRead::Contents(sizes) => PayloadRead::Rows(sizes.rows as u32),
         }
     } else {
         PayloadRead::Refused(Fault {

@@ -5,7 +5,7 @@ use mathlib.Core.List.{List}
 use mathlib.Core.Bool.{cond}
 use lib.Dec.{ltb}
 use lib.ListN.{getD}
-use Rattle.formats.specs.Tags.{tagChannel}
+use Rattle.tags.specs.Tags.{tagChannel}
 use Rattle.playout.specs.Pairs.{order, sideOf}
 use Rattle.playout.specs.declared.order.Side.{Side}
 use Rattle.placing.specs.declared.columns.Place.{Place}

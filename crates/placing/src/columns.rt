@@ -1,8 +1,8 @@
 // Columns of a buffer.
-use formats::tagging;
-use layout::buffer::SLOTS;
 use playout::order;
 use playout::order::Side;
+use slot_marks::bits::SLOTS;
+use tags::tagging;
 ghost use mathlib.Core.Path.{_≡_};
 ghost use Prim.Native.Nat.{_≤_};
 ghost use Rattle.playout.specs.Sizes.{slots};

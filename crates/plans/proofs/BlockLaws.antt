@@ -14,8 +14,8 @@ use Rattle.rtp.specs.declared.refusal.Fault.{Fault}
 use Rattle.rtp.proofs.TestLaws.{by-test, not-both}
 use Rattle.formats.specs.Formats.{stepOf, maxGap}
 use Rattle.contents.specs.Contents.{Group, Contents, refused, groups, framesIn}
-use Rattle.payload.specs.Rows.{Row}
-use Rattle.formats.specs.Codes.{noCode, codeFor}
+use Rattle.frame_rows.specs.Rows.{Row}
+use Rattle.codes.specs.Codes.{noCode, codeFor}
 use Rattle.plans.specs.declared.planning.Planned.{Planned}
 use Rattle.plans.specs.Lists.{rowsIn}
 use Rattle.plans.specs.Plans.{gapBetween, starts, follows, headGap, joins, attach, planFrom, nextChannel}

@@ -7,7 +7,7 @@ use lib.ListN.{length, getD, drop}
 use lib.Seq.{drop-drop, getD-drop}
 use borrow.Author.Tests.{lt-ltb, le-ltb}
 use Rattle.rtp.specs.Sizes.{rowWidth}
-pub use Rattle.payload.proofs.RowLaws.{rows-none, rows-more, length-rows}
+pub use Rattle.frame_rows.proofs.RowLaws.{rows-none, rows-more, length-rows}
 use Rattle.plans.specs.Lists.{rowOf, rowsIn, outside}
 
 -- some row is outside, from a word of the area on

@@ -12,15 +12,15 @@ use borrow.Author.Tests.{lt-ltb, le-ltb, ltb-true, leb-true, eqb-true, eqb-false
 use Rattle.rtp.specs.Sizes.{maxRows, maxFrame, rowWidth}
 use Rattle.rtp.proofs.TestLaws.{by-test, not-both, both}
 use Rattle.contents.specs.Contents.{Group, Contents, refused, groups, gapsSize, entrySize, sizeIn, framesIn}
-use Rattle.payload.specs.Rows.{Row}
+use Rattle.frame_rows.specs.Rows.{Row}
 use Rattle.plans.specs.declared.planning.Plan.{Plan}
 use Rattle.plans.specs.declared.planning.Planned.{Planned}
 use Rattle.plans.specs.declared.planning.ListPlan.{ListPlan}
 use Rattle.formats.specs.Formats.{formatOf, stepOf, maxGap}
-use Rattle.formats.specs.Codes.{noCode, codeFor}
+use Rattle.codes.specs.Codes.{noCode, codeFor}
 use Rattle.contents.proofs.EntryLaws.{min-few}
 use Rattle.formats.proofs.FormatLaws.{header-small}
-use Rattle.formats.proofs.CodeLaws.{code-small}
+use Rattle.codes.proofs.CodeLaws.{code-small}
 use Rattle.plans.specs.Plans.{maxPayload, gapBetween, starts, headGap, joinsRun, joins, attach, follows, planFrom, plan, nextChannel, stepBefore, payloadSize, fitting}
 use Rattle.plans.specs.Lists.{rowsIn}
 use Rattle.plans.proofs.ListLaws.{rows-none, rows-more, length-rows}

@@ -5,8 +5,8 @@ use mathlib.Core.Bool.{Bool, true, false, cond}
 use lib.ListN.{length}
 use lib.Dec.{ltb, eqb}
 use Rattle.rtp.specs.Sizes.{rowWidth}
-use Rattle.payload.specs.Rows.{Row}
-pub use Rattle.payload.specs.Rows.{rowOf, rowsIn}
+use Rattle.frame_rows.specs.Rows.{Row}
+pub use Rattle.frame_rows.specs.Rows.{rowOf, rowsIn}
 
 -- the time of a list's first row, at which it is read back
 abbrev pub firstTime : List Row → ℕ

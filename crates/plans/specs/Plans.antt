@@ -12,8 +12,8 @@ use Rattle.rtp.specs.declared.refusal.Fault.{Fault}
 use Rattle.rtp.specs.declared.refusal.Refusal.the-variants.{Unwritable}
 use Rattle.formats.specs.Formats.{formatOf, stepOf, maxGap}
 use Rattle.contents.specs.Contents.{Group, Contents, refused, groups, sizeIn, framesIn}
-use Rattle.payload.specs.Rows.{Row}
-use Rattle.formats.specs.Codes.{noCode, codeFor}
+use Rattle.frame_rows.specs.Rows.{Row}
+use Rattle.codes.specs.Codes.{noCode, codeFor}
 
 -- the longest payload that is written alone: what a packet has room for after its header
 abbrev pub maxPayload : ℕ

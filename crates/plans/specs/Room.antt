@@ -7,7 +7,7 @@ use lib.Dec.{leb}
 use Rattle.rtp.specs.Sizes.{maxRows, maxFrame}
 use Rattle.contents.specs.Contents.{Contents, refused, groups, entrySize, sizeIn, framesIn}
 use Rattle.formats.specs.Formats.{maxGap}
-use Rattle.payload.specs.Rows.{Row}
+use Rattle.frame_rows.specs.Rows.{Row}
 use Rattle.plans.specs.declared.lists.RowWords.{RowWords}
 use Rattle.plans.specs.declared.planning.Plan.{Plan}
 use Rattle.plans.specs.declared.planning.Planned.{Planned}

@@ -1,16 +1,16 @@
 // The table of contents that a frame list is written with.
 use crate::lists;
 use crate::lists::RowWords;
+use codes::coding;
 use contents::entries;
-use formats::codes;
 use formats::facts;
 use formats::frames;
-use formats::tagging;
 use rtp::sizes::MAX_PACKET;
 use rtp::sizes::MAX_ROWS;
 use rtp::sizes::MIN_PACKET;
 use rtp::sizes::ROW_WIDTH;
 use rtp::time;
+use tags::tagging;
 ghost use mathlib.Core.Path.{_≡_};
 ghost use Prim.Native.Nat.{_+_, _*_, _/_, _%_, _^_, _<_};
 ghost use lib.Dec.{eqb};
@@ -87,7 +87,7 @@ fn next_channel(channels: u32, c: u32) -> u32
 fn starts_block(format: u8, previous: u32, row: RowWords) -> bool
     ensures { λ r. ⌜ r ≡ starts format previous (rowAs row) ⌝ }
 {
-    if codes::has_code(format, tagging::tag_class(row.tag), row.length) {
+    if coding::has_code(format, tagging::tag_class(row.tag), row.length) {
         return whole_steps(format, ticks_after(format, previous, row.time));
     }
     false

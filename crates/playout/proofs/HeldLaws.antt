@@ -10,11 +10,12 @@ use lib.ListN.{length, drop, length-drop}
 use lib.Seq.{length-take-le}
 use lib.Dec.{ltb}
 use borrow.Author.Tests.{ltb-true}
-use Rattle.formats.specs.Tags.{eitherMark}
-use Rattle.formats.proofs.TagLaws.{either-small}
+use Rattle.tags.specs.Tags.{eitherMark}
+use Rattle.tags.proofs.TagLaws.{either-small}
 use Rattle.playout.specs.Sizes.{slots, slotSize, storeSize}
 use Rattle.playout.specs.Pairs.{half, ahead, order, isAfter}
-use Rattle.playout.specs.Copies.{Copy, Received, FrameClass}
+use Rattle.formats.specs.Frames.{FrameClass}
+use Rattle.playout.specs.Copies.{Copy, Received}
 use Rattle.playout.specs.Entries.{Entry, Held, frameOf, view, entryOf, remarked, sideOfEntry, findBy, freeSlot, always, placed, stored}
 use Rattle.playout.specs.Verdicts.{isLate, isFar, allWithin, fits, holding, judge, judgeAll}
 use Rattle.playout.specs.Lists.{copiesOf}

@@ -10,7 +10,7 @@ use lib.ListN.{length}
 use lib.Dec.{eqb}
 use borrow.Author.Tests.{eqb-true, eqb-false}
 use Rattle.rtp.proofs.TestLaws.{by-test}
-use Rattle.formats.specs.Tags.{primaryMark, redundantMark, eitherMark}
+use Rattle.tags.specs.Tags.{primaryMark, redundantMark, eitherMark}
 use Rattle.playout.specs.Sizes.{slots, storeSize}
 use Rattle.playout.specs.Pairs.{order}
 use Rattle.playout.specs.Copies.{Copy, Received}

@@ -9,8 +9,8 @@ use native.Mathlib.Numerals.{add-one}
 use lib.ListN.{length, drop, getD, drop-of-length-le}
 use lib.Seq.{drop-cons}
 use lib.Dec.{eqb}
-use Rattle.formats.specs.Frames.{noData, sound, sid, damagedSound, damagedSid, maxClass}
-use Rattle.playout.specs.Copies.{Copy, FrameClass, quality, soundness, greaterAt, greater, rank, betterFrame, better}
+use Rattle.formats.specs.Frames.{noData, sound, sid, damagedSound, damagedSid, maxClass, FrameClass}
+use Rattle.playout.specs.Copies.{Copy, quality, soundness, greaterAt, greater, rank, betterFrame, better}
 use Rattle.playout.specs.Lists.{SamePair}
 use Rattle.playout.proofs.InsertionLaws.{Cmp, cmp}
 

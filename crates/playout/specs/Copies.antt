@@ -2,11 +2,9 @@
 use Prim.Native.Nat.{ℕ, compare, Ordering, Ordering·lt, Ordering·eq, Ordering·gt}
 use mathlib.Core.List.{List, [], _∷_}
 use mathlib.Core.Bool.{Bool, true, false, cond}
-use mathlib.Core.Path.{_≡_}
-use mathlib.Core.Logic.{_⊎_}
 use lib.ListN.{length}
 use lib.Dec.{leb, eqb}
-use Rattle.formats.specs.Frames.{sound, sid, damagedSound, damagedSid}
+use Rattle.formats.specs.Frames.{sound, sid, damagedSound}
 use Rattle.playout.specs.Pairs.{order}
 
 -- a copy of a frame: its pair (time, channel), its class and its bytes
@@ -35,10 +33,6 @@ unfoldable pub greater : List ℕ → List ℕ → Bool
 greater [] ys = false
 greater (x ∷ xs) [] = true
 greater (x ∷ xs) (y ∷ ys) = greaterAt (compare x y) (greater xs ys)
-
--- the class of a frame: sound or SID, good or damaged
-abbrev pub FrameClass : ℕ → Type 0
-FrameClass class = (class ≡ sound) ⊎ ((class ≡ sid) ⊎ ((class ≡ damagedSound) ⊎ (class ≡ damagedSid)))
 
 -- 1 of a good frame, 0 of a damaged one: the damaged classes are those over `sid`
 unfoldable pub quality : ℕ → ℕ

@@ -6,7 +6,7 @@ use mathlib.Core.Logic.{_⊎_}
 use mathlib.Core.Bool.{false}
 use lib.ListN.{length}
 use Rattle.playout.specs.Pairs.{half, ahead}
-use Rattle.formats.specs.Tags.{primaryMark, redundantMark}
+use Rattle.tags.specs.Tags.{primaryMark, redundantMark}
 use Rattle.playout.specs.Copies.{Copy, Received, side, better}
 
 -- each after the one before

@@ -9,7 +9,7 @@ use Rattle.playout.specs.declared.verdict.Verdict.{Verdict}
 use Rattle.playout.specs.declared.verdict.Verdict.the-variants.{Late, Far, Repeated, Better, NoRoom, Inserted}
 use Rattle.playout.specs.Sizes.{slots}
 use Rattle.playout.specs.Pairs.{half, ahead, order, isAfter}
-use Rattle.formats.specs.Tags.{eitherMark}
+use Rattle.tags.specs.Tags.{eitherMark}
 use Rattle.playout.specs.Copies.{Copy, Received, better}
 use Rattle.playout.specs.Entries.{Entry, Held, view, entryOf, remarked, sideOfEntry, findBy, freeSlot, placed, stored}
 

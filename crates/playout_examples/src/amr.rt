@@ -4,12 +4,12 @@ use crate::example;
 use drawing::draws;
 use drawing::draws::DrawAnswer;
 use drawing::draws::DrawnFrame;
-use formats::tagging::PRIMARY;
 use layout::buffer::Buffer;
 use reorder::calls;
 use rtp::refusal;
 use rtp::settings::AMR;
 use rtp::settings::AMR_WB;
+use tags::tagging::PRIMARY;
 
 // Whether a frame drawn was heard first-hand.
 fn print_heard(primary: u32) {

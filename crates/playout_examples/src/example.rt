@@ -2,17 +2,17 @@
 use drawing::draws;
 use drawing::draws::DrawAnswer;
 use drawing::draws::DrawnFrame;
-use formats::tagging::PRIMARY;
+use insertion::tally::Tally;
 use layout::buffer::Buffer;
 use layout::buffer::SLOT_SIZE;
 use layout::buffer::STORE_SIZE;
 use reorder::calls;
 use reorder::calls::OfferAnswer;
-use reorder::tally::Tally;
 use rtp::refusal;
 use rtp::refusal::Fault;
 use rtp::settings::Settings;
 use rtp::sizes::ROW_AREA;
+use tags::tagging::PRIMARY;
 
 pub(crate) fn print(text: &[u8], value: u32) {
     io::write_all(1, text);

@@ -1,75 +1,21 @@
-// A packet made of given bytes and zeros, read and printed. It is laid into 2,049 bytes, one more than the longest packet has.
-use formats::tagging;
+// A packet read, and what reading answers printed.
+use case_text::values::ROOM;
 use packet::reading;
 use packet::reading::Packet;
 use packet::reading::Reading;
 use rtp::refusal;
 use rtp::settings::AMR;
 use rtp::settings::Settings;
-use rtp::sizes::MAX_PACKET;
 use rtp::sizes::MAX_ROWS;
 use rtp::sizes::ROW_AREA;
 use rtp::sizes::ROW_WIDTH;
+use tags::tagging;
 ghost use Prim.Native.Nat.{_≤_};
-
-// The payload type and the redundancy type agreed, and a header's first byte with version 2 and no other bit.
-pub(crate) const PLAIN: u8 = 97;
-
-pub(crate) const REDUNDANT: u8 = 98;
-
-pub(crate) const VERSION_2: u8 = 0x80;
-
-pub(crate) fn agreed(format: u8, channels: u8) -> Settings {
-    Settings {
-        format,
-        channels,
-        payload_type: PLAIN,
-        redundancy_type: REDUNDANT,
-    }
-}
 
 fn least(a: usize, b: usize) -> usize
     ensures { λ r. ⌜ r ≤ b ⌝ }
 {
     if a < b { a } else { b }
-}
-
-// One byte more than the longest packet.
-const LONGEST: usize = MAX_PACKET + 1;
-
-// `text` laid at `at`, as far as the packet reaches.
-pub(crate) fn put(bytes: &mut [u8; LONGEST], at: usize, text: &[u8]) {
-    let mut i = 0;
-    while i < text.len() {
-        if at < LONGEST {
-            if i < LONGEST - at {
-                bytes[at + i] = text[i];
-            }
-        }
-        i += 1;
-    }
-}
-
-fn zeros() -> [u8; LONGEST] {
-    [0; LONGEST]
-}
-
-// A fixed header with sequence 65244 and source 2712847316, and zeros.
-pub(crate) fn start(first: u8, second: u8, time: u32) -> [u8; LONGEST] {
-    let mut bytes = zeros();
-    bytes[0] = first;
-    bytes[1] = second;
-    bytes[2] = 0xFE;
-    bytes[3] = 0xDC;
-    bytes[4] = (time / 16777216) as u8;
-    bytes[5] = (time / 65536 % 256) as u8;
-    bytes[6] = (time / 256 % 256) as u8;
-    bytes[7] = (time % 256) as u8;
-    bytes[8] = 0xA1;
-    bytes[9] = 0xB2;
-    bytes[10] = 0xC3;
-    bytes[11] = 0xD4;
-    bytes
 }
 
 fn print(text: &[u8], value: u32) {
@@ -150,45 +96,9 @@ fn zero_rows() -> [u32; ROW_AREA] {
     [0; ROW_AREA]
 }
 
-// The same with an area of zeros, and what it came to printed under a label.
-pub(crate) fn read_into(
-    label: &[u8],
-    settings: Settings,
-    bytes: &[u8; LONGEST],
-    size: usize,
-    words: usize,
-) {
-    io::write_all(1, label);
-    io::write_all(1, b"\n");
+// The same with an area of zeros, and what it came to printed.
+pub(crate) fn read(settings: Settings, words: u32, bytes: &[u8; ROOM], size: u32) {
     let mut rows = zero_rows();
-    let answer = read_part(settings, bytes, size, &mut rows, words);
+    let answer = read_part(settings, bytes, size as usize, &mut rows, words as usize);
     print_reading(settings.format, answer, &rows);
-}
-
-pub(crate) fn read(label: &[u8], settings: Settings, bytes: &[u8; LONGEST], size: usize) {
-    read_into(label, settings, bytes, size, ROW_AREA);
-}
-
-// A packet of `size` bytes whose payload starts with `text`.
-pub(crate) fn payload(
-    label: &[u8],
-    settings: Settings,
-    second: u8,
-    time: u32,
-    text: &[u8],
-    size: usize,
-) {
-    let mut bytes = start(VERSION_2, second, time);
-    put(&mut bytes, 12, text);
-    read(label, settings, &bytes, size);
-}
-
-// The same of the plain type, at time 0.
-pub(crate) fn plain(label: &[u8], settings: Settings, text: &[u8], size: usize) {
-    payload(label, settings, PLAIN, 0, text, size);
-}
-
-// The same of the redundancy type, at time 0.
-pub(crate) fn redundant(label: &[u8], settings: Settings, text: &[u8], size: usize) {
-    payload(label, settings, REDUNDANT, 0, text, size);
 }

@@ -1,51 +1,23 @@
 // Reads packets, whole and damaged, and prints for each what reading answers: the refusal's number and offset; or row count, marker,
 // sequence, timestamp and source, in AMR and AMR-WB the mode request, and a line for each row with its time, class, channel, start,
-// length, and 1 if it was heard first-hand (document 02, P6), 0 if in a redundant block.
-mod accepted;
-mod amr;
+// length, and 1 if it was heard first-hand (document 02, P6), 0 if in a redundant block. The packets are on standard input.
+mod cases;
 mod example;
-mod groups;
-mod places;
-mod refused;
-mod tables;
 
+use case_text::script;
+
+// A proved loop has to end, so this one counts its turns down from a number that no text reaches.
 fn main() {
-    tables::payload_examples();
-    tables::frame_lengths();
-    tables::plain_packets();
-    tables::redundancy();
-    tables::gsm_hr();
-    accepted::headers();
-    accepted::other_blocks();
-    accepted::few_blocks();
-    accepted::ignored_bits();
-    accepted::times();
-    groups::two();
-    groups::more();
-    groups::in_a_block();
-    amr::each_type();
-    amr::one_frame();
-    amr::several();
-    amr::redundancy();
-    amr::last_with_rows();
-    amr::truncated();
-    amr::reserved();
-    amr::rows();
-    amr::sizes();
-    refused::lengths_and_version();
-    refused::headers();
-    refused::padding();
-    refused::types();
-    refused::truncated();
-    refused::truncated_headers();
-    refused::entries();
-    refused::rows();
-    refused::sizes();
-    refused::blocks();
-    refused::settings();
-    refused::areas();
-    places::padded();
-    places::after_headers();
-    places::entries();
-    places::blocks();
+    let mut bytes = io::buffer();
+    let mut case = cases::unsettled();
+    let mut turns = u64::MAX;
+    while turns > 0 {
+        let line = script::next();
+        if !script::is_line(&line) {
+            break;
+        }
+        let next = cases::follow(case, &line, &mut bytes);
+        case = next;
+        turns -= 1;
+    }
 }

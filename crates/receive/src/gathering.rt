@@ -15,7 +15,6 @@ use drawing::draws::DrawnFrame;
 use formats::frames;
 use layout::buffer::Buffer;
 use layout::buffer::SLOT_SIZE;
-use layout::buffer::SLOTS;
 use layout::buffer::STORE_SIZE;
 use reorder::calls;
 use reorder::calls::NewAnswer;
@@ -23,6 +22,7 @@ use reorder::calls::OfferAnswer;
 use rtp::settings::Settings;
 use rtp::sizes::MAX_ROWS;
 use rtp::sizes::ROW_AREA;
+use slot_marks::bits::SLOTS;
 
 // The frames kept between packets: with the most that a packet can bring they fill the buffer, so that none is turned away for want of room.
 const KEPT: usize = SLOTS - MAX_ROWS;

@@ -1,9 +1,9 @@
 // What was counted over the whole stream.
-use formats::tagging::PRIMARY;
+use insertion::tally::Tally;
 use reorder::calls::OfferAnswer;
-use reorder::tally::Tally;
 use rtp::refusal;
 use rtp::refusal::Refusal;
+use tags::tagging::PRIMARY;
 
 // Refusal numbers are below this.
 pub(crate) const REFUSALS: usize = 16;

@@ -7,14 +7,14 @@ use borrow.Author.Tests.{ltb-false, eq-eqb, ne-eqb}
 use Rattle.rtp.specs.Time.{difference}
 use Rattle.rtp.specs.declared.refusal.Refusal.the-variants.{MalformedBuffer}
 use Rattle.rtp.proofs.TestLaws.{either, not-both}
-use Rattle.reception.specs.Sizes.{minSequential, maxSum}
-use Rattle.reception.specs.declared.record.Reception.{Reception}
+use Rattle.validity.specs.Sizes.{minSequential, maxSum}
+use Rattle.validity.specs.declared.record.Reception.{Reception}
 use Rattle.reception.specs.declared.calls.PacketAnswer.{PacketAnswer}
 use Rattle.reception.specs.declared.calls.ReportAnswer.{ReportAnswer}
-use Rattle.reception.specs.Sequence.{judged}
-use Rattle.reception.specs.Report.{noted}
+use Rattle.validity.specs.Sequence.{judged}
+use Rattle.packet_loss.specs.Report.{noted}
 use Rattle.reception.specs.Jitter.{arrived}
-use Rattle.reception.specs.WellFormed.{wellFormed}
+use Rattle.validity.specs.WellFormed.{wellFormed}
 use Rattle.reception.specs.Calls.{withCounts, packetNumbers, packetJudged, packetCall, noBlock, blockNumbers, reportNumbers, blockOf, reportCall}
 
 -- the answer r of a test t, negated

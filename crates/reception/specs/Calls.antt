@@ -6,16 +6,16 @@ use lib.Dec.{eqb}
 use Rattle.rtp.specs.Time.{difference}
 use Rattle.rtp.specs.Refusals.{number}
 use Rattle.rtp.specs.declared.refusal.Refusal.the-variants.{MalformedBuffer}
-use Rattle.reception.specs.declared.record.Counts.{Counts}
-use Rattle.reception.specs.declared.record.Reception.{Reception}
-use Rattle.reception.specs.declared.sequence.Judged.{Judged}
+use Rattle.validity.specs.declared.record.Counts.{Counts}
+use Rattle.validity.specs.declared.record.Reception.{Reception}
+use Rattle.validity.specs.declared.sequence.Judged.{Judged}
 use Rattle.reception.specs.declared.calls.PacketAnswer.{PacketAnswer}
 use Rattle.reception.specs.declared.calls.ReportBlock.{ReportBlock}
 use Rattle.reception.specs.declared.calls.ReportAnswer.{ReportAnswer}
-use Rattle.reception.specs.Sequence.{judged}
-use Rattle.reception.specs.Report.{extended, fractionLost, cumulativeLost, noted}
+use Rattle.validity.specs.Sequence.{judged}
+use Rattle.packet_loss.specs.Report.{extended, fractionLost, cumulativeLost, noted}
 use Rattle.reception.specs.Jitter.{jitterOf, arrived}
-use Rattle.reception.specs.WellFormed.{wellFormed}
+use Rattle.validity.specs.WellFormed.{wellFormed}
 
 -- New
 

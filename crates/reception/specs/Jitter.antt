@@ -4,9 +4,9 @@ use mathlib.Core.Bool.{cond}
 use lib.IntN.{natAbs}
 use lib.Dec.{eqb}
 use Rattle.rtp.specs.Time.{difference}
-use Rattle.reception.specs.Signed.{signed}
-use Rattle.reception.specs.declared.record.Counts.{Counts}
-use Rattle.reception.specs.declared.record.Reception.{Reception}
+use Rattle.packet_loss.specs.Signed.{signed}
+use Rattle.validity.specs.declared.record.Counts.{Counts}
+use Rattle.validity.specs.declared.record.Reception.{Reception}
 
 -- how far two transits differ: their difference modulo 2^32 read as signed, and its size, which is 2^31 at the lowest
 unfoldable pub distance : ℕ → ℕ → ℕ

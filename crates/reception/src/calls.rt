@@ -1,15 +1,15 @@
 // The three calls: a fresh record, a packet, a report.
 use crate::jitter;
-use crate::losses;
-use crate::record;
-use crate::record::Counts;
-use crate::record::Reception;
-use crate::sequence;
+use packet_loss::losses;
 use rtp::refusal::Refusal;
 use rtp::time;
+use validity::record;
+use validity::record::Counts;
+use validity::record::Reception;
+use validity::sequence;
 ghost use mathlib.Core.Path.{_≡_};
 ghost use Prim.Native.Nat.{_≤_};
-ghost use Rattle.reception.specs.Sizes.{maxSum};
+ghost use Rattle.validity.specs.Sizes.{maxSum};
 ghost use Rattle.reception.specs.Jitter.{arrived};
 ghost use Rattle.reception.specs.Calls.{fresh, packetNumbers, packetCall, reportNumbers, reportCall, blockOf};
 

@@ -1,9 +1,9 @@
 // RFC 3550, appendix A.8: the jitter, in its whole-number form.
-use crate::signed;
+use packet_loss::signed;
 use rtp::time;
 ghost use mathlib.Core.Path.{_≡_};
 ghost use Prim.Native.Nat.{_≤_};
-ghost use Rattle.reception.specs.Sizes.{maxSum};
+ghost use Rattle.validity.specs.Sizes.{maxSum};
 ghost use Rattle.reception.specs.Jitter.{distance, smoothed};
 
 // How far two transits differ: their difference modulo 2^32 read as signed, and its size.

@@ -1,7 +1,3 @@
-// Reception reports (RFC 3550, appendix A): which packets of a source are valid, how many were lost, and the jitter of their arrival.
+// Reception reports (RFC 3550, appendix A): the jitter of a source's packets, and the three calls.
 pub mod calls;
 pub mod jitter;
-pub mod losses;
-pub mod record;
-pub mod sequence;
-pub mod signed;

@@ -1,11 +1,11 @@
 // A source, its packets and reports, printed.
+use packet_loss::signed;
 use reception::calls;
 use reception::calls::PacketAnswer;
 use reception::calls::ReportAnswer;
 use reception::calls::ReportBlock;
-use reception::record::Reception;
-use reception::signed;
 use rtp::refusal;
+use validity::record::Reception;
 
 fn print(text: &[u8], value: u32) {
     io::write_all(1, text);

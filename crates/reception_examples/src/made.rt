@@ -1,7 +1,7 @@
 // Records that no call leaves: what is refused, what is held to its range, and numbers beyond 16 bits.
 use crate::example;
-use reception::record::Counts;
-use reception::record::Reception;
+use validity::record::Counts;
+use validity::record::Reception;
 
 fn made(jitter: u64, probation: u32, highest: u32, received: u32) -> Reception {
     Reception {

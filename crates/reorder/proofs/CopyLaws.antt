@@ -2,10 +2,9 @@
 use mathlib.Core.Path.{_≡_, sym, subst}
 use mathlib.Core.List.{List, [], _∷_, _++_, List·Memᴰ·head as here, List·Memᴰ·tail as there, List·Memᴰ·not-nil as nowhere}
 use mathlib.Core.Bool.{true}
-use Prim.Native.Nat.{ℕ, _+_, _-_, _≤_, _<_}
+use Prim.Native.Nat.{ℕ, _≤_, _<_}
 use native.Mathlib.Omega.{arith}
-use lib.ListN.{length, take, drop, length-drop}
-use lib.Seq.{length-take-le}
+use lib.ListN.{length}
 use lib.Dec.{eqb}
 use borrow.Author.Tests.{lt-ltb, eqb-false, ne-eqb}
 use Rattle.rtp.specs.Ranges.{inRange}
@@ -13,21 +12,19 @@ use Rattle.rtp.specs.declared.settings.Settings.{Settings}
 use Rattle.rtp.proofs.TestLaws.{by-test}
 use Rattle.rtp.proofs.RangeLaws.{few-channels}
 use Rattle.formats.specs.Frames.{noData}
-use Rattle.payload.specs.Rows.{Row}
+use Rattle.frame_rows.specs.Rows.{Row}
 use Rattle.payload.proofs.RowFactLaws.{RowFine, AllRows}
 use Rattle.packet.specs.Readings.{Outcome, refused, readAs, reading}
 use Rattle.packet.proofs.RowFactLaws.{rows-fine}
 use Rattle.playout.specs.Copies.{Received}
 use Rattle.playout.specs.Lists.{copiesOf}
 use Rattle.playout.proofs.HeldLaws.{IsFrame, Frames, Marks}
-use Rattle.layout.specs.Model.{allowed}
-use Rattle.reorder.specs.Rows.{copyOf, receivedIn, readReceived}
+use Rattle.codes.specs.Allowed.{allowed}
+use Rattle.reorder.specs.Rows.{copyOf, receivedIn}
 use Rattle.reorder.specs.Judging.{RowAllowed, RowsAllowed}
 use Rattle.reorder.proofs.StateLaws.{Fit, Fits, fit-frame}
-
--- a frame's bytes are as many as its row says
-pub frame-size : (packet : List ℕ) (start n : ℕ) → start + n ≤ length packet → length (take n (drop start packet)) ≡ n
-frame-size packet start n h = length-take-le n (drop start packet) (simp length-drop (omega arith))
+use Rattle.reorder.proofs.RowStepLaws.{frame-size}
+use Rattle.reorder.specs.ModelCalls.{readReceived}
 
 module _ (st : Settings) (few : st .channels ≤ 2) (packet : List ℕ) where
   row-allowed : (r : Row) → RowFine (st .format) (st .channels) (length packet) r → RowAllowed st (length packet) r

@@ -1,9 +1,9 @@
 pub mod PlaceLaws
-pub mod CallLaws
 pub mod StateLaws
 pub mod BufferLaws
-pub mod CopyLaws
 pub mod VerdictLaws
 pub mod PlaceSearchLaws
 pub mod RowStepLaws
+pub mod CallLaws
+pub mod CopyLaws
 pub mod OfferLaws

@@ -11,12 +11,12 @@ use Rattle.rtp.specs.Ranges.{inRange}
 use Rattle.rtp.specs.Refusals.{number}
 use Rattle.rtp.specs.Areas.{over}
 use Rattle.rtp.specs.declared.refusal.Fault.{Fault}
-use Rattle.rtp.specs.declared.header.Header.{Header}
+use Rattle.rtp_headers.specs.declared.header.Header.{Header}
 use Rattle.rtp.proofs.RefusalLaws.{number-positive}
 use Rattle.rtp.proofs.RangeLaws.{few-channels}
-use Rattle.formats.proofs.CodeLaws.{code-small}
-use Rattle.payload.specs.Rows.{Row, words, rowsIn}
-use Rattle.payload.proofs.RowLaws.{length-words, TagsFit, rows-words}
+use Rattle.codes.proofs.CodeLaws.{code-small}
+use Rattle.frame_rows.specs.Rows.{Row, words, rowsIn}
+use Rattle.frame_rows.proofs.RowLaws.{length-words, TagsFit, rows-words}
 use Rattle.payload.proofs.RowFactLaws.{RowFine, AllRows}
 use Rattle.packet.specs.declared.reading.Packet.{Packet}
 use Rattle.packet.specs.declared.reading.Reading.{Reading}
@@ -27,12 +27,14 @@ use Rattle.playout.specs.Verdicts.{noCounts, tally, Gathered, judgeAll}
 use Rattle.layout.specs.declared.buffer.Buffer.{Buffer}
 use Rattle.reorder.specs.declared.calls.OfferAnswer.{OfferAnswer}
 use Rattle.reorder.specs.declared.judging.Judged.{Judged}
-use Rattle.reorder.specs.declared.tally.Tally.{Tally}
+use Rattle.insertion.specs.declared.tally.Tally.{Tally}
 use Rattle.layout.specs.Layout.{encode, decode}
 use Rattle.layout.specs.WellFormed.{wellFormed}
 use Rattle.reorder.specs.Rows.{receivedIn}
 use Rattle.layout.specs.Arrays.{Machine}
-use Rattle.reorder.specs.Judging.{noTally, RowsJudgeable, RowsJudged, OfferJudged}
+use Rattle.insertion.specs.Tallies.{noTally}
+use Rattle.reorder.specs.Judging.{RowsJudgeable, RowsJudged}
+use Rattle.reorder.specs.Offers.{OfferJudged}
 use Rattle.reorder.specs.Calls.{OfferNumbers, countNumbers, offerNumbers, offerRefused, offerCall}
 use Rattle.reorder.proofs.CallLaws.{offerRead, offer-reads}
 use Rattle.reorder.proofs.CopyLaws.{rows-allowed}

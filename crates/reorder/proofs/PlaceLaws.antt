@@ -9,7 +9,7 @@ use native.Mathlib.Omega.{arith}
 use borrow.Author.Tests.{ne-eqb}
 use lib.Dec.{ltb}
 use lib.ListN.{length, getD, set}
-use Rattle.formats.specs.Tags.{tagChannel}
+use Rattle.tags.specs.Tags.{tagChannel}
 use Rattle.playout.specs.Sizes.{slots}
 use Rattle.playout.specs.Pairs.{half, ahead, order, sideOf}
 use Rattle.playout.specs.declared.order.Side.{Side}

@@ -14,11 +14,11 @@ use Rattle.playout.proofs.WrapLaws.{Near, place, order-place, order-after}
 use Rattle.playout.proofs.HeldLaws.{entryPlace, Sorted, sorted-with}
 use Rattle.rtp.proofs.RangeLaws.{few-channels}
 use Rattle.layout.specs.declared.buffer.Buffer.{Buffer}
-use Rattle.reorder.specs.declared.laying.FrameHead.{FrameHead}
-use Rattle.layout.specs.Bits.{heldIn}
+use Rattle.insertion.specs.declared.laying.FrameHead.{FrameHead}
+use Rattle.slot_marks.specs.Bits.{heldIn}
 use Rattle.placing.specs.Places.{Parted}
 use Rattle.layout.specs.Layout.{entryAt, decode}
-use Rattle.reorder.specs.Laying.{channelIn, copyIn}
+use Rattle.insertion.specs.Laying.{channelIn, copyIn}
 use Rattle.reorder.specs.Judging.{Judgeable}
 use Rattle.layout.proofs.LayoutLaws.{noEntry, at-member}
 use Rattle.layout.proofs.WellFormedLaws.{decode-length}

@@ -4,16 +4,17 @@ use mathlib.Core.List.{List, [], _∷_}
 use mathlib.Core.Bool.{Bool, true, cond}
 use Prim.Native.Nat.{ℕ, _+_, _-_, _≤_, _<_, _^_}
 use native.Mathlib.Omega.{arith}
-use lib.ListN.{length, take, drop}
+use lib.ListN.{length, take, drop, length-drop}
+use lib.Seq.{length-take-le}
 use borrow.Author.Tests.{eq-eqb, ne-eqb}
 use Rattle.rtp.specs.Sizes.{rowWidth}
 use Rattle.rtp.specs.Ranges.{inRange}
 use Rattle.rtp.proofs.AreaLaws.{part-to-end}
 use Rattle.rtp.proofs.RangeLaws.{few-channels}
 use Rattle.formats.specs.Frames.{noData}
-use Rattle.formats.proofs.TagLaws.{mark-small}
-use Rattle.payload.specs.Rows.{Row, rowOf, rowsIn}
-use Rattle.payload.proofs.RowLaws.{rows-more}
+use Rattle.tags.proofs.TagLaws.{mark-small}
+use Rattle.frame_rows.specs.Rows.{Row, rowOf, rowsIn}
+use Rattle.frame_rows.proofs.RowLaws.{rows-more}
 use Rattle.playout.specs.declared.verdict.Verdict.{Verdict}
 use Rattle.playout.specs.declared.verdict.Verdict.the-variants.{Late, Far, Repeated, Better, NoRoom, Inserted}
 use Rattle.playout.specs.Sizes.{storeSize}
@@ -21,19 +22,24 @@ use Rattle.playout.specs.Copies.{Received}
 use Rattle.playout.specs.Entries.{Held}
 use Rattle.playout.specs.Verdicts.{Counts, counted, tally, Gathered, judge, judgeAll}
 use Rattle.layout.specs.declared.buffer.Buffer.{Buffer}
-use Rattle.reorder.specs.declared.tally.Tally.{Tally}
-use Rattle.reorder.specs.declared.laying.FrameHead.{FrameHead}
+use Rattle.insertion.specs.declared.tally.Tally.{Tally}
+use Rattle.insertion.specs.declared.laying.FrameHead.{FrameHead}
 use Rattle.layout.specs.Layout.{encode, decode}
-use Rattle.layout.specs.Model.{allowed}
+use Rattle.codes.specs.Allowed.{allowed}
 use Rattle.layout.specs.WellFormed.{wellFormed}
 use Rattle.reorder.specs.Rows.{firstRow, restWords, receivedAs, receivedIn}
 use Rattle.layout.specs.Arrays.{Machine}
-use Rattle.reorder.specs.Laying.{markIn, copyIn}
-use Rattle.reorder.specs.Judging.{Judgeable, JudgedAs, countsOf, RowsAllowed, RowsJudgeable, RowsJudged}
+use Rattle.insertion.specs.Laying.{markIn, copyIn}
+use Rattle.insertion.specs.Tallies.{countsOf, tallied}
+use Rattle.insertion.proofs.TallyLaws.{tallied-is}
+use Rattle.reorder.specs.Judging.{Judgeable, JudgedAs, RowsAllowed, RowsJudgeable, RowsJudged}
 use Rattle.reorder.proofs.StateLaws.{Good, judge-good}
 use Rattle.reorder.proofs.BufferLaws.{buffer-good, good-machine, good-fine, good-back}
 use Rattle.layout.proofs.WellFormedLaws.{encode-decode}
-use Rattle.reorder.proofs.CopyLaws.{frame-size}
+
+-- a frame's bytes are as many as its row says
+pub frame-size : (packet : List ℕ) (start n : ℕ) → start + n ≤ length packet → length (take n (drop start packet)) ≡ n
+frame-size packet start n h = length-take-le n (drop start packet) (simp length-drop (omega arith))
 
 pub rows-split : (ws : List ℕ) → rowWidth ≤ length ws → rowsIn ws ≡ firstRow ws ∷ rowsIn (restWords ws)
 rows-split ws l = rows-more ws l ∙ ap (λ (x : List ℕ). firstRow ws ∷ rowsIn x) (sym (part-to-end rowWidth ws))
@@ -96,7 +102,10 @@ module _ (b : Buffer) (packet : List ℕ) (t : Tally) (store : List ℕ) where
       pub copy-asks : Judgeable b head frame store
       copy-asks = record { machine = p .machine; settings = p .settings; fine = p .fine; class = frame-allowed; channel = p .rows .0 z .1; room = p .room }
 
-      module _ (word : r .time < 2 ^ 32) (b' : Buffer) (store' : List ℕ) (v : Verdict) (j : JudgedAs b b' (copyIn head frame) (markIn head) store store' v) (t' : Tally) (more : countsOf t' ≡ counted (countsOf t) v) where
+      module _ (word : r .time < 2 ^ 32) (b' : Buffer) (store' : List ℕ) (v : Verdict) (j : JudgedAs b b' (copyIn head frame) (markIn head) store store' v) (t' : Tally) (summed : countsOf t' ≡ tallied (countsOf t) v) where
+        more : countsOf t' ≡ counted (countsOf t) v
+        more = summed ∙ tallied-is t v (omega (arith, p .small))
+
         abbrev next : Held
         next = judge (decode b) store (copyIn head frame) (markIn head) .held
 

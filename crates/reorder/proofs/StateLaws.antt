@@ -8,7 +8,7 @@ use native.Mathlib.Omega.{arith}
 use lib.ListN.{length}
 use Rattle.rtp.specs.declared.settings.Settings.{Settings}
 use Rattle.rtp.proofs.TestLaws.{not-both}
-use Rattle.formats.specs.Tags.{eitherMark}
+use Rattle.tags.specs.Tags.{eitherMark}
 use Rattle.playout.specs.Sizes.{slots, storeSize}
 use Rattle.playout.specs.Copies.{Copy, Received}
 use Rattle.playout.specs.Entries.{Entry, Held, entryOf, remarked, sideOfEntry, always, placed, freeSlot}
@@ -16,9 +16,9 @@ use Rattle.playout.specs.Verdicts.{judge, judgeAll}
 use Rattle.playout.proofs.InsertionLaws.{put-from, find-mem}
 use Rattle.playout.proofs.JudgeLaws.{judge-cases, judge-last, judge-room}
 use Rattle.playout.proofs.HeldLaws.{IsFrame, HeldFacts, judge-facts, drawnFirst, draw-facts}
-use Rattle.layout.specs.Model.{allowed}
+use Rattle.codes.specs.Allowed.{allowed}
 use Rattle.layout.proofs.ModelLaws.{EntryFacts, Facts}
-use Rattle.layout.proofs.AllowedLaws.{allowed-frame}
+use Rattle.codes.proofs.AllowedLaws.{allowed-frame}
 
 -- the buffer's model, with its store, under settings in range
 pub record Good (st : Settings) (h : Held) (s : List ℕ) : Type 0 where

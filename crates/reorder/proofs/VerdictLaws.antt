@@ -11,7 +11,7 @@ use lib.Seq.{paste}
 use lib.Dec.{ltb, eqb}
 use borrow.Author.Tests.{lt-ltb, le-ltb, eqb-true, eqb-false}
 use Rattle.rtp.proofs.TestLaws.{by-test}
-use Rattle.formats.specs.Tags.{tagOf, eitherMark, joinedTag}
+use Rattle.tags.specs.Tags.{tagOf, eitherMark, joinedTag}
 use Rattle.playout.specs.declared.verdict.Verdict.{Verdict}
 use Rattle.playout.specs.declared.verdict.Verdict.the-variants.{Late, Far, Repeated, Better, NoRoom, Inserted}
 use Rattle.playout.specs.Sizes.{slots, slotSize, storeSize}
@@ -20,22 +20,23 @@ use Rattle.playout.specs.Entries.{Entry, view, entryOf, remarked, sideOfEntry, 
 use Rattle.playout.specs.Verdicts.{Judged, isLate, fits, isFar, keeps, holding, lays, repeats, judgeHeld, judge}
 use Rattle.layout.specs.declared.buffer.Buffer.{Buffer}
 use Rattle.placing.specs.declared.columns.Place.{Place}
-use Rattle.reorder.specs.declared.laying.FrameHead.{FrameHead}
-use Rattle.layout.specs.Bits.{heldIn, wordsOf, marked, lowestFree}
+use Rattle.insertion.specs.declared.laying.FrameHead.{FrameHead}
+use Rattle.slot_marks.specs.Bits.{heldIn, wordsOf, marked, lowestFree}
 use Rattle.layout.specs.Columns.{insertAt, fitsFrom}
 use Rattle.placing.specs.Places.{placeFrom}
 use Rattle.layout.specs.Layout.{entryTag, column, flagOf, encode, entryAt, entriesFrom, decode}
 use Rattle.layout.specs.WellFormed.{wellFormed}
 use Rattle.layout.specs.Arrays.{Machine}
-use Rattle.reorder.specs.Laying.{classIn, channelIn, markIn, copyIn, HeldAt, beats, Replaced, Laid}
+use Rattle.insertion.specs.Laying.{classIn, channelIn, markIn, copyIn, canReplace, beats, Replaced, canInsert, Laid}
+use Rattle.insertion.proofs.LayingLaws.{can-replace, can-insert}
 use Rattle.reorder.specs.Judging.{JudgedAs}
 use Rattle.layout.proofs.ColumnLaws.{inserted}
-use Rattle.layout.proofs.WordLaws.{slotOf, slotsOf, free-is}
-use Rattle.layout.proofs.FreeLaws.{free-when-room}
+use Rattle.slot_marks.proofs.WordLaws.{slotOf, slotsOf, free-is}
+use Rattle.slot_marks.proofs.FreeLaws.{free-when-room}
 use Rattle.layout.proofs.LayoutLaws.{tag-back, noEntry, at-member, column-insert, column-set, column-same, words-insert, words-set}
 use Rattle.reorder.proofs.PlaceLaws.{heldBy, AtPlace, place-at, fits-is}
 use Rattle.layout.proofs.WellFormedLaws.{facts, decode-length, words-held, encode-decode}
-use Rattle.layout.proofs.AllowedLaws.{allowed-frame}
+use Rattle.codes.proofs.AllowedLaws.{allowed-frame}
 
 -- the entry at a place of the list is that at the place of the columns
 pub entries-at : (b : Buffer) (k i j : ℕ) → j < k → getD (entriesFrom b k i) j noEntry ≡ entryAt b (i + j)
@@ -147,15 +148,16 @@ module _ (b : Buffer) (m : Machine b) (w : wellFormed b ≡ true) (head : FrameH
         abbrev e-in : List·Memᴰ (getD es i noEntry) es
         e-in = at-member es i (here-at 0 0 .within)
 
-        pub held-at : storeSize ≤ length store → HeldAt (b .lengths) (b .slots) i store
-        held-at l = record {
+        pub held-at : length frame ≤ slotSize → storeSize ≤ length store → canReplace (b .lengths) (b .slots) i (length frame) (length store) ≡ true
+        held-at k l = can-replace (b .lengths) (b .slots) i (length frame) (length store) (record {
           place = omega (arith, here-at 0 0 .within, facts b m w .room);
           slot = subst (λ (e : Entry). e .slot < slots) entry-here (facts b m w .slot-facts .within (getD es i noEntry) e-in);
-          short =
+          held =
               subst (λ (e : Entry). e .length ≤ slotSize) entry-here
               (allowed-frame (b .settings .format) (getD es i noEntry .class) (getD es i noEntry .length) (facts b m w .each (getD es i noEntry) e-in .frame) .1);
-          room = l;
-        }
+          short = k;
+          store = l;
+        })
 
         beats-here : better c (view store (getD es i noEntry)) ≡ beats head frame (b .tags) (b .lengths) (b .slots) i store
         unfolding view
@@ -262,7 +264,7 @@ module _ (b : Buffer) (m : Machine b) (w : wellFormed b ≡ true) (head : FrameH
       -- The pair is not held
 
       module _ (i : ℕ) (found : Place.InsertAt i ≡ placeFrom (b .times) (b .tags) (head .time) (channelIn head) n 0) where
-        pub place-in : i ≤ n
+        place-in : i ≤ n
         place-in = omega (arith, at-copy (Place.InsertAt i) found mark 0 .within, size)
 
         judge-new : isFar (decode b) c ≡ false → (v : Bool) → ltb (length es) slots ≡ v
@@ -276,6 +278,11 @@ module _ (b : Buffer) (m : Machine b) (w : wellFormed b ≡ true) (head : FrameH
         step-full far l = kept NoRoom (judge-new far false (le-ltb (length es) slots (omega (arith, size))))
 
         module _ (space : n < slots) where
+          pub free-at : length frame ≤ slotSize → storeSize ≤ length store → canInsert (lowestFree (b .occupied)) n i (length frame) (length store) ≡ true
+          free-at k l =
+              can-insert (lowestFree (b .occupied)) n i (length frame) (length store)
+              (record { slot-in = free-when-room (b .occupied) (omega (arith, count)); space = space; place = place-in; short = k; store = l })
+
           free-here : lowestFree (b .occupied) ≡ freeSlot es
           free-here = ap lowestFree (sym (words-held b m w)) ∙ free-is es (facts b m w .slot-facts)
 

@@ -11,7 +11,7 @@ use Rattle.rtp.specs.declared.settings.Settings.{Settings}
 use Rattle.rtp.specs.declared.refusal.Refusal.{Refusal}
 use Rattle.rtp.specs.declared.refusal.Fault.{Fault}
 use Rattle.rtp.specs.declared.refusal.Refusal.the-variants.{SettingsOutOfRange, MalformedBuffer}
-use Rattle.payload.specs.Rows.{words}
+use Rattle.frame_rows.specs.Rows.{words}
 use Rattle.playout.specs.Verdicts.{Counts, noCounts, tally}
 use Rattle.layout.specs.declared.buffer.Buffer.{Buffer}
 use Rattle.reorder.specs.declared.calls.NewAnswer.{NewAnswer}

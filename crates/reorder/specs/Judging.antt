@@ -1,28 +1,38 @@
--- What the functions that judge frames ask of one another inside this crate, and give.
+-- What judging frames asks of a buffer, its store and the rows of a packet, and what it gives then.
 use Prim.Native.Nat.{ℕ, _+_, _≤_, _<_}
 use mathlib.Core.Path.{_≡_}
 use mathlib.Core.List.{List, [], _∷_}
-use mathlib.Core.Bool.{true, false}
+use mathlib.Core.Bool.{Bool, true, false, cond, not}
 use lib.ListN.{length}
+use lib.Dec.{eqb}
 use Rattle.rtp.specs.Ranges.{inRange}
 use Rattle.rtp.specs.declared.settings.Settings.{Settings}
 use Rattle.formats.specs.Frames.{noData}
-use Rattle.payload.specs.Rows.{Row}
+use Rattle.frame_rows.specs.Rows.{Row}
 use Rattle.playout.specs.declared.verdict.Verdict.{Verdict}
 use Rattle.playout.specs.Sizes.{storeSize}
+use Rattle.playout.specs.Pairs.{order, isAfter}
 use Rattle.playout.specs.Copies.{Copy}
-use Rattle.playout.specs.Verdicts.{isLate, isFar, Counts, noCounts, judge, tally, judgeAll}
+use Rattle.playout.specs.Verdicts.{isLate, isFar, judge, tally, judgeAll}
 use Rattle.layout.specs.declared.buffer.Buffer.{Buffer}
-use Rattle.reorder.specs.declared.calls.OfferAnswer.{OfferAnswer}
-use Rattle.reorder.specs.declared.laying.FrameHead.{FrameHead}
-use Rattle.reorder.specs.declared.tally.Tally.{Tally}
+use Rattle.layout.specs.declared.buffer.Fixed.{Fixed}
 use Rattle.layout.specs.Arrays.{Machine}
+use Rattle.layout.specs.Columns.{fitsFrom}
 use Rattle.layout.specs.Layout.{encode, decode}
-use Rattle.layout.specs.Model.{allowed}
+use Rattle.codes.specs.Allowed.{allowed}
 use Rattle.layout.specs.WellFormed.{wellFormed}
+use Rattle.insertion.specs.declared.laying.FrameHead.{FrameHead}
+use Rattle.insertion.specs.declared.tally.Tally.{Tally}
+use Rattle.insertion.specs.Laying.{classIn, channelIn}
+use Rattle.insertion.specs.Tallies.{countsOf, TallySmall}
 use Rattle.reorder.specs.Rows.{receivedIn}
-use Rattle.reorder.specs.Laying.{classIn, channelIn}
-use Rattle.reorder.specs.Calls.{countNumbers, offerNumbers}
+
+-- `isLate` and `isFar`
+abbrev pub isLateOf : Fixed → FrameHead → Bool
+isLateOf f h = cond (eqb (f .drawn) 1) (not (isAfter (order (h .time) (channelIn h) (f .«last_time») (f .«last_channel»)))) false
+
+abbrev pub isFarOf : List ℕ → ℕ → Fixed → ℕ → Bool
+isFarOf times n f t = cond (eqb (f .drawn) 0) (not (fitsFrom times t n)) false
 
 pub record Judgeable (b : Buffer) (h : FrameHead) (frame store : List ℕ) : Type 0 where
   pub machine : Machine b
@@ -44,16 +54,6 @@ pub record JudgedAs (b b' : Buffer) (c : Copy) (mark : ℕ) (store store' : List
   pub store-left : store' ≡ judge (decode b) store c mark .store
 
 -- Judging the rows of a packet
-
-abbrev pub countsOf : Tally → Counts
-countsOf t = record { late = t .late; far = t .far; repeated = t .repeated; better = t .better; noRoom = t .«no_room»; inserted = t .inserted }
-
-abbrev pub noTally : Tally
-noTally = record { late = 0; far = 0; repeated = 0; better = 0; «no_room» = 0; inserted = 0 }
-
--- no count is so large that n more would not fit
-abbrev pub TallySmall : Tally → ℕ → Type 0
-TallySmall t n = t .late + t .far + t .repeated + t .better + t .«no_room» + t .inserted + n < 1000
 
 -- a row of no data, or one of a frame that the settings allow, which lies in the packet
 abbrev pub RowAllowed : Settings → ℕ → Row → Type 0
@@ -81,9 +81,3 @@ pub record RowsJudged (b b' : Buffer) (packet : List ℕ) (rs : List Row) (t t' 
 pub record RowJudged (b b' : Buffer) (packet : List ℕ) (r : Row) (rs : List Row) (t t' : Tally) (store store' : List ℕ) : Type 0 where
   pub others : RowsJudgeable b' packet rs t' store'
   pub all : (b'' : Buffer) (t'' : Tally) (store'' : List ℕ) → RowsJudged b' b'' packet rs t' t'' store' store'' → RowsJudged b b'' packet (r ∷ rs) t t'' store store''
-
--- and of an offer: its answer in numbers, and what is left
-pub record OfferJudged (b b' : Buffer) (packet : List ℕ) (rs : List Row) (a : OfferAnswer) (store store' : List ℕ) : Type 0 where
-  pub answer : offerNumbers a ≡ countNumbers (tally noCounts (judgeAll (decode b) store (receivedIn packet rs) .judgements))
-  pub buffer : b' ≡ encode (b .settings) (judgeAll (decode b) store (receivedIn packet rs) .held)
-  pub store-left : store' ≡ judgeAll (decode b) store (receivedIn packet rs) .store

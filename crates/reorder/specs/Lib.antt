@@ -1,5 +1,5 @@
 pub mod Rows
+pub mod Judging
 pub mod ModelCalls
 pub mod Calls
-pub mod Laying
-pub mod Judging
+pub mod Offers

@@ -1,6 +1,6 @@
 -- Document 01, "The take": what an offer does to a model and its store. Refusals 11 and 15 come before: they are about the record handed over.
 use Prim.Native.Nat.{ℕ}
-use mathlib.Core.List.{List}
+use mathlib.Core.List.{List, []}
 use mathlib.Core.Bool.{cond}
 use lib.ListN.{length}
 use lib.Dec.{ltb}
@@ -8,9 +8,10 @@ use Rattle.rtp.specs.Sizes.{rowArea}
 use Rattle.rtp.specs.Faults.{fault}
 use Rattle.rtp.specs.declared.refusal.Fault.{Fault}
 use Rattle.rtp.specs.declared.refusal.Refusal.the-variants.{AreaTooShort}
-use Rattle.payload.specs.Rows.{Row}
+use Rattle.frame_rows.specs.Rows.{Row}
 use Rattle.packet.specs.Readings.{Outcome, refused as unread, readAs, reading}
 use Rattle.playout.specs.Sizes.{storeSize}
+use Rattle.playout.specs.Copies.{Received}
 use Rattle.playout.specs.Entries.{Held}
 use Rattle.playout.specs.Verdicts.{Gathered, judgeAll}
 use Rattle.layout.specs.Model.{Model}
@@ -22,6 +23,11 @@ pub data Result (A : Type 0) : Type 0 where
   done : A → Result A
 
 -- Offer
+
+-- the copies of a packet that is read
+abbrev pub readReceived : List ℕ → Outcome → List Received
+readReceived packet (unread f) = []
+readReceived packet (readAs h rs request) = receivedIn packet rs
 
 -- the rows read, and what judging them in order leaves
 pub record Offered : Type 0 where

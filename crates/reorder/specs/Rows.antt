@@ -6,8 +6,7 @@ use lib.ListN.{length, getD, take, drop}
 use lib.Dec.{eqb}
 use Rattle.formats.specs.Frames.{noData}
 use Rattle.rtp.specs.Sizes.{rowWidth}
-use Rattle.payload.specs.Rows.{Row, rowOf}
-use Rattle.packet.specs.Readings.{Outcome, refused, readAs}
+use Rattle.frame_rows.specs.Rows.{Row, rowOf}
 use Rattle.playout.specs.Copies.{Copy, Received}
 
 -- the row at the front of an area, and the area after it
@@ -29,8 +28,3 @@ receivedAs packet r = record { copy = copyOf packet r; primary = r .primary }
 unfoldable pub receivedIn : List ℕ → List Row → List Received
 receivedIn packet [] = []
 receivedIn packet (r ∷ rs) = cond (eqb (r .class) noData) (receivedIn packet rs) (receivedAs packet r ∷ receivedIn packet rs)
-
--- the copies of a packet that is read
-abbrev pub readReceived : List ℕ → Outcome → List Received
-readReceived packet (refused f) = []
-readReceived packet (readAs h rs request) = receivedIn packet rs

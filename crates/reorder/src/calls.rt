@@ -1,6 +1,6 @@
 // Two of the three calls on a reorder buffer: new and offer.
 use crate::judging;
-use crate::tally::Tally;
+use insertion::tally::Tally;
 use layout::buffer;
 use layout::buffer::Buffer;
 use layout::buffer::Fixed;
@@ -18,10 +18,12 @@ ghost use mathlib.Core.Path.{_≡_};
 ghost use mathlib.Core.Bool.{true};
 ghost use Rattle.rtp.specs.Ranges.{inRange};
 ghost use Rattle.rtp.specs.Faults.{faultAt};
-ghost use Rattle.payload.specs.Rows.{rowsIn};
+ghost use Rattle.frame_rows.specs.Rows.{rowsIn};
 ghost use Rattle.layout.specs.Layout.{assembled};
+ghost use Rattle.insertion.specs.Tallies.{noTally};
+ghost use Rattle.reorder.specs.Judging.{RowsJudgeable};
 ghost use Rattle.reorder.specs.Calls.{newNumber, newCall, offerNumbers, offerCall};
-ghost use Rattle.reorder.specs.Judging.{noTally, RowsJudgeable, OfferJudged};
+ghost use Rattle.reorder.specs.Offers.{OfferJudged};
 
 pub enum NewAnswer {
     Accepted,

@@ -1,28 +1,29 @@
 // Frames judged against the buffer.
-use crate::laying;
-use crate::laying::FrameHead;
-use crate::tally;
-use crate::tally::Tally;
-use formats::tagging;
-use layout::bits;
+use insertion::laying;
+use insertion::laying::FrameHead;
+use insertion::tally;
+use insertion::tally::Tally;
 use layout::buffer::Fixed;
-use layout::buffer::SLOTS;
 use layout::well_formed;
 use placing::columns;
 use placing::columns::Place;
 use playout::verdict::Verdict;
 use rtp::sizes::ROW_WIDTH;
+use slot_marks::bits;
+use slot_marks::bits::SLOTS;
+use tags::tagging;
 ghost use mathlib.Core.Path.{_≡_};
 ghost use Prim.Native.Nat.{_≤_};
 ghost use lib.ListN.{length};
 ghost use Rattle.rtp.specs.Sizes.{rowWidth};
-ghost use Rattle.payload.specs.Rows.{rowsIn};
+ghost use Rattle.frame_rows.specs.Rows.{rowsIn};
 ghost use Rattle.playout.specs.Sizes.{slots as slotCount};
-ghost use Rattle.layout.specs.Bits.{heldIn};
+ghost use Rattle.slot_marks.specs.Bits.{heldIn};
 ghost use Rattle.layout.specs.Layout.{assembled};
+ghost use Rattle.insertion.specs.Laying.{markIn, copyIn};
+ghost use Rattle.insertion.specs.Tallies.{noTally};
 ghost use Rattle.reorder.specs.Rows.{firstRow, restWords};
-ghost use Rattle.reorder.specs.Laying.{isLateOf, isFarOf, markIn, copyIn};
-ghost use Rattle.reorder.specs.Judging.{noTally, Judgeable, Timely, JudgedAs, RowsJudgeable, RowsJudged, RowJudged};
+ghost use Rattle.reorder.specs.Judging.{isLateOf, isFarOf, Judgeable, Timely, JudgedAs, RowsJudgeable, RowsJudged, RowJudged};
 
 // The verdict on a frame, and the occupied slots after it.
 pub struct Step {
@@ -81,12 +82,12 @@ fn lay_copy(
     frame: &[u8],
     store: &mut [u8],
 ) -> Step
-    requires { ⌜ (n ≡ heldIn occupied) × (n ≤ slotCount)
-        × Judgeable (assembled (now times) (now tags) (now lengths) (now slots) occupied fixed) head (now frame) (now store)
-        × Timely (assembled (now times) (now tags) (now lengths) (now slots) occupied fixed) (copyIn head (now frame)) ⌝ }
-    ensures { λ r. ⌜ JudgedAs (assembled (now (times .entry)) (now (tags .entry)) (now (lengths .entry)) (now (slots .entry)) occupied fixed)
+    requires { ⌜ (n ≡ heldIn occupied) × (n ≤ slotCount) ⌝ }
+    ensures { λ r. ⌜ (Judgeable (assembled (now (times .entry)) (now (tags .entry)) (now (lengths .entry)) (now (slots .entry)) occupied fixed) head (now (frame .entry)) (now (store .entry))
+        → Timely (assembled (now (times .entry)) (now (tags .entry)) (now (lengths .entry)) (now (slots .entry)) occupied fixed) (copyIn head (now (frame .entry)))
+        → JudgedAs (assembled (now (times .entry)) (now (tags .entry)) (now (lengths .entry)) (now (slots .entry)) occupied fixed)
         (assembled (now (times .exit)) (now (tags .exit)) (now (lengths .exit)) (now (slots .exit)) (r .occupied) fixed)
-        (copyIn head (now (frame .entry))) (markIn head) (now (store .entry)) (now (store .exit)) (r .verdict) ⌝ }
+        (copyIn head (now (frame .entry))) (markIn head) (now (store .entry)) (now (store .exit)) (r .verdict)) ⌝ }
 {
     let channel = tagging::tag_channel(head.tag);
     let search = columns::find_place(times, tags, n, head.time, channel);
@@ -135,10 +136,10 @@ fn judge_copy(
     frame: &[u8],
     store: &mut [u8],
 ) -> Step
-    requires { ⌜ Judgeable (assembled (now times) (now tags) (now lengths) (now slots) occupied fixed) head (now frame) (now store) ⌝ }
-    ensures { λ r. ⌜ JudgedAs (assembled (now (times .entry)) (now (tags .entry)) (now (lengths .entry)) (now (slots .entry)) occupied fixed)
+    ensures { λ r. ⌜ (Judgeable (assembled (now (times .entry)) (now (tags .entry)) (now (lengths .entry)) (now (slots .entry)) occupied fixed) head (now (frame .entry)) (now (store .entry))
+        → JudgedAs (assembled (now (times .entry)) (now (tags .entry)) (now (lengths .entry)) (now (slots .entry)) occupied fixed)
         (assembled (now (times .exit)) (now (tags .exit)) (now (lengths .exit)) (now (slots .exit)) (r .occupied) fixed)
-        (copyIn head (now (frame .entry))) (markIn head) (now (store .entry)) (now (store .exit)) (r .verdict) ⌝ }
+        (copyIn head (now (frame .entry))) (markIn head) (now (store .entry)) (now (store .exit)) (r .verdict)) ⌝ }
 {
     if is_late(fixed, head) {
         return Step {
@@ -167,7 +168,7 @@ fn judge_copy(
     )
 }
 
-// The first row of an area judged; one of no data is passed over.
+// The first row of an area judged; one of no data is passed over, and one whose frame does not lie in the packet.
 fn judge_row(
     times: &mut [u32; SLOTS],
     tags: &mut [u32; SLOTS],
@@ -179,13 +180,13 @@ fn judge_row(
     rows: &[u32],
     store: &mut [u8],
 ) -> Judged
-    requires { ⌜ (rowWidth ≤ length (now rows))
-        × RowsJudgeable (assembled (now times) (now tags) (now lengths) (now slots) (sum .occupied) fixed)
-        (now packet) (rowsIn (now rows)) (sum .tally) (now store) ⌝ }
-    ensures { λ r. ⌜ RowJudged (assembled (now (times .entry)) (now (tags .entry)) (now (lengths .entry)) (now (slots .entry)) (sum .occupied) fixed)
+    requires { ⌜ rowWidth ≤ length (now rows) ⌝ }
+    ensures { λ r. ⌜ (RowsJudgeable (assembled (now (times .entry)) (now (tags .entry)) (now (lengths .entry)) (now (slots .entry)) (sum .occupied) fixed)
+        (now (packet .entry)) (rowsIn (now (rows .entry))) (sum .tally) (now (store .entry))
+        → RowJudged (assembled (now (times .entry)) (now (tags .entry)) (now (lengths .entry)) (now (slots .entry)) (sum .occupied) fixed)
         (assembled (now (times .exit)) (now (tags .exit)) (now (lengths .exit)) (now (slots .exit)) (r .occupied) fixed)
         (now (packet .entry)) (firstRow (now (rows .entry))) (rowsIn (restWords (now (rows .entry))))
-        (sum .tally) (r .tally) (now (store .entry)) (now (store .exit)) ⌝ }
+        (sum .tally) (r .tally) (now (store .entry)) (now (store .exit))) ⌝ }
 {
     let tag = rows[1];
     if tagging::tag_class(tag) == 0 {
@@ -193,6 +194,9 @@ fn judge_row(
     }
     let start = rows[2] as usize;
     let end = start + (rows[3] as usize);
+    if packet.len() < end {
+        return sum;
+    }
     let occupied = sum.occupied;
     let tally = sum.tally;
     let step = judge_copy(
@@ -214,7 +218,7 @@ fn judge_row(
     }
 }
 
-// The rows judged in order, each against the buffer as the row before left it.
+// The rows judged in order, each against the buffer as the row before left it, where that can be: a well-formed buffer with its store, and rows that lie in the packet.
 pub(crate) fn judge_rows(
     times: &mut [u32; SLOTS],
     tags: &mut [u32; SLOTS],
@@ -226,11 +230,11 @@ pub(crate) fn judge_rows(
     rows: &[u32],
     store: &mut [u8],
 ) -> Judged
-    requires { ⌜ RowsJudgeable (assembled (now times) (now tags) (now lengths) (now slots) (sum .occupied) fixed)
-        (now packet) (rowsIn (now rows)) (sum .tally) (now store) ⌝ }
-    ensures { λ r. ⌜ RowsJudged (assembled (now (times .entry)) (now (tags .entry)) (now (lengths .entry)) (now (slots .entry)) (sum .occupied) fixed)
+    ensures { λ r. ⌜ (RowsJudgeable (assembled (now (times .entry)) (now (tags .entry)) (now (lengths .entry)) (now (slots .entry)) (sum .occupied) fixed)
+        (now (packet .entry)) (rowsIn (now (rows .entry))) (sum .tally) (now (store .entry))
+        → RowsJudged (assembled (now (times .entry)) (now (tags .entry)) (now (lengths .entry)) (now (slots .entry)) (sum .occupied) fixed)
         (assembled (now (times .exit)) (now (tags .exit)) (now (lengths .exit)) (now (slots .exit)) (r .occupied) fixed)
-        (now (packet .entry)) (rowsIn (now (rows .entry))) (sum .tally) (r .tally) (now (store .entry)) (now (store .exit)) ⌝ }
+        (now (packet .entry)) (rowsIn (now (rows .entry))) (sum .tally) (r .tally) (now (store .entry)) (now (store .exit))) ⌝ }
 {
     if rows.len() < ROW_WIDTH {
         return sum;

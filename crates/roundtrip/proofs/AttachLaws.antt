@@ -10,8 +10,8 @@ use borrow.Author.Tests.{le-leb, eq-eqb, leb-true}
 use Rattle.rtp.proofs.TestLaws.{by-test, not-both}
 use Rattle.formats.specs.Formats.{formatOf, maxGap}
 use Rattle.contents.specs.Contents.{Group, groups}
-use Rattle.payload.specs.Rows.{Row}
-use Rattle.formats.specs.Codes.{noCode, codeFor}
+use Rattle.frame_rows.specs.Rows.{Row}
+use Rattle.codes.specs.Codes.{noCode, codeFor}
 use Rattle.plans.specs.Plans.{headGap, single, joins, attach}
 use Rattle.plans.proofs.PlanLaws.{Joins, joins-true}
 use Rattle.roundtrip.proofs.EntryBackLaws.{Run}

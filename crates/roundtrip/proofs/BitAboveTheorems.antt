@@ -12,17 +12,18 @@ use Rattle.rtp.specs.declared.refusal.Fault.{Fault}
 use Rattle.rtp.specs.declared.refusal.Refusal.the-variants.{Unwritable}
 use Rattle.rtp.proofs.TestLaws.{by-test}
 use Rattle.formats.specs.Frames.{maxClass}
-use Rattle.formats.specs.Tags.{tagClass}
-use Rattle.formats.proofs.CodeLaws.{code-small}
+use Rattle.tags.specs.Tags.{tagClass}
+use Rattle.codes.proofs.CodeLaws.{code-small}
 use Rattle.contents.specs.Contents.{Group, Contents, refused, groups}
-use Rattle.payload.specs.Rows.{Row, rowsIn}
+use Rattle.frame_rows.specs.Rows.{Row, rowsIn}
 use Rattle.payload.proofs.RowFactLaws.{AllRows, all-append}
 use Rattle.plans.specs.Lists.{whole}
 use Rattle.plans.specs.Plans.{planFrom, plan, stepBefore}
 use Rattle.encoder.specs.Writings.{noBytes, bytesOf, plannedBytes, encoded, roomFor, writing}
 use Rattle.encoder.proofs.PayloadLaws.{fitted}
-use Rattle.sender.specs.Parts.{primaryTime, Part, Parts, noParts, partsOf, parts}
-use Rattle.sender.specs.Packets.{Heading, assembledFrom, assembled, countsFit, sending}
+use Rattle.packet_parts.specs.Parts.{primaryTime, Part, Parts, noParts, partsOf, parts, countsFit}
+use Rattle.sender.specs.Packets.{assembledFrom, assembled, sending}
+use Rattle.packet_parts.specs.Headings.{Heading}
 use Rattle.roundtrip.specs.Marks.{BitAbove}
 use Rattle.roundtrip.specs.PayloadClaims.{BitAboveRefused}
 use Rattle.roundtrip.specs.PacketClaims.{PacketBitAboveRefused}

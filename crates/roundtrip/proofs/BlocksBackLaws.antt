@@ -9,25 +9,26 @@ use lib.Seq.{take-append-seam, drop-append-seam}
 use borrow.Author.Tests.{lt-ltb, le-ltb, eq-eqb, ne-eqb}
 use Rattle.rtp.specs.Sizes.{maxPacket, maxRows}
 use Rattle.rtp.specs.Time.{difference}
-use Rattle.rtp.specs.Redundancy.{blockHeader, headersOf, prepend, headers, redundancyHeaders, headersSize, redundantSize}
+use Rattle.rtp_headers.specs.Redundancy.{blockHeader, headersOf, prepend, headers, redundancyHeaders, headersSize, redundantSize}
 use Rattle.rtp.specs.declared.settings.Settings.{Settings}
-use Rattle.rtp.specs.declared.redundancy.Redundant.{Redundant}
-use Rattle.rtp.specs.declared.redundancy.BlockHeader.{BlockHeader}
-use Rattle.rtp.proofs.RedundancyLaws.{headers-step}
-use Rattle.formats.specs.Tags.{primaryMark, redundantMark}
-use Rattle.payload.specs.Rows.{Row}
+use Rattle.rtp_headers.specs.declared.redundancy.Redundant.{Redundant}
+use Rattle.rtp_headers.specs.declared.redundancy.BlockHeader.{BlockHeader}
+use Rattle.rtp_headers.proofs.RedundancyLaws.{headers-step}
+use Rattle.tags.specs.Tags.{primaryMark, redundantMark}
+use Rattle.frame_rows.specs.Rows.{Row}
 use Rattle.payload.specs.Payloads.{Rows, noRequest, requestOf}
-use Rattle.packet.specs.Blocks.{cut, typedBlockRows, thenRows, blocksRows, redundantRows}
-use Rattle.packet.specs.Requests.{blockRequest, blocksRequest, redundantRequest}
-use Rattle.packet.proofs.AnswerLaws.{then-none}
-use Rattle.packet.proofs.BlockLaws.{block}
+use Rattle.red.specs.Blocks.{cut, typedBlockRows, thenRows, blocksRows, redundantRows}
+use Rattle.mode_requests.specs.Requests.{blockRequest, blocksRequest, redundantRequest}
+use Rattle.red.proofs.AnswerLaws.{then-none}
+use Rattle.red.proofs.BlockLaws.{block}
 use Rattle.plans.specs.Lists.{outside, firstTime}
-use Rattle.sender.proofs.WordLaws.{outside-take, outside-drop}
+use Rattle.packet_parts.proofs.WordLaws.{outside-take, outside-drop}
 use Rattle.roundtrip.specs.Marks.{AllMarked, PrimaryLast}
 use Rattle.roundtrip.specs.ReadingBack.{readRequest, SameFrames}
 use Rattle.roundtrip.proofs.PlanRowLaws.{Times}
-use Rattle.sender.specs.Parts.{maxOffset, maxBlock, Part}
-use Rattle.sender.specs.Packets.{blockHeaderBytes, headersBytes, blocksBytes}
+use Rattle.packet_parts.specs.Parts.{maxOffset, maxBlock, Part}
+use Rattle.sender.specs.Packets.{headersBytes, blocksBytes}
+use Rattle.packet_parts.specs.Headings.{blockHeaderBytes}
 use Rattle.roundtrip.proofs.SameFrameLaws.{same-length, same-append}
 use Rattle.roundtrip.proofs.MarkLaws.{firstCount, laterCounts, one-list, more-lists}
 use Rattle.roundtrip.proofs.PayloadBackLaws.{Back, Reads, payload-back}

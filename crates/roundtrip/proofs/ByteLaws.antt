@@ -8,13 +8,13 @@ use native.Mathlib.Nat.{le-mul-of-pos-right}
 use lib.ListN.{length, getD, take, drop}
 use lib.Dec.{eqb}
 use Rattle.rtp.specs.Sizes.{maxRows}
-use Rattle.rtp.proofs.RedundancyLaws.{bytes-drop}
+use Rattle.rtp.proofs.ByteLaws.{bytes-drop}
 use Rattle.contents.specs.Contents.{Group, rowCount}
-use Rattle.payload.specs.Rows.{Row}
+use Rattle.frame_rows.specs.Rows.{Row}
 use Rattle.formats.specs.Formats.{formatOf, maxGap}
 use Rattle.plans.specs.Plans.{headGap}
-use Rattle.encoder.specs.Bytes.{requestBytes, halves, firstByte, startBytes, gapBytes, entryBytes, tableBytes, frameIn, frames}
-use Rattle.encoder.specs.Writings.{maxRequest}
+use Rattle.encoder.specs.Bytes.{halves, firstByte, startBytes, gapBytes, entryBytes, tableBytes, frameIn, frames}
+use Rattle.payload_sizes.specs.Asking.{requestBytes, maxRequest}
 use Rattle.roundtrip.specs.ReadingBack.{Bytes}
 use Rattle.encoder.proofs.EntryLaws.{first-small}
 use Rattle.roundtrip.proofs.EntryBackLaws.{Run, small-gaps}

@@ -14,11 +14,11 @@ use Rattle.formats.specs.Formats.{formatOf, maxGap}
 use Rattle.contents.specs.declared.entries.Entry.{Entry}
 use Rattle.contents.specs.declared.entries.EntryRead.{EntryRead}
 use Rattle.contents.specs.Contents.{minEntry, codeIn, blocksIn, entrySize, entryOf, Group, halfAt, gapAt, gapsFrom, meaning}
-use Rattle.formats.specs.Codes.{noCode, codeFor}
+use Rattle.codes.specs.Codes.{noCode, codeFor}
 use Rattle.plans.specs.Plans.{headGap}
 use Rattle.encoder.specs.Bytes.{halves, flag, firstByte, gapBytes, entryBytes}
 use Rattle.encoder.proofs.EntryLaws.{length-entry}
-use Rattle.formats.proofs.CodeLaws.{code-back, code-below}
+use Rattle.codes.proofs.CodeLaws.{code-back, code-below}
 use Rattle.formats.proofs.FormatLaws.{code-placed, gap-small}
 use Rattle.contents.proofs.EntryLaws.{size-min}
 

@@ -4,8 +4,8 @@ use mathlib.Core.List.{List, [], _∷_, _++_}
 use Prim.Native.Nat.{ℕ, zero, suc, _≤_}
 use native.Mathlib.Omega.{arith}
 use lib.ListN.{length, take, drop}
-use Rattle.formats.specs.Tags.{primaryMark, redundantMark}
-use Rattle.payload.specs.Rows.{Row, marked}
+use Rattle.tags.specs.Tags.{primaryMark, redundantMark}
+use Rattle.frame_rows.specs.Rows.{Row, marked}
 use Rattle.roundtrip.specs.Marks.{AllMarked, PrimaryLast}
 use Rattle.roundtrip.specs.ReadingBack.{SameFrames}
 use Rattle.roundtrip.proofs.FrameLaws.{plain, plains}

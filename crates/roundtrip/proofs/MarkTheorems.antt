@@ -5,16 +5,19 @@ use Prim.Native.Nat.{ℕ, zero, suc, _+_}
 use native.Mathlib.Omega.{arith}
 use lib.ListN.{length, take, drop}
 use Rattle.rtp.specs.declared.settings.Settings.{Settings}
-use Rattle.formats.specs.Tags.{redundantMark, tagMark, tagClass, tagChannel}
+use Rattle.tags.specs.Tags.{redundantMark, tagMark, tagClass, tagChannel}
 use Rattle.contents.specs.Contents.{Contents, refused, groups}
-use Rattle.payload.specs.Rows.{Row, rowsIn, withMark, marked}
-use Rattle.payload.proofs.RowLaws.{length-marked}
+use Rattle.frame_rows.specs.Rows.{Row, rowsIn, withMark, marked}
+use Rattle.frame_rows.proofs.RowLaws.{length-marked}
 use Rattle.plans.specs.Lists.{firstTime, outside}
 use Rattle.plans.specs.Plans.{planFrom, plan, stepBefore}
-use Rattle.encoder.specs.Bytes.{requestBytes, tableBytes, frameIn, frames}
-use Rattle.encoder.specs.Writings.{bytesOf, plannedBytes, encoded, writing, measured}
-use Rattle.sender.specs.Parts.{primaryTime, primaryPart, parts}
-use Rattle.sender.specs.Packets.{Heading, assembled, sending}
+use Rattle.encoder.specs.Bytes.{tableBytes, frameIn, frames}
+use Rattle.payload_sizes.specs.Asking.{requestBytes}
+use Rattle.encoder.specs.Writings.{bytesOf, plannedBytes, encoded, writing}
+use Rattle.payload_sizes.specs.Measures.{measured}
+use Rattle.packet_parts.specs.Parts.{primaryTime, primaryPart, parts}
+use Rattle.sender.specs.Packets.{assembled, sending}
+use Rattle.packet_parts.specs.Headings.{Heading}
 use Rattle.roundtrip.specs.Marks.{clearedTag, cleared}
 use Rattle.roundtrip.specs.PayloadClaims.{MarkIgnored}
 use Rattle.roundtrip.specs.PacketClaims.{PacketMarkIgnored}

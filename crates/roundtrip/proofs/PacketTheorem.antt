@@ -11,19 +11,21 @@ use Rattle.rtp.specs.Sizes.{maxPacket, maxRows, rowWidth}
 use Rattle.rtp.specs.declared.settings.Settings.{Settings}
 use Rattle.rtp.specs.declared.refusal.Refusal.{Refusal}
 use Rattle.rtp.proofs.TestLaws.{both, either}
-use Rattle.formats.specs.Tags.{primaryMark}
-use Rattle.payload.specs.Rows.{Row}
+use Rattle.tags.specs.Tags.{primaryMark}
+use Rattle.frame_rows.specs.Rows.{Row}
 use Rattle.packet.specs.Readings.{typedRows}
-use Rattle.packet.specs.Requests.{typedRequest}
+use Rattle.mode_requests.specs.Requests.{typedRequest}
 use Rattle.packet.proofs.ReadingLaws.{reading-headed}
 use Rattle.plans.specs.Lists.{rowsIn, outside}
 use Rattle.roundtrip.proofs.PayloadTheorems.{times}
-use Rattle.encoder.specs.Writings.{Encoded, noBytes, bytesOf, askable, roomFor}
-use Rattle.encoder.proofs.RequestLaws.{asked}
+use Rattle.encoder.specs.Writings.{Encoded, noBytes, bytesOf, roomFor}
+use Rattle.payload_sizes.specs.Asking.{askable}
+use Rattle.payload_sizes.proofs.RequestLaws.{asked}
 use Rattle.plans.proofs.ListLaws.{length-rows}
 use Rattle.roundtrip.proofs.PlanRowLaws.{Times}
-use Rattle.sender.specs.Parts.{maxRedundant, total, primaryTime, Part, Parts, noParts, partsOf, parts}
-use Rattle.sender.specs.Packets.{Heading, headerBytes, bodyBytes, packetType, redundancyMissing, assembledFrom, assembled, countsFit, sending}
+use Rattle.packet_parts.specs.Parts.{maxRedundant, total, primaryTime, Part, Parts, noParts, partsOf, parts, countsFit}
+use Rattle.sender.specs.Packets.{bodyBytes, packetType, redundancyMissing, assembledFrom, assembled, sending}
+use Rattle.packet_parts.specs.Headings.{Heading, headerBytes}
 use Rattle.roundtrip.specs.Marks.{PrimaryLast}
 use Rattle.roundtrip.specs.ReadingBack.{readRequest}
 use Rattle.roundtrip.specs.PacketClaims.{ReadsBack, PacketRoundTrip}

@@ -9,12 +9,12 @@ use lib.Dec.{ltb}
 use borrow.Author.Tests.{ltb-false}
 use Rattle.rtp.specs.Time.{difference}
 use Rattle.rtp.specs.declared.settings.Settings.{Settings}
-use Rattle.payload.specs.Rows.{Row}
+use Rattle.frame_rows.specs.Rows.{Row}
 use Rattle.encoder.specs.Writings.{Encoded, noBytes, bytesOf, encoded}
 use Rattle.plans.specs.Lists.{firstTime}
 use Rattle.roundtrip.proofs.MarkLaws.{firstCount, laterCounts}
 use Rattle.roundtrip.proofs.PlanRowLaws.{Times}
-use Rattle.sender.specs.Parts.{maxOffset, maxBlock, primaryTime, Part, Parts, noParts, partsOf, primaryPart, prependPart, redundantPart, parts}
+use Rattle.packet_parts.specs.Parts.{maxOffset, maxBlock, primaryTime, Part, Parts, noParts, partsOf, primaryPart, prependPart, redundantPart, parts}
 
 -- Times of 32 bits
 

@@ -13,17 +13,18 @@ use Rattle.rtp.specs.Sizes.{maxRows}
 use Rattle.rtp.specs.declared.settings.Settings.{Settings}
 use Rattle.formats.specs.Formats.{formatOf, stepOf}
 use Rattle.contents.specs.Contents.{Group, Contents, refused, groups, contents, rowCount, sizeIn, framesIn}
-use Rattle.payload.specs.Rows.{Row, tableRows, marked}
+use Rattle.frame_rows.specs.Rows.{Row, tableRows, marked}
 use Rattle.payload.specs.Payloads.{body, payload, requestOf, Rows, rowsOf, placedRows, payloadRows}
 use Rattle.payload.proofs.PayloadLaws.{length-table}
 use Rattle.plans.specs.Lists.{outside, firstTime}
 use Rattle.plans.specs.Plans.{plan}
-use Rattle.encoder.specs.Bytes.{requestBytes, tableBytes, frames}
+use Rattle.encoder.specs.Bytes.{tableBytes, frames}
+use Rattle.payload_sizes.specs.Asking.{requestBytes}
 use Rattle.encoder.specs.Writings.{bytesOf, plannedBytes, encoded}
 use Rattle.contents.proofs.EntryLaws.{size-some}
 use Rattle.encoder.proofs.EntryLaws.{length-table as length-table-bytes}
 use Rattle.encoder.proofs.FrameBytesLaws.{length-frames}
-use Rattle.encoder.proofs.RequestLaws.{length-request}
+use Rattle.payload_sizes.proofs.RequestLaws.{length-request}
 use Rattle.roundtrip.specs.Marks.{AllMarked}
 use Rattle.roundtrip.specs.ReadingBack.{readRequest, SameFrames}
 use Rattle.roundtrip.proofs.TableBackLaws.{Runs, table-back}

@@ -9,26 +9,28 @@ use lib.Dec.{ltb, eqb}
 use borrow.Author.Tests.{lt-ltb, le-ltb, ltb-true, ltb-false, eqb-true}
 use Rattle.rtp.specs.Sizes.{maxRows}
 use Rattle.rtp.specs.Ranges.{inRange}
-use Rattle.rtp.proofs.RedundancyLaws.{bytes-drop}
+use Rattle.rtp.proofs.ByteLaws.{bytes-drop}
 use Rattle.rtp.specs.declared.settings.Settings.{Settings}
 use Rattle.rtp.specs.declared.refusal.Fault.{Fault}
 use Rattle.rtp.specs.declared.refusal.Refusal.the-variants.{Unwritable, AreaTooShort}
 use Rattle.rtp.proofs.TestLaws.{by-test}
 use Rattle.formats.specs.Formats.{formatOf, stepOf}
 use Rattle.contents.specs.Contents.{Group, Contents, refused, groups, contents, passFirst, rowCount, sizeIn, framesIn, sizesAnswer}
-use Rattle.formats.specs.Tags.{primaryMark}
-use Rattle.payload.specs.Rows.{Row, tableRows, marked}
-use Rattle.payload.specs.Payloads.{exact, body, tableStart, startingAt, payload, requestOf, rowsOf, placedRows, payloadRows}
+use Rattle.tags.specs.Tags.{primaryMark}
+use Rattle.frame_rows.specs.Rows.{Row, tableRows, marked}
+use Rattle.payload.specs.Payloads.{body, tableStart, startingAt, payload, requestOf, rowsOf, placedRows, payloadRows}
+use Rattle.frame_rows.specs.Tables.{exact}
 use Rattle.contents.proofs.ContentsLaws.{Small, Within, within}
-use Rattle.payload.proofs.FirstLaws.{sizes-passed}
-use Rattle.payload.specs.Rows.{rowsIn}
+use Rattle.frame_rows.proofs.FirstLaws.{sizes-passed}
+use Rattle.frame_rows.specs.Rows.{rowsIn}
 use Rattle.plans.specs.Lists.{firstTime, whole, outside}
 use Rattle.plans.specs.Plans.{maxPayload, plan}
-use Rattle.encoder.specs.Bytes.{requestBytes, tableBytes, frames}
-use Rattle.encoder.specs.Writings.{noBytes, bytesOf, maxRequest, askable, plannedBytes, encoded, roomFor, writing}
+use Rattle.encoder.specs.Bytes.{tableBytes, frames}
+use Rattle.payload_sizes.specs.Asking.{requestBytes, maxRequest, askable}
+use Rattle.encoder.specs.Writings.{noBytes, bytesOf, plannedBytes, encoded, roomFor, writing}
 use Rattle.plans.proofs.ListLaws.{length-rows}
 use Rattle.encoder.proofs.PayloadLaws.{listed, length-bytes}
-use Rattle.encoder.proofs.RequestLaws.{asked}
+use Rattle.payload_sizes.proofs.RequestLaws.{asked}
 use Rattle.encoder.proofs.WritingLaws.{in-range-some}
 use Rattle.roundtrip.specs.ReadingBack.{Bytes, Words, SameFrames, ReadsTo}
 use Rattle.roundtrip.specs.PayloadClaims.{RoundTrip, PayloadOf, Longer, Unreadable, Answer, written, unwritable, too-short, Writing}

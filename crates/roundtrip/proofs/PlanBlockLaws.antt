@@ -10,8 +10,8 @@ use lib.Dec.{eqb}
 use borrow.Author.Tests.{lt-ltb, eq-eqb, ne-eqb}
 use Rattle.formats.specs.Formats.{stepOf}
 use Rattle.contents.specs.Contents.{Group, Contents, refused, groups}
-use Rattle.payload.specs.Rows.{Row, placed, blockRows}
-use Rattle.formats.specs.Codes.{noCode, codeFor}
+use Rattle.frame_rows.specs.Rows.{Row, placed, blockRows}
+use Rattle.codes.specs.Codes.{noCode, codeFor}
 use Rattle.formats.proofs.FormatLaws.{gap-small}
 use Rattle.plans.specs.Plans.{unwritable, gapBetween, nextChannel, starts, follows, attach, planFrom}
 use Rattle.roundtrip.proofs.TableBackLaws.{Runs}

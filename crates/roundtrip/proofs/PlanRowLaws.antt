@@ -9,8 +9,8 @@ use borrow.Author.Tests.{eq-eqb, ne-eqb, ltb-true, eqb-true}
 use Rattle.rtp.proofs.TestLaws.{both}
 use Rattle.formats.specs.Formats.{stepOf}
 use Rattle.contents.specs.Contents.{Group, Contents, refused, groups}
-use Rattle.payload.specs.Rows.{Row, placed, nextPlace, blockRows}
-use Rattle.formats.specs.Codes.{noCode, codeFor}
+use Rattle.frame_rows.specs.Rows.{Row, placed, nextPlace, blockRows}
+use Rattle.codes.specs.Codes.{noCode, codeFor}
 use Rattle.plans.specs.Plans.{unwritable, ticksAfter, gapBetween, continues, follows, attach, planFrom}
 use Rattle.roundtrip.proofs.TableBlockLaws.{Block, blocksIn, blocksRows}
 use Rattle.roundtrip.proofs.FrameLaws.{plain, plains, plains-append, Alike}

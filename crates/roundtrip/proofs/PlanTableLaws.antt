@@ -11,7 +11,7 @@ use borrow.Author.Tests.{le-ltb, ltb-false, eq-eqb}
 use Rattle.rtp.specs.Sizes.{maxRows}
 use Rattle.formats.specs.Formats.{stepOf, maxGap}
 use Rattle.contents.specs.Contents.{Group, Contents, refused, groups, rowCount, framesIn}
-use Rattle.payload.specs.Rows.{Row, tableRows}
+use Rattle.frame_rows.specs.Rows.{Row, tableRows}
 use Rattle.payload.proofs.PayloadLaws.{length-table}
 use Rattle.plans.specs.Plans.{maxPayload, unwritable, gapBetween, nextChannel, follows, joins, headGap, attach, planFrom, stepBefore, payloadSize, fitting, plan}
 use Rattle.plans.specs.Lists.{firstTime}

@@ -9,7 +9,7 @@ use lib.Dec.{ltb, eqb}
 use Rattle.rtp.specs.Sizes.{maxRows}
 use Rattle.rtp.specs.Numbers.{byteAt}
 use Rattle.rtp.proofs.TestLaws.{by-test}
-use Rattle.rtp.proofs.RedundancyLaws.{Bytes, bytes-drop}
+use Rattle.rtp.proofs.ByteLaws.{Bytes, bytes-drop}
 use Rattle.formats.specs.Formats.{formatOf, maxGap}
 use Rattle.formats.specs.declared.frames.Coded.{Coded}
 use Rattle.contents.specs.declared.entries.Entry.{Entry}
@@ -18,10 +18,10 @@ use Rattle.formats.specs.Frames.{frameOf}
 use Rattle.contents.specs.Contents.{minEntry, codeIn, blocksIn, entrySize, codedEntry, entryOf, Group, Contents, refused, groups, halfAt, gapAt, gapsFrom, meaning, prepend, contentsStep, contents, direct, passFirst}
 use Rattle.contents.proofs.EntryLaws.{past, same-entry, code-in, fair}
 use Rattle.contents.proofs.ContentsLaws.{contents-step, shorter, blocks-of}
-use Rattle.payload.proofs.FirstLaws.{length-direct}
-use Rattle.formats.specs.Codes.{noCode, codeFor}
+use Rattle.frame_rows.proofs.FirstLaws.{length-direct}
+use Rattle.codes.specs.Codes.{noCode, codeFor}
 use Rattle.plans.specs.Plans.{headGap}
-use Rattle.formats.proofs.CodeLaws.{code-some}
+use Rattle.codes.proofs.CodeLaws.{code-some}
 use Rattle.roundtrip.proofs.EntryBackLaws.{Run}
 use Rattle.roundtrip.proofs.TableBackLaws.{Runs}
 use Rattle.roundtrip.proofs.AttachLaws.{same-groups, firstGap}

@@ -9,7 +9,7 @@ use borrow.Author.Tests.{le-leb}
 use Rattle.rtp.proofs.TestLaws.{by-test, not-both}
 use Rattle.formats.specs.Formats.{formatOf, maxGap}
 use Rattle.contents.specs.Contents.{gapsSize, entrySize, Group, Contents, groups, sizeIn}
-use Rattle.payload.specs.Rows.{Row}
+use Rattle.frame_rows.specs.Rows.{Row}
 use Rattle.plans.specs.Plans.{headGap, joins, attach}
 use Rattle.plans.proofs.PlanLaws.{joins-true}
 use Rattle.roundtrip.proofs.TableBackLaws.{Runs}

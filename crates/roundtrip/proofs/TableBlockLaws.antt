@@ -7,7 +7,7 @@ use native.Mathlib.Nat.{zero-mul, suc-mul, add-mul, add-zero}
 use lib.ListN.{length}
 use Rattle.contents.specs.Contents.{Group, framesIn}
 use Rattle.plans.specs.Room.{lengthsIn}
-use Rattle.payload.specs.Rows.{Row, placed, nextPlace, timeAfter, blockRows, groupRows, tableRows}
+use Rattle.frame_rows.specs.Rows.{Row, placed, nextPlace, timeAfter, blockRows, groupRows, tableRows}
 
 -- a frame-block: the frame-blocks left out before it, and its frames' class and length
 pub record Block : Type 0 where

@@ -5,7 +5,7 @@ use native.Mathlib.Omega.{arith}
 use native.Mathlib.Nat.{mod-add-mod, add-mod-mod, add-mod-right, mul-mod-left, div-add-mod', mul-le-mul, mul-div-cancel, zero-div}
 use Rattle.rtp.specs.Time.{difference}
 use Rattle.formats.specs.Formats.{stepOf}
-use Rattle.payload.specs.Rows.{placed}
+use Rattle.frame_rows.specs.Rows.{placed}
 use Rattle.formats.proofs.FormatLaws.{maxStep, step-fine}
 use Rattle.plans.specs.Plans.{ticksAfter, gapBetween}
 

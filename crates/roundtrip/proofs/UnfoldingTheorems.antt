@@ -1,5 +1,5 @@
 -- Tables of contents and block headers unfold with no fuel.
-use Rattle.rtp.proofs.RedundancyLaws.{headers-step}
+use Rattle.rtp_headers.proofs.RedundancyLaws.{headers-step}
 use Rattle.contents.proofs.ContentsLaws.{contents-step}
 use Rattle.roundtrip.specs.Unfoldings.{ContentsUnfold, HeadersUnfold}
 

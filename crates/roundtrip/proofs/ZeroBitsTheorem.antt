@@ -9,18 +9,19 @@ use lib.Seq.{drop-drop, drop-at}
 use Rattle.rtp.specs.Numbers.{byteAt}
 use Rattle.rtp.specs.declared.settings.Settings.{Settings}
 use Rattle.formats.specs.Formats.{formatOf, maxGap}
-use Rattle.formats.specs.Codes.{codeFor}
+use Rattle.codes.specs.Codes.{codeFor}
 use Rattle.formats.proofs.FormatLaws.{each}
 use Rattle.contents.specs.Contents.{minEntry, entrySize, Group, Contents, refused, groups, halfAt, contents, sizeIn}
-use Rattle.payload.specs.Rows.{Row}
+use Rattle.frame_rows.specs.Rows.{Row}
 use Rattle.payload.specs.Payloads.{body}
 use Rattle.plans.specs.Lists.{rowsIn}
 use Rattle.plans.specs.Plans.{headGap, plan}
-use Rattle.encoder.specs.Bytes.{requestBytes, halves, flag, firstByte, entryBytes, tableBytes, frames}
+use Rattle.encoder.specs.Bytes.{halves, flag, firstByte, entryBytes, tableBytes, frames}
+use Rattle.payload_sizes.specs.Asking.{requestBytes}
 use Rattle.encoder.specs.Writings.{bytesOf, plannedBytes, encoded}
 use Rattle.encoder.proofs.EntryLaws.{length-entry}
 use Rattle.encoder.proofs.WritingLaws.{in-range-some}
-use Rattle.encoder.proofs.RequestLaws.{one-request}
+use Rattle.payload_sizes.proofs.RequestLaws.{one-request}
 use Rattle.roundtrip.specs.PayloadClaims.{firstDisplacement, Zeros, ZeroBits, FirstDisplacement, RequestBits}
 use Rattle.roundtrip.proofs.EntryBackLaws.{Run, half-later, half-back, first-back, gaps-back, small-gaps}
 use Rattle.roundtrip.proofs.TableBackLaws.{Runs, table-back}

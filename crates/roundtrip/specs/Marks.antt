@@ -4,8 +4,8 @@ use mathlib.Core.Path.{_≡_}
 use mathlib.Core.List.{List, [], _∷_, _++_}
 use lib.ListN.{length, take, drop}
 use Rattle.rtp.specs.Sizes.{rowWidth}
-use Rattle.formats.specs.Tags.{primaryMark, redundantMark, tagMark}
-use Rattle.payload.specs.Rows.{Row}
+use Rattle.tags.specs.Tags.{primaryMark, redundantMark, tagMark}
+use Rattle.frame_rows.specs.Rows.{Row}
 
 -- every row has this mark
 abbrev pub AllMarked : ℕ → List Row → Type 0

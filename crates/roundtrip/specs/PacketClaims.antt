@@ -6,14 +6,16 @@ use mathlib.Core.Bool.{true, false}
 use lib.ListN.{length}
 use Rattle.rtp.specs.Sizes.{rowArea}
 use Rattle.rtp.specs.declared.settings.Settings.{Settings}
-use Rattle.rtp.specs.declared.header.Header.{Header}
+use Rattle.rtp_headers.specs.declared.header.Header.{Header}
 use Rattle.rtp.specs.declared.refusal.Refusal.the-variants.{Unwritable}
-use Rattle.payload.specs.Rows.{Row}
+use Rattle.frame_rows.specs.Rows.{Row}
 use Rattle.packet.specs.Readings.{readAs, reading}
 use Rattle.plans.specs.Lists.{rowsIn, outside}
-use Rattle.encoder.specs.Writings.{noBytes, bytesOf, askable}
-use Rattle.sender.specs.Parts.{primaryTime}
-use Rattle.sender.specs.Packets.{Heading, markerBit, sending}
+use Rattle.encoder.specs.Writings.{noBytes, bytesOf}
+use Rattle.payload_sizes.specs.Asking.{askable}
+use Rattle.packet_parts.specs.Parts.{primaryTime}
+use Rattle.sender.specs.Packets.{sending}
+use Rattle.packet_parts.specs.Headings.{Heading, markerBit}
 use Rattle.roundtrip.specs.Marks.{PrimaryLast, cleared, BitAbove}
 use Rattle.roundtrip.specs.ReadingBack.{Words, readRequest, SameFrames}
 

@@ -15,7 +15,9 @@ use Rattle.contents.specs.Contents.{minEntry, Group, groups, halfAt, contents, 
 use Rattle.payload.specs.Payloads.{body, requestOf}
 use Rattle.plans.specs.Lists.{rowsIn, outside}
 use Rattle.plans.specs.Plans.{maxPayload}
-use Rattle.encoder.specs.Writings.{noBytes, bytesOf, maxRequest, askable, encoded, writing, encodedNumbers, measured}
+use Rattle.encoder.specs.Writings.{noBytes, bytesOf, encoded, writing, encodedNumbers}
+use Rattle.payload_sizes.specs.Measures.{measured}
+use Rattle.payload_sizes.specs.Asking.{maxRequest, askable}
 use Rattle.roundtrip.specs.Marks.{cleared, BitAbove}
 use Rattle.roundtrip.specs.ReadingBack.{Bytes, Words, readRequest, ReadsTo}
 

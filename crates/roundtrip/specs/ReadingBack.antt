@@ -7,8 +7,8 @@ use lib.ListN.{getD}
 use lib.Dec.{eqb}
 use Rattle.rtp.specs.declared.settings.Settings.{Settings}
 use Rattle.formats.specs.Formats.{formatOf}
-use Rattle.formats.specs.Tags.{primaryMark}
-use Rattle.payload.specs.Rows.{Row}
+use Rattle.tags.specs.Tags.{primaryMark}
+use Rattle.frame_rows.specs.Rows.{Row}
 use Rattle.payload.specs.Payloads.{noRequest, rowsOf, payloadRows}
 use Rattle.plans.specs.Lists.{rowsIn, firstTime, whole}
 use Rattle.encoder.specs.Bytes.{frameIn}

@@ -2,7 +2,7 @@
 use Prim.Native.Nat.{ℕ}
 use mathlib.Core.Path.{_≡_}
 use mathlib.Core.List.{List}
-use Rattle.rtp.specs.Redundancy.{blockHeader, headersStep, headers}
+use Rattle.rtp_headers.specs.Redundancy.{blockHeader, headersStep, headers}
 use Rattle.contents.specs.Contents.{entryOf, contentsStep, contents}
 
 -- a table of contents, after `rows` rows of the same packet

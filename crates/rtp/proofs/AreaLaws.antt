@@ -1,12 +1,13 @@
 -- Laws of areas, of what is written over their fronts and of the parts that are lent on.
 use mathlib.Core.Path.{_≡_, refl, ap, sym, _∙_}
 use mathlib.Core.List.{List, [], _∷_, _++_, append-assoc, append-nil}
-use Prim.Native.Nat.{ℕ, _+_, _-_, _≤_}
+use Prim.Native.Nat.{ℕ, _+_, _-_, _≤_, _<_}
 use native.Mathlib.Omega.{arith}
 use lib.ListN.{length, take, drop, set, length-append, length-drop, drop-of-length-le}
 use lib.Seq.{take-all, take-at, drop-at, drop-drop, length-take-le}
+use borrow.Author.Tests.{le-leb, lt-leb}
 use borrow.Rule.Slice.PartMut.{putMid}
-use Rattle.rtp.specs.Areas.{over}
+use Rattle.rtp.specs.Areas.{over, fitted}
 
 pub over-none : (l : List ℕ) → over [] l ≡ l
 unfolding over
@@ -33,7 +34,27 @@ over-part a b l m e n h p q =
     let all : take (length m - n) (drop n m) ≡ drop n m = take-all (length m - n) (drop n m) (simp length-drop (omega arith)) in
     rw (first, none, append-nil, q, all, rest, ← h) (sym (over-more a b l))
 
--- four stores at the front
+-- what fits is written over the front, and what does not leaves the area
+pub fitted-in : (ws l : List ℕ) → length ws ≤ length l → fitted ws l ≡ over ws l
+unfolding fitted
+fitted-in ws l h = rw (le-leb (length ws) (length l) h)
+
+pub fitted-short : (ws l : List ℕ) → length l < length ws → fitted ws l ≡ l
+unfolding fitted
+fitted-short ws l h = rw (lt-leb (length ws) (length l) h)
+
+-- one store, two and four at the front
+pub over-one : (l : List ℕ) (a : ℕ) → 1 ≤ length l → set l 0 a ≡ over (a ∷ []) l
+unfolding over
+over-one [] a h = absurd (omega arith)
+over-one (x ∷ l) a h = refl
+
+pub over-two : (l : List ℕ) (a b : ℕ) → 2 ≤ length l → set (set l 0 a) 1 b ≡ over (a ∷ b ∷ []) l
+unfolding over
+over-two [] a b h = absurd (omega arith)
+over-two (x ∷ []) a b h = absurd (omega arith)
+over-two (x ∷ y ∷ l) a b h = refl
+
 pub over-four : (l : List ℕ) (a b c d : ℕ) → 4 ≤ length l → set (set (set (set l 0 a) 1 b) 2 c) 3 d ≡ over (a ∷ b ∷ c ∷ d ∷ []) l
 unfolding over
 over-four [] a b c d h = absurd (omega arith)

@@ -1,7 +1,5 @@
 pub mod TestLaws
 pub mod AreaLaws
-pub mod HeaderLaws
-pub mod RedundancyLaws
+pub mod ByteLaws
 pub mod RefusalLaws
-pub mod NumberLaws
 pub mod RangeLaws

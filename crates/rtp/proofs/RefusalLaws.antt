@@ -3,7 +3,10 @@ use mathlib.Core.Path.{_≡_, refl, ap, sym, _∙_}
 use mathlib.Core.List.{List, [], _∷_}
 use Prim.Native.Nat.{ℕ, _<_}
 use native.Mathlib.Omega.{arith}
+use mathlib.Core.Bool.{false}
 use lib.ListN.{getD}
+use lib.Dec.{eqb}
+use borrow.Author.Tests.{ne-eqb}
 use Rattle.rtp.specs.declared.refusal.Refusal.{Refusal}
 use Rattle.rtp.specs.declared.refusal.Refusal.the-variants.{PacketLength, Version, HeaderTruncated, PaddingCount, UnknownPayloadType, ContentsTruncated, ReservedCode, NoFrameBlocks, TooManyRows, LengthMismatch, SettingsOutOfRange, AreaTooShort, Unwritable, RowOutsideBytes, MalformedBuffer}
 use Rattle.rtp.specs.declared.refusal.Fault.{Fault}
@@ -59,3 +62,6 @@ same-fault a b h k = ap (λ (r : Refusal). faultAt (a .offset) r) (same-number (
 
 pub not-zero {ℓ} : {P : Type ℓ} (r : Refusal) → number r ≡ 0 → P
 not-zero r h = absurd (omega (arith, number-positive r))
+
+pub number-some : (q : Refusal) → eqb (number q) 0 ≡ false
+number-some q = ne-eqb (number q) 0 (λ h. not-zero q h)

@@ -5,5 +5,3 @@ pub mod Areas
 pub mod Refusals
 pub mod Faults
 pub mod Ranges
-pub mod Header
-pub mod Redundancy

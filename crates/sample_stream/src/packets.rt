@@ -1,7 +1,7 @@
 // The packets of the stream, as they were sent.
 use crate::frames;
-use encoder::writing::Written;
 use payload::reading::NO_REQUEST;
+use payload_sizes::measuring::Written;
 use rtp::settings;
 use rtp::settings::Settings;
 use sender::packets;

@@ -1,5 +1,4 @@
-pub mod WordLaws
-pub mod ListsLaws
+pub mod ListBytesLaws
 pub mod PutLaws
 pub mod ListPartLaws
 pub mod SendingLaws

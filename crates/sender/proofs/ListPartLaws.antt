@@ -13,16 +13,22 @@ use Rattle.rtp.specs.declared.settings.Settings.{Settings}
 use Rattle.rtp.specs.declared.refusal.Refusal.{Refusal}
 use Rattle.rtp.specs.declared.refusal.Refusal.the-variants.{Unwritable}
 use Rattle.rtp.proofs.TestLaws.{by-test}
-use Rattle.payload.specs.Rows.{rowsIn}
+use Rattle.frame_rows.specs.Rows.{rowsIn}
 use Rattle.plans.specs.Lists.{outside}
-use Rattle.encoder.specs.Writings.{Encoded, noBytes, bytesOf, encoded, Numbers, encodedNumbers, encodedBytes, refusedNumbers, measured}
-use Rattle.encoder.proofs.WritingLaws.{in-range-some, numbers-encoded, measured-plan}
-use Rattle.sender.specs.Parts.{maxOffset, maxBlock, Part, Parts, noParts, partsOf, primaryPart, prependPart, redundantPart, parts}
-use Rattle.sender.specs.Packets.{blockHeaderBytes, headersBytes, blocksBytes}
-use Rattle.sender.specs.Room.{Counted, offsetOf, redundantNumbers, addNumbers, listsNumbers, listsHeaders, HeadersFit, listBytes, listsPayloads}
+use Rattle.encoder.specs.Writings.{Encoded, noBytes, bytesOf, encoded, encodedNumbers, encodedBytes}
+use Rattle.payload_sizes.specs.Measures.{Numbers, refusedNumbers, measured}
+use Rattle.encoder.proofs.WritingLaws.{in-range-some, numbers-encoded}
+use Rattle.payload_sizes.proofs.MeasureLaws.{measured-plan}
+use Rattle.packet_parts.specs.Parts.{maxOffset, maxBlock, Part, Parts, noParts, partsOf, primaryPart, prependPart, redundantPart, parts}
+use Rattle.packet_parts.specs.Headings.{blockHeaderBytes}
+use Rattle.sender.specs.Packets.{headersBytes, blocksBytes}
+use Rattle.packet_parts.specs.ListSizes.{Counted, offsetOf, redundantNumbers, addNumbers, listsNumbers}
+use Rattle.sender.specs.Room.{listsHeaders, HeadersFit, listBytes, listsPayloads}
 use Rattle.rtp.proofs.RangeLaws.{ranged}
-use Rattle.sender.proofs.WordLaws.{rows-take, rows-drop, first-fits, counted-rest, inside-first, inside-rest, whole-first}
-use Rattle.sender.proofs.ListsLaws.{number-some, lists-one, lists-more, redundant-none, redundant-long, redundant-far, redundant-all, add-none, add-rest, add-both, headers-one, headers-more, payloads-one, payloads-more}
+use Rattle.packet_parts.proofs.WordLaws.{rows-take, rows-drop, first-fits, counted-rest, inside-first, inside-rest, whole-first}
+use Rattle.sender.proofs.ListBytesLaws.{headers-one, headers-more, payloads-one, payloads-more}
+use Rattle.rtp.proofs.RefusalLaws.{number-some}
+use Rattle.packet_parts.proofs.ListsLaws.{lists-one, lists-more, redundant-none, redundant-long, redundant-far, redundant-all, add-none, add-rest, add-both}
 
 pub none-numbers : (q : Refusal) → encodedNumbers (noBytes q) ≡ refusedNumbers q
 unfolding encodedNumbers

@@ -7,12 +7,13 @@ use lib.ListN.{length, getD, take, drop, length-append}
 use borrow.Author.Tests.{le-ltb, eq-eqb}
 use Rattle.rtp.specs.Sizes.{rowWidth}
 use Rattle.rtp.specs.declared.settings.Settings.{Settings}
-use Rattle.payload.specs.Rows.{rowsIn}
-use Rattle.encoder.specs.declared.writing.Written.{Written}
-use Rattle.encoder.specs.Writings.{Encoded, noBytes, bytesOf, encoded, roomFor, writing, Numbers, writtenNumbers, encodedNumbers, encodedBytes}
+use Rattle.frame_rows.specs.Rows.{rowsIn}
+use Rattle.payload_sizes.specs.declared.measuring.Written.{Written}
+use Rattle.encoder.specs.Writings.{Encoded, noBytes, bytesOf, encoded, roomFor, writing, encodedNumbers, encodedBytes}
+use Rattle.payload_sizes.specs.Measures.{Numbers, writtenNumbers}
 use Rattle.sender.specs.Room.{listBytes, listsPayloads, ListRoom, PayloadsRoom}
-use Rattle.sender.proofs.WordLaws.{first-fits, counted-rest, inside-first, inside-rest, whole-first}
-use Rattle.sender.proofs.ListsLaws.{payloads-one, payloads-more}
+use Rattle.packet_parts.proofs.WordLaws.{first-fits, counted-rest, inside-first, inside-rest, whole-first}
+use Rattle.sender.proofs.ListBytesLaws.{payloads-one, payloads-more}
 
 -- One list
 

@@ -12,14 +12,19 @@ use Rattle.rtp.specs.Ranges.{noRedundancy}
 use Rattle.rtp.specs.declared.settings.Settings.{Settings}
 use Rattle.rtp.specs.declared.refusal.Refusal.the-variants.{SettingsOutOfRange, AreaTooShort, Unwritable, RowOutsideBytes}
 use Rattle.rtp.proofs.TestLaws.{by-test, not-both}
-use Rattle.payload.specs.Rows.{rowsIn}
+use Rattle.frame_rows.specs.Rows.{rowsIn}
 use Rattle.plans.specs.Lists.{outside}
-use Rattle.encoder.specs.Writings.{Encoded, noBytes, bytesOf, askable, roomFor, Numbers, encodedNumbers, encodedBytes}
-use Rattle.encoder.proofs.RequestLaws.{asked}
-use Rattle.sender.specs.Parts.{maxRedundant, total, primaryTime, Part, Parts, noParts, partsOf, parts}
-use Rattle.sender.specs.Packets.{Heading, headerBytes, headersBytes, blocksBytes, bodyBytes, packetType, redundancyMissing, withinPacket, assembledFrom, countsFit, assembled, sending}
-use Rattle.sender.specs.Room.{Counted, listsNumbers, withinNumbers, packetNumbers, listsHeaders, listsPayloads, listHeadersSize, PayloadsRoom, BlocksRoom, BytesRoom, PacketRoom}
-use Rattle.sender.proofs.ListsLaws.{number-some, length-headers}
+use Rattle.encoder.specs.Writings.{Encoded, noBytes, bytesOf, roomFor, encodedNumbers, encodedBytes}
+use Rattle.payload_sizes.specs.Measures.{Numbers}
+use Rattle.payload_sizes.specs.Asking.{askable}
+use Rattle.payload_sizes.proofs.RequestLaws.{asked}
+use Rattle.packet_parts.specs.Parts.{maxRedundant, total, primaryTime, Part, Parts, noParts, partsOf, parts, countsFit}
+use Rattle.packet_parts.specs.Headings.{Heading, headerBytes}
+use Rattle.sender.specs.Packets.{headersBytes, blocksBytes, bodyBytes, packetType, redundancyMissing, withinPacket, assembledFrom, assembled, sending}
+use Rattle.packet_parts.specs.ListSizes.{Counted, listsNumbers, withinNumbers, packetNumbers}
+use Rattle.sender.specs.Room.{listsHeaders, listsPayloads, listHeadersSize, PayloadsRoom, BlocksRoom, BytesRoom, PacketRoom}
+use Rattle.sender.proofs.ListBytesLaws.{length-headers}
+use Rattle.rtp.proofs.RefusalLaws.{number-some}
 use Rattle.rtp.proofs.RangeLaws.{ranged}
 use Rattle.sender.proofs.ListPartLaws.{none-numbers, bytes-numbers, partsSize, Agrees, agrees}
 

@@ -1,41 +1,19 @@
 -- A packet written: `sending` is the whole meaning of a call of `write_packet`, refusals included.
-use Prim.Native.Nat.{ℕ, _+_, _*_, _/_, _%_}
+use Prim.Native.Nat.{ℕ}
 use mathlib.Core.List.{List, [], _∷_, _++_}
-use mathlib.Core.Bool.{Bool, true, false, cond}
+use mathlib.Core.Bool.{Bool, false, cond}
 use lib.ListN.{length}
 use lib.Dec.{ltb, eqb}
-use Rattle.rtp.specs.Sizes.{maxPacket, maxRows, rowWidth}
+use Rattle.rtp.specs.Sizes.{maxPacket}
 use Rattle.rtp.specs.Ranges.{noRedundancy}
 use Rattle.rtp.specs.declared.settings.Settings.{Settings}
 use Rattle.rtp.specs.declared.refusal.Refusal.the-variants.{SettingsOutOfRange, RowOutsideBytes, Unwritable}
-use Rattle.payload.specs.Rows.{Row}
+use Rattle.frame_rows.specs.Rows.{Row}
 use Rattle.plans.specs.Lists.{rowsIn, outside}
-use Rattle.encoder.specs.Writings.{Encoded, noBytes, bytesOf, askable, roomFor}
-use Rattle.sender.specs.Parts.{maxRedundant, total, primaryTime, Part, Parts, noParts, partsOf, parts}
-
--- numbers in two and four bytes, big-endian
-abbrev pub two : ℕ → List ℕ
-two n = (n / 256 % 256) ∷ (n % 256) ∷ []
-
-abbrev pub four : ℕ → List ℕ
-four n = (n / 16777216 % 256) ∷ (n / 65536 % 256) ∷ (n / 256 % 256) ∷ (n % 256) ∷ []
-
--- what the caller gives for the header; a marker other than 0 is set
-pub record Heading : Type 0 where
-  pub marker : ℕ
-  pub sequence : ℕ
-  pub source : ℕ
-
-abbrev pub markerBit : ℕ → ℕ
-markerBit m = cond (eqb m 0) 0 128
-
--- the twelve bytes of a header with no CC, X or P
-abbrev pub headerBytes : Heading → ℕ → ℕ → List ℕ
-headerBytes h type time = 128 ∷ (markerBit (h .marker) + type) ∷ (two (h .sequence) ++ (four time ++ four (h .source)))
-
--- the four bytes of a redundant block's header: F and type, offset 14 bits, length 10 bits
-abbrev pub blockHeaderBytes : ℕ → ℕ → ℕ → List ℕ
-blockHeaderBytes type offset size = (128 + type) ∷ (offset / 64) ∷ (4 * (offset % 64) + size / 256) ∷ (size % 256) ∷ []
+use Rattle.encoder.specs.Writings.{Encoded, noBytes, bytesOf, roomFor}
+use Rattle.payload_sizes.specs.Asking.{askable}
+use Rattle.packet_parts.specs.Parts.{primaryTime, Part, Parts, noParts, partsOf, parts, countsFit}
+use Rattle.packet_parts.specs.Headings.{Heading, headerBytes, blockHeaderBytes}
 
 unfoldable pub headersBytes : ℕ → List Part → List ℕ
 headersBytes type [] = type ∷ []
@@ -67,13 +45,6 @@ abbrev pub assembledFrom : Settings → Heading → ℕ → Parts → Encoded
 assembledFrom st h time noParts = noBytes Unwritable
 assembledFrom st h time (partsOf bs p) =
     cond (redundancyMissing st bs) (noBytes Unwritable) (withinPacket (headerBytes h (packetType st bs) time ++ bodyBytes st bs p))
-
--- one to five counts, which make up the area, and at most 128 rows in all
-abbrev pub countsFit : List ℕ → List ℕ → Bool
-countsFit counts ws =
-    cond (eqb (length counts) 0) false
-    (cond (ltb (maxRedundant + 1) (length counts)) false
-    (cond (eqb (length ws) (rowWidth * total counts)) (cond (ltb maxRows (total counts)) false true) false))
 
 unfoldable pub assembled : Settings → ℕ → Heading → List ℕ → List ℕ → List Row → Encoded
 assembled st request h counts bytes rs = assembledFrom st h (primaryTime counts rs) (parts st request bytes (primaryTime counts rs) counts rs)

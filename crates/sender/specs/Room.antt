@@ -2,58 +2,18 @@
 use Prim.Native.Nat.{ℕ, _+_, _-_, _*_, _%_, _≤_, _<_}
 use mathlib.Core.Path.{_≡_}
 use mathlib.Core.List.{List, [], _∷_, _++_}
-use mathlib.Core.Bool.{true, false, cond}
+use mathlib.Core.Bool.{true, false}
 use lib.ListN.{length, take, drop}
-use lib.Dec.{ltb, eqb}
-use Rattle.rtp.specs.Sizes.{minPacket, maxPacket, rowWidth}
-use Rattle.rtp.specs.Ranges.{noRedundancy}
-use Rattle.rtp.specs.Time.{difference}
+use Rattle.rtp.specs.Sizes.{rowWidth}
 use Rattle.rtp.specs.declared.settings.Settings.{Settings}
-use Rattle.rtp.specs.declared.refusal.Refusal.the-variants.{Unwritable}
-use Rattle.plans.specs.Lists.{rowsIn, outside, firstTime}
-use Rattle.encoder.specs.Writings.{Encoded, noBytes, bytesOf, askable, encoded, encodedBytes, Numbers, refusedNumbers, measured}
-use Rattle.sender.specs.Parts.{maxOffset, maxBlock, total, parts}
-use Rattle.sender.specs.Packets.{Heading, blockHeaderBytes, assembledFrom}
-
--- the words are the lists' rows
-abbrev pub Counted : List ℕ → List ℕ → Type 0
-Counted counts ws = length ws ≡ rowWidth * total counts
-
--- Sizes
-
--- how far before `time` the list stands
-abbrev pub offsetOf : ℕ → List ℕ → ℕ
-offsetOf time ws = difference time (firstTime (rowsIn ws))
-
--- the bytes that a redundant list takes, its block header too
-unfoldable pub redundantNumbers : Settings → ℕ → List ℕ → Numbers
-redundantNumbers st time ws =
-    cond (eqb (measured st ws .refusal) 0)
-    (cond (ltb maxBlock (measured st ws .count)) (refusedNumbers Unwritable)
-    (cond (ltb maxOffset (offsetOf time ws)) (refusedNumbers Unwritable) (record { refusal = 0; count = 4 + measured st ws .count })))
-    (refusedNumbers Unwritable)
-
-abbrev pub addNumbers : Numbers → Numbers → Numbers
-addNumbers m n = cond (eqb (m .refusal) 0) (cond (eqb (n .refusal) 0) (record { refusal = 0; count = m .count + n .count }) (refusedNumbers Unwritable)) (refusedNumbers Unwritable)
-
--- the bytes that the lists take, but for the primary block's header
-unfoldable pub listsNumbers : Settings → ℕ → List ℕ → List ℕ → Numbers
-listsNumbers st time [] ws = measured st ws
-listsNumbers st time (n ∷ []) ws = measured st ws
-listsNumbers st time (n ∷ m ∷ ns) ws =
-    addNumbers (redundantNumbers st time (take (rowWidth * n) ws)) (listsNumbers st time (m ∷ ns) (drop (rowWidth * n) ws))
-
--- a packet of so many bytes is within 2,048
-abbrev pub withinNumbers : ℕ → Numbers
-withinNumbers n = cond (ltb maxPacket n) (refusedNumbers Unwritable) (record { refusal = 0; count = n })
-
--- the bytes of a packet of k lists that take so many: with redundant lists it has the primary block's header of one byte
-abbrev pub packetNumbers : Settings → ℕ → Numbers → Numbers
-packetNumbers st k n =
-    cond (eqb (n .refusal) 0)
-    (cond (ltb k 2) (withinNumbers (minPacket + n .count))
-    (cond (eqb (st .«redundancy_type») noRedundancy) (refusedNumbers Unwritable) (withinNumbers (minPacket + 1 + n .count))))
-    (refusedNumbers Unwritable)
+use Rattle.plans.specs.Lists.{rowsIn, outside}
+use Rattle.encoder.specs.Writings.{Encoded, noBytes, bytesOf, encoded, encodedBytes}
+use Rattle.payload_sizes.specs.Measures.{measured}
+use Rattle.payload_sizes.specs.Asking.{askable}
+use Rattle.packet_parts.specs.Parts.{maxOffset, maxBlock, parts}
+use Rattle.packet_parts.specs.Headings.{Heading, blockHeaderBytes}
+use Rattle.packet_parts.specs.ListSizes.{Counted, offsetOf}
+use Rattle.sender.specs.Packets.{assembledFrom}
 
 -- Headers
 

@@ -1,54 +1,26 @@
 // Packets, written.
-use crate::headers;
-use crate::sizes;
 use encoder::writing;
-use encoder::writing::Written;
+use packet_parts::headers;
+use packet_parts::sizes;
+use payload_sizes::asking;
+use payload_sizes::measuring::Written;
 use plans::lists;
 use rtp::refusal::Refusal;
-use rtp::settings::NO_REDUNDANCY;
 use rtp::settings::Settings;
-use rtp::sizes::MAX_PACKET;
 use rtp::sizes::MIN_PACKET;
 ghost use mathlib.Core.Path.{_≡_};
-ghost use Prim.Native.Nat.{_+_, _≤_, _<_};
+ghost use Prim.Native.Nat.{_≤_};
 ghost use mathlib.Core.List.{_++_};
 ghost use lib.ListN.{length};
 ghost use Rattle.rtp.specs.Areas.{over};
 ghost use Rattle.plans.specs.Lists.{rowsIn};
-ghost use Rattle.encoder.specs.Writings.{writtenNumbers, encodedNumbers, encodedBytes, measured};
-ghost use Rattle.sender.specs.Parts.{maxRedundant, parts};
-ghost use Rattle.sender.specs.Packets.{assembledFrom, sending, blockHeaderBytes};
-ghost use Rattle.sender.specs.Room.{Counted, offsetOf, listsNumbers, withinNumbers, packetNumbers, HeaderFits, listsHeaders, HeadersRoom, listBytes, ListRoom, listsPayloads, PayloadsRoom, BlocksRoom, PacketRoom};
-
-// A packet of so many bytes is within 2,048.
-fn within_packet(size: usize) -> Written
-    ensures { λ r. ⌜ writtenNumbers r ≡ withinNumbers size ⌝ }
-{
-    if MAX_PACKET < size {
-        return Written::Refused(Refusal::Unwritable);
-    }
-    Written::Bytes(size)
-}
-
-// The bytes of a packet of the lists.
-fn packet_size(asked: Settings, time: u32, counts: &[u32], rows: &[u32]) -> Written
-    requires { ⌜ (length (now counts) ≤ maxRedundant + 1) × Counted (now counts) (now rows) ⌝ }
-    ensures { λ r. ⌜ writtenNumbers r ≡
-        packetNumbers asked (length (now (counts .entry))) (listsNumbers asked time (now (counts .entry)) (now (rows .entry))) ⌝ }
-{
-    match sizes::measure_lists(asked, time, counts, rows) {
-        Written::Refused(_) => Written::Refused(Refusal::Unwritable),
-        Written::Bytes(size) => {
-            if counts.len() < 2 {
-                return within_packet(MIN_PACKET + size);
-            }
-            if asked.redundancy_type == NO_REDUNDANCY {
-                return Written::Refused(Refusal::Unwritable);
-            }
-            within_packet(MIN_PACKET + 1 + size)
-        }
-    }
-}
+ghost use Rattle.encoder.specs.Writings.{encodedNumbers, encodedBytes};
+ghost use Rattle.payload_sizes.specs.Measures.{writtenNumbers, measured};
+ghost use Rattle.packet_parts.specs.Parts.{parts};
+ghost use Rattle.packet_parts.specs.Headings.{blockHeaderBytes};
+ghost use Rattle.packet_parts.specs.ListSizes.{offsetOf};
+ghost use Rattle.sender.specs.Packets.{assembledFrom, sending};
+ghost use Rattle.sender.specs.Room.{HeaderFits, listsHeaders, HeadersRoom, listBytes, ListRoom, listsPayloads, PayloadsRoom, BlocksRoom, PacketRoom};
 
 // The block header of a redundant list.
 fn put_list_header(asked: Settings, time: u32, rows: &[u32], out: &mut [u8])
@@ -198,13 +170,13 @@ pub fn write_packet(
         (encodedBytes (sending asked «mode_request» (record { marker = marker; sequence = sequence; source = source }) (now (counts .entry)) (now (rows .entry))
         (now (bytes .entry)) (length (now (out .entry))))) (now (out .entry))) ⌝ }
 {
-    if writing::in_range(asked, mode_request) {
+    if asking::in_range(asked, mode_request) {
         if lists::any_outside(rows, bytes.len()) {
             return Written::Refused(Refusal::RowOutsideBytes);
         }
         if sizes::counts_fit(counts, rows) {
             let time = sizes::primary_time(counts, rows);
-            match packet_size(asked, time, counts, rows) {
+            match sizes::packet_size(asked, time, counts, rows) {
                 Written::Refused(_) => Written::Refused(Refusal::Unwritable),
                 Written::Bytes(size) => {
                     if out.len() < size {

@@ -1,10 +1,8 @@
 // Lists of frames written and printed.
 use encoder::writing;
-use encoder::writing::Written;
-use formats::tagging;
 use packet::reading;
 use packet::reading::Reading;
-use payload::reading::NO_REQUEST;
+use payload_sizes::measuring::Written;
 use rtp::refusal;
 use rtp::settings::AMR;
 use rtp::settings::Settings;
@@ -12,15 +10,7 @@ use rtp::sizes::MAX_PACKET;
 use rtp::sizes::MAX_ROWS;
 use rtp::sizes::ROW_AREA;
 use sender::packets;
-
-pub(crate) fn agreed(format: u8, channels: u8) -> Settings {
-    Settings {
-        format,
-        channels,
-        payload_type: 97,
-        redundancy_type: 98,
-    }
-}
+use tags::tagging;
 
 fn print(text: &[u8], value: u32) {
     io::write_all(1, text);
@@ -84,22 +74,14 @@ fn show(written: Written, bytes: &[u8]) -> usize {
     }
 }
 
-fn title(label: &[u8]) {
-    io::write_all(1, label);
-    io::write_all(1, b"\n");
-}
-
-// With a mode request.
-pub(crate) fn requesting_payload(label: &[u8], settings: Settings, mode_request: u8, rows: &[u32]) {
-    title(label);
+// The first `n` words of the rows written as a payload.
+pub(crate) fn payload(settings: Settings, mode_request: u8, rows: &[u32], n: usize) {
     let bytes = sound();
     let mut out = area();
-    let written = writing::write_payload(settings, mode_request, rows, &bytes, &mut out);
-    show(written, &out);
-}
-
-pub(crate) fn payload(label: &[u8], settings: Settings, rows: &[u32]) {
-    requesting_payload(label, settings, NO_REQUEST, rows);
+    if n <= rows.len() {
+        let written = writing::write_payload(settings, mode_request, &rows[..n], &bytes, &mut out);
+        show(written, &out);
+    }
 }
 
 fn print_first(start: u32, packet: &[u8]) {
@@ -158,15 +140,8 @@ fn read_back(settings: Settings, packet: &[u8]) {
     }
 }
 
-// With a mode request, marker 1, sequence 65244 and source 2712847316.
-pub(crate) fn requesting(
-    label: &[u8],
-    settings: Settings,
-    mode_request: u8,
-    counts: &[u32],
-    rows: &[u32],
-) {
-    title(label);
+// The same as a packet with marker 1, sequence 65244 and source 2712847316, read back.
+fn packet(settings: Settings, mode_request: u8, counts: &[u32], rows: &[u32]) {
     let bytes = sound();
     let mut out = area();
     let written = packets::write_packet(
@@ -188,6 +163,18 @@ pub(crate) fn requesting(
     }
 }
 
-pub(crate) fn packet(label: &[u8], settings: Settings, counts: &[u32], rows: &[u32]) {
-    requesting(label, settings, NO_REQUEST, counts, rows);
+// The first `n` words of the rows, by the first `k` counts.
+pub(crate) fn packet_of(
+    settings: Settings,
+    mode_request: u8,
+    counts: &[u32],
+    k: usize,
+    rows: &[u32],
+    n: usize,
+) {
+    if k <= counts.len() {
+        if n <= rows.len() {
+            packet(settings, mode_request, &counts[..k], &rows[..n]);
+        }
+    }
 }

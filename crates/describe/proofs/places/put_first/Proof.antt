@@ -4,8 +4,8 @@ use Rattle.describe.proofs.places.put_first.Statement.{statement}
 use Rattle.describe.proofs.places.put_first.Tie as tie
 use Rattle.describe.proofs.places.put_first.Reads as reads
 use Rattle.describe.proofs.places.put_first.Lts as lts
-use Rattle.console.proofs.lines.put.Reads as put-reads
-use Rattle.console.proofs.lines.put_hex.Reads as put-hex-reads
+use Rattle.console_text.proofs.lines.put.Reads as put-reads
+use Rattle.console_text.proofs.lines.put_hex.Reads as put-hex-reads
 
 abbrev Inv-loop : tie.InvT-loop
 Inv-loop line₀ at s n end₀ i₀ t7 line end i = Unit

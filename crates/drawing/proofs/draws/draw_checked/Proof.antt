@@ -6,7 +6,7 @@ use native.Mathlib.Omega.{arith}
 use denote.Ref.{now}
 use Rattle.drawing.specs.declared.draws.Drawn.{Drawn}
 use Rattle.layout.specs.Arrays.{Machine}
-use Rattle.layout.specs.Bits.{heldIn}
+use Rattle.slot_marks.specs.Bits.{heldIn}
 use Rattle.layout.specs.Layout.{entriesFrom}
 use Rattle.layout.specs.WellFormed.{wellFormed}
 use Rattle.drawing.specs.Calls.{DrawOutcome, drawNumbers}

@@ -6,7 +6,7 @@ use lib.ListN.{length, getD, take, drop}
 use Rattle.rtp.proofs.AreaLaws.{part-cut, part-size}
 use denote.Ref.{now}
 use Rattle.playout.specs.Sizes.{slots, slotSize}
-use Rattle.layout.proofs.FreeLaws.{released-marked}
+use Rattle.slot_marks.proofs.FreeLaws.{released-marked}
 use Rattle.drawing.proofs.DrawLaws.{first-slot, first-short, first-marked, left}
 use Rattle.placing.proofs.BoundLaws.{laid-is}
 use borrow.Author.Needs.{needs}

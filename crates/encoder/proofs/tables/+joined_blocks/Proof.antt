@@ -8,7 +8,7 @@ use denote.Ref.{now}
 use Rattle.rtp.specs.Sizes.{rowWidth}
 use Rattle.rtp.proofs.AreaLaws.{part-to-end}
 use Rattle.formats.specs.Formats.{stepOf}
-use Rattle.formats.specs.Tags.{tagClass}
+use Rattle.tags.specs.Tags.{tagClass}
 use Rattle.plans.specs.declared.lists.RowWords.{RowWords}
 use Rattle.plans.specs.Lists.{rowsIn}
 use Rattle.plans.specs.Plans.{joinsRun, gapBetween, planFrom}
@@ -24,7 +24,7 @@ use Rattle.encoder.proofs.tables.joined_blocks.Kinds as joined-blocks-k
 use Rattle.encoder.proofs.tables.+joined_blocks.Lts-joined_blocks as joined-blocks-lts
 use Rattle.plans.proofs.lists.first_row.Reads as first-row-reads
 use Rattle.plans.proofs.planning.gap_between.Reads as gap-between-reads
-use Rattle.formats.proofs.tagging.tag_class.Reads as tag-class-reads
+use Rattle.tags.proofs.tagging.tag_class.Reads as tag-class-reads
 use Rattle.plans.proofs.planning.joins_run.Reads as joins-run-reads
 use Rattle.encoder.proofs.tables.+joined_blocks.{statement}
 use Rattle.encoder.proofs.tables.+joined_blocks.Tie.{close}

@@ -6,7 +6,7 @@ use denote.Ref.{now}
 use Rattle.rtp.specs.Areas.{over}
 use Rattle.rtp.proofs.AreaLaws.{part-length}
 use Rattle.formats.specs.declared.facts.Format.{Format}
-use Rattle.formats.specs.Tags.{tagClass}
+use Rattle.tags.specs.Tags.{tagClass}
 use Rattle.plans.specs.declared.lists.RowWords.{RowWords}
 use Rattle.encoder.specs.Bytes.{startBytes}
 use Rattle.plans.specs.Room.{rowAs, wordsAt}

@@ -1,4 +1,4 @@
-use mathlib.Core.Path.{_≡_, subst, sym}
+use mathlib.Core.Path.{_≡_, refl, subst, sym}
 use Prim.Native.Nat.{ℕ, _-_}
 use lib.ListN.{length}
 use denote.Ref.{now}
@@ -32,7 +32,7 @@ same-length c = search needs
 returns : tie.Need-returns
 returns c = let a = c .before .before .before .before .before .before .before .before .before .before .before .args in
     put-all (a .format) (a .mode-request) (a .channels) (a .table) (now (a .rows)) (now (a .bytes)) (length (now (a .out))) (c .before .before .before .before .before .before .before .before .before .before .before .pre)
-    (now (a .out)) (c .before .before .before .before .before .before .put-request .last .1 .1 .0) _ _ (c .before .before .before .before .before .before .put-request .ensures .0)
+    (now (a .out)) (c .before .before .before .before .before .before .put-request .last .1 .1 .0) _ _ refl (c .before .before .before .before .before .before .put-request .ensures .0)
     (c .before .before .before .before .before .before .put-request .ensures .1) (c .before .before .put-list .ensures)
 
 pub put-payload-spec : {M : Type 1} → statement M

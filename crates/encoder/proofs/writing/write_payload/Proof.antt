@@ -6,8 +6,10 @@ use denote.Ref.{now}
 use Rattle.rtp.specs.Areas.{over}
 use Rattle.plans.specs.Lists.{rowsIn, outside}
 use Rattle.plans.specs.Plans.{plan}
-use Rattle.encoder.specs.Writings.{Encoded, askable, encodedBytes}
-use Rattle.encoder.proofs.WritingLaws.{Answered, answered, unanswered, refused-pair, writing-out, writing-outside, writing-cut, writing-none, writing-short, writing-all, numbers-all, payload-room}
+use Rattle.encoder.specs.Writings.{Encoded, encodedBytes}
+use Rattle.payload_sizes.specs.Asking.{askable}
+use Rattle.payload_sizes.proofs.MeasureLaws.{Answered, answered, unanswered}
+use Rattle.encoder.proofs.WritingLaws.{refused-pair, writing-out, writing-outside, writing-cut, writing-none, writing-short, writing-all, numbers-all, payload-room}
 use borrow.Author.Needs.{needs}
 use Rattle.encoder.proofs.writing.write_payload.Statement.{statement}
 use Rattle.encoder.proofs.writing.write_payload.Tie as tie

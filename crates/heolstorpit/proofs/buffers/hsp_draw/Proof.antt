@@ -1,4 +1,4 @@
-use Rattle.heolstorpit.proofs.AnswerLaws.{draws-same}
+use Rattle.heolstorpit.proofs.OutcomeLaws.{draws-same}
 use borrow.Author.Needs.{needs}
 use Rattle.heolstorpit.proofs.buffers.hsp_draw.Statement.{statement}
 use Rattle.heolstorpit.proofs.buffers.hsp_draw.Tie as tie

@@ -1,4 +1,4 @@
-use Rattle.heolstorpit.proofs.ReceptionAnswerLaws.{received-valid, received-invalid, received-refused}
+use Rattle.heolstorpit.proofs.OutcomeLaws.{receives-same}
 use borrow.Author.Needs.{needs}
 use Rattle.heolstorpit.proofs.reports.hsp_reception_packet.Statement.{statement}
 use Rattle.heolstorpit.proofs.reports.hsp_reception_packet.Tie as tie
@@ -6,36 +6,11 @@ use Rattle.heolstorpit.proofs.reports.hsp_reception_packet.Tie as tie
 packet-requires : tie.Need-packet-requires
 packet-requires c κs = search needs
 
-enum-told : tie.Need-enum-told
-enum-told c = search needs
-
-enum-told-2 : tie.Need-enum-told-2
-enum-told-2 c = search needs
-
-enum-known-answer : tie.Need-enum-known-answer
-enum-known-answer c = search needs
-
-refusal-number-requires : tie.Need-refusal-number-requires
-refusal-number-requires c κs = search needs
+received-fields-requires : tie.Need-received-fields-requires
+received-fields-requires c κs = search needs
 
 returns : tie.Need-returns
-returns c = received-valid _ _ _ (c .before .before .before .packet .ensures) (c .enum-told .given .1)
-
-returns-2 : tie.Need-returns-2
-returns-2 c = received-invalid _ _ _ (c .before .before .before .packet .ensures) (c .enum-told2 .given .1)
-
-returns-3 : tie.Need-returns-3
-returns-3 c = received-refused _ _ _ (c .before .before .before .before .before .packet .ensures) _ _ (c .before .before .answer .given .1) (c .refusal-number .ensures)
+returns c = receives-same _ _ _ _ (c .received-fields .ensures) (c .before .before .packet .ensures)
 
 pub hsp-reception-packet-spec : {M : Type 1} → statement M
-hsp-reception-packet-spec =
-    tie.close
-    (tie.spec
-    packet-requires
-    enum-told
-    enum-told-2
-    enum-known-answer
-    refusal-number-requires
-    returns
-    returns-2
-    returns-3)
+hsp-reception-packet-spec = tie.close (tie.spec packet-requires received-fields-requires returns)

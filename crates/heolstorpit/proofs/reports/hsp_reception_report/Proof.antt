@@ -1,5 +1,5 @@
-use Rattle.reception.proofs.SignedLaws.{same}
-use Rattle.heolstorpit.proofs.ReceptionAnswerLaws.{reported-block, reported-refused}
+use Rattle.packet_loss.proofs.SignedLaws.{same}
+use Rattle.heolstorpit.proofs.OutcomeLaws.{reports-same}
 use borrow.Author.Needs.{needs}
 use Rattle.heolstorpit.proofs.reports.hsp_reception_report.Statement.{statement}
 use Rattle.heolstorpit.proofs.reports.hsp_reception_report.Tie as tie
@@ -7,28 +7,11 @@ use Rattle.heolstorpit.proofs.reports.hsp_reception_report.Tie as tie
 report-requires : tie.Need-report-requires
 report-requires c κs = search needs
 
-enum-known-answer : tie.Need-enum-known-answer
-enum-known-answer c = search needs
-
-enum-known-answer-2 : tie.Need-enum-known-answer-2
-enum-known-answer-2 c = search needs
-
-refusal-number-requires : tie.Need-refusal-number-requires
-refusal-number-requires c κs = search needs
+reported-fields-requires : tie.Need-reported-fields-requires
+reported-fields-requires c κs = search needs
 
 returns : tie.Need-returns
-returns c = reported-block _ _ _ (c .before .before .before .before .before .report .ensures) _ _ (c .before .before .answer .given .1) (same (c .before .before .answer .given .0 .0 .«cumulative_lost») (record { sfits = c .struct-told .given .1 .0 .1 }))
-
-returns-2 : tie.Need-returns-2
-returns-2 c = reported-refused _ _ _ (c .before .before .before .before .before .report .ensures) _ _ (c .before .before .answer2 .given .1) (c .refusal-number .ensures)
+returns c = reports-same _ _ _ _ _ (c .before .reported-fields .ensures) (same (c .before .reported-fields .result .«cumulative_lost») (record { sfits = c .struct-told .given .1 .1 .0 .1 })) (c .before .before .before .report .ensures)
 
 pub hsp-reception-report-spec : {M : Type 1} → statement M
-hsp-reception-report-spec =
-    tie.close
-    (tie.spec
-    report-requires
-    enum-known-answer
-    enum-known-answer-2
-    refusal-number-requires
-    returns
-    returns-2)
+hsp-reception-report-spec = tie.close (tie.spec report-requires reported-fields-requires returns)

@@ -1,9 +1,8 @@
 use mathlib.Core.Path.{_≡_, ap, _∙_}
 use Prim.Native.Nat.{ℕ}
-use Rattle.formats.specs.Tags.{tagClass}
-use Rattle.layout.specs.Model.{allowed}
-use Rattle.layout.specs.Checks.{allowedIn}
-use Rattle.layout.proofs.CheckLaws.{allowed-in}
+use Rattle.tags.specs.Tags.{tagClass}
+use Rattle.codes.specs.Allowed.{allowed, allowedIn}
+use Rattle.codes.proofs.AllowedLaws.{allowed-in}
 use borrow.Author.Tests.{not-true, not-false}
 use borrow.Author.Needs.{needs}
 use Rattle.layout.proofs.well_formed.class_fine.Statement.{statement}

@@ -2,7 +2,7 @@ use Prim.Native.Nat.{ℕ, _+_, _-_, _^_, _≤_, _<_}
 use lib.Dec.{eqb}
 use lib.ListN.{getD}
 use Rattle.formats.specs.declared.facts.Format.{Format}
-use Rattle.formats.specs.Tags.{tagChannel}
+use Rattle.tags.specs.Tags.{tagChannel}
 use mathlib.Core.Path.{_≡_, _∙_, sym, ap, ap₂, subst}
 use native.Mathlib.Nat.{sub-zero}
 use native.Mathlib.Numerals.{add-one}

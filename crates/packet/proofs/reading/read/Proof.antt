@@ -4,14 +4,14 @@ use mathlib.Core.Bool.{true}
 use mathlib.Core.Path.{_≡_, ap, sym, _∙_}
 use Prim.Native.Nat.{ℕ}
 use native.Mathlib.Omega.{arith}
-use Rattle.rtp.proofs.HeaderLaws.{within}
+use Rattle.rtp_headers.proofs.HeaderLaws.{within}
 use Rattle.rtp.specs.Ranges.{inRange}
-use Rattle.rtp.specs.Header.{header}
-use Rattle.rtp.specs.declared.header.HeaderRead.{HeaderRead}
-use Rattle.packet.specs.Requests.{typedRequest}
+use Rattle.rtp_headers.specs.Header.{header}
+use Rattle.rtp_headers.specs.declared.header.HeaderRead.{HeaderRead}
+use Rattle.mode_requests.specs.Requests.{typedRequest}
 use Rattle.packet.specs.Readings.{payloadIn, typedRows, outcomeOf, reading}
 use Rattle.packet.proofs.ReadingLaws.{reading-out, reading-short, reading-refused, reading-headed, comes-refused, comes-typed}
-use Rattle.rtp.proofs.NumberLaws.{same-header}
+use Rattle.rtp_headers.proofs.NumberLaws.{same-header}
 use borrow.Author.Needs.{needs}
 use Rattle.packet.proofs.reading.read.Statement.{statement}
 use Rattle.packet.proofs.reading.read.Tie as tie

@@ -1,8 +1,8 @@
 use denote.Ref.{now}
 use lib.ListN.{length}
 use native.Mathlib.Omega.{arith}
-use Rattle.rtp.proofs.HeaderLaws.{within}
-use Rattle.packet.proofs.AnswerLaws.{gives-read, gives-none, gives-same}
+use Rattle.rtp_headers.proofs.HeaderLaws.{within}
+use Rattle.red.proofs.AnswerLaws.{gives-read, gives-none, gives-same}
 use Rattle.packet.proofs.ReadingLaws.{payload-fits, typed-plain, typed-redundant, typed-other}
 use borrow.Author.Needs.{needs}
 use Rattle.packet.proofs.reading.read_typed.Statement.{statement}
@@ -41,7 +41,7 @@ part-read-redundant-end : tie.Need-part-read-redundant-end
 part-read-redundant-end c = omega (arith, within _ _ (c .before .before .before .before .before .before .before .before .pre .2))
 
 read-redundant-requires : tie.Need-read-redundant-requires
-read-redundant-requires c κs = let a = c .before .before .before .before .before .before .before .before .before .before .args in (c .before .before .before .before .before .before .before .before .before .before .pre .0, c .before .before .before .before .before .before .before .before .before .before .pre .1, payload-fits (now (a .packet)) (a .head) (c .before .before .before .before .before .before .before .before .before .before .pre .2))
+read-redundant-requires c κs = search needs
 
 same-length-2 : tie.Need-same-length-2
 same-length-2 c = search needs
@@ -49,7 +49,7 @@ same-length-2 c = search needs
 returns-2 : tie.Need-returns-2
 returns-2 c =
     let a = c .before .before .before .before .before .before .before .before .before .before .before .before .before .args in
-    gives-same _ (now (a .rows)) _ _ _ (typed-redundant (a .settings) (a .head) (now (a .packet)) (c .before .before .before .before .before .before .before .before .if1 .left) (c .before .before .before .before .before .if2 .taken)) (c .before .before .read-redundant .ensures)
+    gives-same _ (now (a .rows)) _ _ _ (typed-redundant (a .settings) (a .head) (now (a .packet)) (c .before .before .before .before .before .before .before .before .if1 .left) (c .before .before .before .before .before .before .before .before .before .before .before .before .before .pre .0) (length (now (a .rows))) (c .before .before .before .before .before .before .before .before .before .before .before .before .before .pre .1) (c .before .before .before .before .before .before .before .before .before .before .before .before .before .pre .2) (c .before .before .before .before .before .if2 .taken)) (c .before .before .read-redundant .ensures)
 
 returns-3 : tie.Need-returns-3
 returns-3 c = let a = c .before .before .before .before .before .before .before .before .args in gives-none _ (now (a .rows)) _ (typed-other (a .settings) (a .head) (now (a .packet)) (c .before .before .before .if1 .left) (c .if2 .left))

@@ -5,7 +5,7 @@ use mathlib.Core.Path.{_≡_, sym, _∙_, ap}
 use Prim.Native.Nat.{_+_, _-_, _≤_}
 use native.Mathlib.Omega.{arith}
 use Rattle.rtp.specs.Sizes.{rowArea}
-use Rattle.formats.specs.Tags.{redundantMark}
+use Rattle.tags.specs.Tags.{redundantMark}
 use Rattle.formats.specs.Formats.{formatOf}
 use Rattle.formats.specs.declared.facts.Format.{Format}
 use Rattle.payload.specs.Payloads.{body, payloadRows, rowsAnswer, askedRows}

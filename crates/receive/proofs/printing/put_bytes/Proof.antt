@@ -5,7 +5,7 @@ use Rattle.receive.proofs.printing.put_bytes.Statement.{statement}
 use Rattle.receive.proofs.printing.put_bytes.Tie as tie
 use Rattle.receive.proofs.printing.put_bytes.Reads as reads
 use Rattle.receive.proofs.printing.put_bytes.Lts as lts
-use Rattle.console.proofs.lines.put_hex.Reads as put-hex-reads
+use Rattle.console_text.proofs.lines.put_hex.Reads as put-hex-reads
 
 slice-aggregate-put-hex : tie.Need-slice-aggregate-put-hex
 slice-aggregate-put-hex c = simp length-take (omega arith)

@@ -1,5 +1,5 @@
 use Rattle.reception.specs.Calls.{blockOf}
-use Rattle.reception.proofs.SignedLaws.{same}
+use Rattle.packet_loss.proofs.SignedLaws.{same}
 use borrow.Author.Needs.{needs}
 use Rattle.reception.proofs.calls.block_of.Statement.{statement}
 use Rattle.reception.proofs.calls.block_of.Tie as tie

@@ -1,6 +1,6 @@
 use mathlib.Core.Path.{ap, _∙_}
 use lib.IntN.{natAbs}
-use Rattle.reception.proofs.SignedLaws.{same}
+use Rattle.packet_loss.proofs.SignedLaws.{same}
 use Rattle.reception.specs.Jitter.{distance}
 use borrow.Author.Needs.{needs}
 use Rattle.reception.proofs.jitter.transit_distance.Statement.{statement}

@@ -2,7 +2,7 @@ use mathlib.Core.Path.{sym, subst}
 use mathlib.Core.List.{List}
 use Prim.Native.Nat.{ℕ}
 use denote.Ref.{now}
-use Rattle.payload.specs.Rows.{rowsIn}
+use Rattle.frame_rows.specs.Rows.{rowsIn}
 use Rattle.layout.specs.declared.buffer.Buffer.{Buffer}
 use Rattle.reorder.specs.declared.judging.Judged.{Judged}
 use Rattle.layout.specs.Layout.{assembled}
@@ -19,10 +19,7 @@ none-judged-requires : tie.Need-none-judged-requires
 none-judged-requires c κs = search needs
 
 judge-rows-requires : tie.Need-judge-rows-requires
-judge-rows-requires c κs =
-    let s = c .before .before .before .before .before .before .before .before .before .before .before .before .before .before in
-    let a = s .args in
-    subst (λ (j : Judged). RowsJudgeable (buffer-at s (j .occupied)) (now (a .packet)) (rowsIn (now (a .rows))) (j .tally) (now (a .store))) (sym (c .before .none-judged .ensures)) (s .pre)
+judge-rows-requires c κs = search needs
 
 same-length : tie.Need-same-length
 same-length c = search needs
@@ -31,8 +28,10 @@ returns : tie.Need-returns
 returns c =
     let s = c .before .before .before .before .before .before .before .before .before .before .before .before .before .before .before .before .before .before .before .before in
     let a = s .args in
-    rows-offer (buffer-at s) (a .buffer .occupied) _ (c .before .before .before .before .before .before .before .none-judged .ensures) _ (now (a .packet)) (rowsIn (now (a .rows))) _ (now (a .store)) _
-    (c .before .before .before .before .before .judge-rows .ensures)
+    let e = c .before .before .before .before .before .before .before .none-judged .ensures in
+    rows-offer (buffer-at s) (a .buffer .occupied) _ e _ (now (a .packet)) (rowsIn (now (a .rows))) _ (now (a .store)) _
+    (c .before .before .before .before .before .judge-rows .ensures
+    (subst (λ (j : Judged). RowsJudgeable (buffer-at s (j .occupied)) (now (a .packet)) (rowsIn (now (a .rows))) (j .tally) (now (a .store))) (sym e) (s .pre)))
 
 pub offer-rows-spec : {M : Type 1} → statement M
 offer-rows-spec =

@@ -6,8 +6,8 @@ use lib.ListN.{length}
 use denote.Ref.{now}
 use Rattle.rtp.specs.Sizes.{rowWidth}
 use Rattle.rtp.proofs.AreaLaws.{part-length}
-use Rattle.payload.specs.Rows.{rowsIn}
-use Rattle.payload.proofs.RowLaws.{rows-none}
+use Rattle.frame_rows.specs.Rows.{rowsIn}
+use Rattle.frame_rows.proofs.RowLaws.{rows-none}
 use Rattle.layout.specs.declared.buffer.Buffer.{Buffer}
 use Rattle.layout.specs.Layout.{assembled}
 use Rattle.reorder.proofs.RowStepLaws.{rows-over, rows-joined}
@@ -47,12 +47,12 @@ abbrev rows-at : (t : ℕ) → At judge-rows-lts.Start t → List ℕ
 rows-at t s = now (s .args .rows)
 
 judge-rows-returns : (t : ℕ) → At judge-rows-lts.Need-returns t
-judge-rows-returns t c =
+judge-rows-returns t c p =
     let s = c .before .before .before .before in
-    rows-over (buffer-at t s) (now (s .args .packet)) (s .args .sum .tally) (now (s .args .store)) (rowsIn (rows-at t s)) (s .pre .1) (rows-none (rows-at t s) (c .if1 .taken))
+    rows-over (buffer-at t s) (now (s .args .packet)) (s .args .sum .tally) (now (s .args .store)) (rowsIn (rows-at t s)) p (rows-none (rows-at t s) (c .if1 .taken))
 
 judge-rows-judge-row-requires : (t : ℕ) → At judge-rows-lts.Need-judge-row-requires t
-judge-rows-judge-row-requires t c κs = (c .before .before .before .before .before .if1 .left, c .before .before .before .before .before .before .before .before .before .pre .1)
+judge-rows-judge-row-requires t c κs = c .before .before .before .before .before .if1 .left
 
 judge-rows-sub-judge-rows : (t : ℕ) → At judge-rows-lts.Need-sub-judge-rows t
 judge-rows-sub-judge-rows t c = search needs
@@ -66,16 +66,17 @@ judge-rows-part-judge-rows-end t c = search needs
 judge-rows-judge-rows-requires : (t : ℕ) → At judge-rows-lts.Need-judge-rows-requires t
 judge-rows-judge-rows-requires t c κs =
     let s = c .before .before .before .before .before .before .before .before .before .before .before .before .before .before .before .before .before .before in
-    (omega (arith, s .pre .0, c .before .before .before .before .before .before .before .before .before .before .before .before .before .before .if1 .left, part-length (rows-at t s) (rows-at t s) rowWidth refl), c .before .before .before .before .before .before .before .before .judge-row .ensures .others)
+    omega (arith, s .pre, c .before .before .before .before .before .before .before .before .before .before .before .before .before .before .if1 .left, part-length (rows-at t s) (rows-at t s) rowWidth refl)
 
 judge-rows-same-length : (t : ℕ) → At judge-rows-lts.Need-same-length t
 judge-rows-same-length t c = search needs
 
 judge-rows-returns-2 : (t : ℕ) → At judge-rows-lts.Need-returns-2 t
-judge-rows-returns-2 t c =
+judge-rows-returns-2 t c p =
     let s = c .before .before .before .before .before .before .before .before .before .before .before .before .before .before .before .before .before .before .before .before .before in
+    let g = c .before .before .before .before .before .before .before .before .before .before .before .judge-row .ensures p in
     rows-joined (buffer-at t s) (now (s .args .packet)) (s .args .sum .tally) (now (s .args .store)) (rows-at t s) (c .before .before .before .before .before .before .before .before .before .before .before .before .before .before .before .before .before .if1 .left) _ _ _
-    (c .before .before .before .before .before .before .before .before .before .before .before .judge-row .ensures .all _ _ _ (c .before .before .judge-rows .ensures))
+    (g .all _ _ _ (c .before .before .judge-rows .ensures (g .others)))
 
 pub +judge-rows-spec : {M : Type 1} → statement M
 +judge-rows-spec = close μ-judge-rows λ t. judge-rows-lts.spec (callees t)

@@ -2,7 +2,7 @@ use mathlib.Core.Path.{ap}
 use mathlib.Core.List.{List}
 use Prim.Native.Nat.{ℕ}
 use borrow.Author.Needs.{needs}
-use Rattle.reorder.specs.declared.tally.Tally.{Tally}
+use Rattle.insertion.specs.declared.tally.Tally.{Tally}
 use Rattle.reorder.specs.declared.judging.Judged.{Judged}
 use Rattle.reorder.proofs.judging.none_judged.Statement.{statement}
 use Rattle.reorder.proofs.judging.none_judged.Tie as tie

@@ -1,17 +1,18 @@
 use mathlib.Core.Path.{_≡_, refl, ap, sym, _∙_, subst}
 use mathlib.Core.List.{List, _++_}
-use Prim.Native.Nat.{_-_, ℕ, _<_}
+use Prim.Native.Nat.{ℕ, _-_, _*_, _<_}
 use native.Mathlib.Omega.{arith}
-use lib.ListN.{take, drop, length-take, length-drop, length}
+use lib.ListN.{length, getD, take, drop, length-take, length-drop}
 use denote.Ref.{now}
+use Rattle.rtp.specs.Sizes.{rowWidth}
 use Rattle.rtp.specs.Areas.{over}
-use Rattle.rtp.proofs.AreaLaws.{over-part, part-length, part-to-end}
-use Rattle.encoder.specs.Writings.{measured}
-use Rattle.encoder.proofs.StoreLaws.{over-one}
-use Rattle.sender.specs.Packets.{blockHeaderBytes}
-use Rattle.sender.specs.Room.{offsetOf, listsHeaders, HeaderFits, HeadersFit}
-use Rattle.sender.proofs.WordLaws.{counted-rest}
-use Rattle.sender.proofs.ListsLaws.{headers-one, headers-more, fit-more}
+use Rattle.rtp.proofs.AreaLaws.{over-part, part-length, part-to-end, over-one}
+use Rattle.payload_sizes.specs.Measures.{measured}
+use Rattle.packet_parts.specs.Headings.{blockHeaderBytes}
+use Rattle.packet_parts.specs.ListSizes.{offsetOf}
+use Rattle.sender.specs.Room.{listsHeaders, HeaderFits, HeadersFit}
+use Rattle.packet_parts.proofs.WordLaws.{counted-rest, words-counted}
+use Rattle.sender.proofs.ListBytesLaws.{headers-one, headers-more, fit-more}
 use borrow.Author.Needs.{needs}
 use borrow.Fn.Kinds.{In, Out}
 use borrow.Fn.PlainCycle.{Measures, is, falls, and}
@@ -19,7 +20,7 @@ use Rattle.sender.proofs.packets.put_headers.Reads as put-headers
 use Rattle.sender.proofs.packets.put_headers.Kinds as put-headers-kinds
 use Rattle.sender.proofs.packets.+put_headers.Lts-put_headers as put-headers-lts
 use Rattle.sender.proofs.packets.put_list_header.Reads as put-list-header-reads
-use Rattle.sender.proofs.sizes.first_words.Reads as first-words-reads
+use Rattle.packet_parts.proofs.sizes.first_words.Reads as first-words-reads
 use Rattle.sender.proofs.packets.+put_headers.{statement}
 use Rattle.sender.proofs.packets.+put_headers.Tie.{close}
 
@@ -42,6 +43,10 @@ callees t = (first-words-reads.Asked, first-words-reads.Learnt, put-list-header-
 abbrev At : (put-headers-lts.Claims → In 3 put-headers-kinds.ps → Out 3 put-headers-kinds.ps put-headers-kinds.r → Type 0) → ℕ → Type 0
 At P t = P (callees t) (put-headers-at t) put-headers.Post
 
+-- the words of the first list
+words-at : (t : ℕ) (c : At put-headers-lts.After-first-words t) → c .first-words .result ≡ rowWidth * getD (now (c .before .before .before .before .before .args .counts)) 0 0
+words-at t c = let s = c .before .before .before .before .before in c .first-words .ensures .0 ∙ words-counted (now (s .args .counts)) (now (s .args .rows)) (s .pre .1 .some) (s .pre .1 .counted)
+
 -- the first list's header and the others'
 abbrev first : (t : ℕ) → At put-headers-lts.After-first-words t → List ℕ
 first t c = let a = c .before .before .before .before .before .args in let ws = take (c .first-words .result) (now (a .rows)) in blockHeaderBytes (a .asked .«payload_type») (offsetOf (a .time) ws) (measured (a .asked) ws .count)
@@ -52,12 +57,12 @@ others t c = let a = c .before .before .before .before .before .args in listsHea
 more-at : (t : ℕ) (c : At put-headers-lts.After-first-words t) → let a = c .before .before .before .before .before .args in listsHeaders (a .asked) (a .time) (now (a .counts)) (now (a .rows)) ≡ first t c ++ others t c
 more-at t c = let a = c .before .before .before .before .before .args in
     subst (λ (n : ℕ). listsHeaders (a .asked) (a .time) (now (a .counts)) (now (a .rows)) ≡ blockHeaderBytes (a .asked .«payload_type») (offsetOf (a .time) (take n (now (a .rows)))) (measured (a .asked) (take n (now (a .rows))) .count) ++ listsHeaders (a .asked) (a .time) (drop 1 (now (a .counts))) (drop n (now (a .rows))))
-    (sym (c .first-words .ensures .0)) (headers-more (a .asked) (a .time) (now (a .counts)) (now (a .rows)) (c .before .if1 .left))
+    (sym (words-at t c)) (headers-more (a .asked) (a .time) (now (a .counts)) (now (a .rows)) (c .before .if1 .left))
 
 fit-at : (t : ℕ) (c : At put-headers-lts.After-first-words t) → let a = c .before .before .before .before .before .args in let n = c .first-words .result in HeaderFits (a .asked) (a .time) (take n (now (a .rows))) × HeadersFit (a .asked) (a .time) (drop 1 (now (a .counts))) (drop n (now (a .rows)))
 fit-at t c = let a = c .before .before .before .before .before .args in
     subst (λ (n : ℕ). HeaderFits (a .asked) (a .time) (take n (now (a .rows))) × HeadersFit (a .asked) (a .time) (drop 1 (now (a .counts))) (drop n (now (a .rows))))
-    (sym (c .first-words .ensures .0)) (fit-more (a .asked) (a .time) (now (a .counts)) (now (a .rows)) (c .before .if1 .left) (c .before .before .before .before .before .pre .1 .fit))
+    (sym (words-at t c)) (fit-more (a .asked) (a .time) (now (a .counts)) (now (a .rows)) (c .before .if1 .left) (c .before .before .before .before .before .pre .1 .fit))
 
 put-headers-slice-write-out : (t : ℕ) → At put-headers-lts.Need-slice-write-out t
 put-headers-slice-write-out t c = search needs
@@ -111,7 +116,7 @@ put-headers-put-headers-requires : (t : ℕ) → At put-headers-lts.Need-put-hea
 put-headers-put-headers-requires t c κs = let a = c .before .before .before .before .before .before .before .before .before .before .before .before .before .args in (
   rw (part-to-end 1 (now (a .counts)), length-drop) (omega (arith, c .before .before .before .before .before .before .before .before .before .before .before .before .before .pre .0, c .before .before .before .before .before .before .before .before .before .if1 .left)),
   rw (part-to-end 1 (now (a .counts)), part-to-end (c .before .before .before .before .before .before .before .before .first-words .result) (now (a .rows)), part-length (c .before .before .before .before .before .put-list-header .last .1 .1 .1 .0) (now (a .out)) 4 (c .before .before .before .before .before .put-list-header .kept .1 .1 .1 .0)) (record {
-    counted = counted-rest (now (a .counts)) (now (a .rows)) (omega (arith, c .before .before .before .before .before .before .before .before .before .if1 .left)) (c .before .before .before .before .before .before .before .before .before .before .before .before .before .pre .1 .counted) _ (c .before .before .before .before .before .before .before .before .first-words .ensures .0);
+    counted = counted-rest (now (a .counts)) (now (a .rows)) (omega (arith, c .before .before .before .before .before .before .before .before .before .if1 .left)) (c .before .before .before .before .before .before .before .before .before .before .before .before .before .pre .1 .counted) _ (words-at t (c .before .before .before .before .before .before .before .before));
     some = rw length-drop (omega (arith, c .before .before .before .before .before .before .before .before .before .if1 .left));
     fit = fit-at t (c .before .before .before .before .before .before .before .before) .1;
     room = rw length-drop (omega (arith, c .before .before .before .before .before .before .before .before .before .before .before .before .before .pre .1 .room, c .before .before .before .before .before .before .before .before .before .if1 .left));

@@ -1,13 +1,15 @@
-use Prim.Native.Nat.{_≤_, _-_, ℕ, _<_}
-use mathlib.Core.Path.{ap, sym, _∙_}
+use Prim.Native.Nat.{ℕ, _-_, _*_, _≤_, _<_}
+use mathlib.Core.Path.{_≡_, ap, sym, _∙_}
 use mathlib.Core.List.{List}
 use native.Mathlib.Omega.{arith}
-use lib.ListN.{take, drop, length-take, length-drop, length}
+use lib.ListN.{length, getD, take, drop, length-take, length-drop}
 use denote.Ref.{now}
+use Rattle.rtp.specs.Sizes.{rowWidth}
 use Rattle.rtp.specs.Areas.{over}
 use Rattle.rtp.proofs.AreaLaws.{over-part, part-length, part-to-end}
+use Rattle.packet_parts.proofs.WordLaws.{words-counted}
 use Rattle.sender.specs.Room.{listBytes, listsPayloads, ListRoom}
-use Rattle.sender.proofs.ListsLaws.{payloads-one}
+use Rattle.sender.proofs.ListBytesLaws.{payloads-one}
 use Rattle.sender.proofs.PutLaws.{room-one, room-first, room-rest, payloads-split}
 use borrow.Author.Needs.{needs}
 use borrow.Fn.Kinds.{In, Out}
@@ -16,7 +18,7 @@ use Rattle.sender.proofs.packets.put_payloads.Reads as put-payloads
 use Rattle.sender.proofs.packets.put_payloads.Kinds as put-payloads-kinds
 use Rattle.sender.proofs.packets.+put_payloads.Lts-put_payloads as put-payloads-lts
 use Rattle.sender.proofs.packets.put_list.Reads as put-list-reads
-use Rattle.sender.proofs.sizes.first_words.Reads as first-words-reads
+use Rattle.packet_parts.proofs.sizes.first_words.Reads as first-words-reads
 use Rattle.sender.proofs.packets.+put_payloads.{statement}
 use Rattle.sender.proofs.packets.+put_payloads.Tie.{close}
 
@@ -43,8 +45,12 @@ callees t = (put-list-reads.Asked, put-list-reads.Learnt, first-words-reads.Aske
 abbrev At : (put-payloads-lts.Claims → In 4 put-payloads-kinds.ps → Out 4 put-payloads-kinds.ps put-payloads-kinds.r → Type 0) → ℕ → Type 0
 At P t = P (callees t) (put-payloads-at t) put-payloads.Post
 
+-- the words of the first list
+words-at : (t : ℕ) (c : At put-payloads-lts.After-first-words t) → c .first-words .result ≡ rowWidth * getD (now (c .before .before .before .before .before .before .args .counts)) 0 0
+words-at t c = let s = c .before .before .before .before .before .before in c .first-words .ensures .0 ∙ words-counted (now (s .args .counts)) (now (s .args .rows)) (omega (arith, c .before .if1 .left)) (s .pre .1 .counted)
+
 first-at : (t : ℕ) (c : At put-payloads-lts.After-first-words t) → let a = c .before .before .before .before .before .before .args in ListRoom (a .asked) (a .mode-request) (now (a .bytes)) (take (c .first-words .result) (now (a .rows))) (length (now (a .out)))
-first-at t c = let a = c .before .before .before .before .before .before .args in room-first (a .asked) (a .mode-request) (now (a .bytes)) (now (a .counts)) (now (a .rows)) (length (now (a .out))) (c .before .before .before .before .before .before .pre .1) (c .before .if1 .left) (c .first-words .result) (c .first-words .ensures .0)
+first-at t c = let a = c .before .before .before .before .before .before .args in room-first (a .asked) (a .mode-request) (now (a .bytes)) (now (a .counts)) (now (a .rows)) (length (now (a .out))) (c .before .before .before .before .before .before .pre .1) (c .before .if1 .left) (c .first-words .result) (words-at t c)
 
 -- the first payload's place
 size-at : (t : ℕ) (c : At put-payloads-lts.After-put-list2 t) → c .put-list2 .result ≤ length (c .put-list2 .last .1 .1 .1 .1 .0)
@@ -102,7 +108,7 @@ put-payloads-put-payloads-requires : (t : ℕ) → At put-payloads-lts.Need-put-
 put-payloads-put-payloads-requires t c κs = let a = c .before .before .before .before .before .before .before .before .before .before .before .before .before .before .args in (
   rw (part-to-end 1 (now (a .counts)), length-drop) (omega (arith, c .before .before .before .before .before .before .before .before .before .before .before .before .before .before .pre .0, c .before .before .before .before .before .before .before .before .before .if1 .left)),
   rw (part-to-end 1 (now (a .counts)), part-to-end (c .before .before .before .before .before .before .before .before .first-words .result) (now (a .rows)), part-length (c .before .before .before .before .before .put-list2 .last .1 .1 .1 .1 .0) (now (a .out)) (c .before .before .before .before .before .put-list2 .result) (c .before .before .before .before .before .put-list2 .kept .1 .1 .1 .1 .0))
-      (room-rest (a .asked) (a .mode-request) (now (a .bytes)) (now (a .counts)) (now (a .rows)) (length (now (a .out))) (c .before .before .before .before .before .before .before .before .before .before .before .before .before .before .pre .1) (c .before .before .before .before .before .before .before .before .before .if1 .left) (c .before .before .before .before .before .before .before .before .first-words .result) (c .before .before .before .before .before .before .before .before .first-words .ensures .0) _ (c .before .before .before .before .before .put-list2 .ensures .0)),
+      (room-rest (a .asked) (a .mode-request) (now (a .bytes)) (now (a .counts)) (now (a .rows)) (length (now (a .out))) (c .before .before .before .before .before .before .before .before .before .before .before .before .before .before .pre .1) (c .before .before .before .before .before .before .before .before .before .if1 .left) (c .before .before .before .before .before .before .before .before .first-words .result) (words-at t (c .before .before .before .before .before .before .before .before)) _ (c .before .before .before .before .before .put-list2 .ensures .0)),
 )
 
 put-payloads-same-length-2 : (t : ℕ) → At put-payloads-lts.Need-same-length-2 t
@@ -113,7 +119,7 @@ put-payloads-returns-2 t c = let a = c .before .before .before .before .before .
     let n = c .before .before .before .before .before .before .before .before .before .before .before .first-words .result in
     over-part (listBytes (a .asked) (a .mode-request) (now (a .bytes)) (take n (now (a .rows)))) (listsPayloads (a .asked) (a .mode-request) (now (a .bytes)) (drop 1 (now (a .counts))) (drop n (now (a .rows)))) (now (a .out)) (c .before .before .before .before .before .before .before .before .put-list2 .last .1 .1 .1 .1 .0) _ (c .before .before .before .before .before .before .before .before .put-list2 .result) (sym (c .before .before .before .before .before .before .before .before .put-list2 .ensures .0)) (c .before .before .before .before .before .before .before .before .put-list2 .ensures .1)
     (c .before .before .put-payloads .ensures ∙ rw (part-to-end 1 (now (a .counts)), part-to-end n (now (a .rows))))
-    ∙ ap (λ (x : List ℕ). over x (now (a .out))) (sym (payloads-split (a .asked) (a .mode-request) (now (a .bytes)) (now (a .counts)) (now (a .rows)) (length (now (a .out))) (c .before .before .before .before .before .before .before .before .before .before .before .before .before .before .before .before .before .pre .1) (c .before .before .before .before .before .before .before .before .before .before .before .before .if1 .left) n (c .before .before .before .before .before .before .before .before .before .before .before .first-words .ensures .0)))
+    ∙ ap (λ (x : List ℕ). over x (now (a .out))) (sym (payloads-split (a .asked) (a .mode-request) (now (a .bytes)) (now (a .counts)) (now (a .rows)) (length (now (a .out))) (c .before .before .before .before .before .before .before .before .before .before .before .before .before .before .before .before .before .pre .1) (c .before .before .before .before .before .before .before .before .before .before .before .before .if1 .left) n (words-at t (c .before .before .before .before .before .before .before .before .before .before .before))))
 
 pub +put-payloads-spec : {M : Type 1} → statement M
 +put-payloads-spec = close μ-put-payloads λ t. put-payloads-lts.spec (callees t)

@@ -2,7 +2,7 @@ use lib.ListN.{length}
 use denote.Ref.{now}
 use Rattle.rtp.proofs.AreaLaws.{over-part}
 use Rattle.sender.specs.Room.{listsHeaders, listsPayloads, listHeadersSize}
-use Rattle.sender.proofs.ListsLaws.{length-headers}
+use Rattle.sender.proofs.ListBytesLaws.{length-headers}
 use borrow.Author.Needs.{needs}
 use Rattle.sender.proofs.packets.put_blocks.Statement.{statement}
 use Rattle.sender.proofs.packets.put_blocks.Tie as tie

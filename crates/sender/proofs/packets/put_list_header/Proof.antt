@@ -1,4 +1,5 @@
 use mathlib.Core.Path.{_∙_}
+use Rattle.packet_parts.proofs.HeadingLaws.{block-in}
 use borrow.Author.Needs.{needs}
 use Rattle.sender.proofs.packets.put_list_header.Statement.{statement}
 use Rattle.sender.proofs.packets.put_list_header.Tie as tie
@@ -16,7 +17,11 @@ same-length : tie.Need-same-length
 same-length c = search needs
 
 returns : tie.Need-returns
-returns c = c .before .before .put-block-header .ensures ∙ rw (c .before .before .before .before .before .offset-of .ensures, c .before .before .before .before .list-size .ensures)
+returns c =
+    let s = c .before .before .before .before .before .before .before .before in
+    c .before .before .put-block-header .ensures
+    ∙ rw (c .before .before .before .before .before .offset-of .ensures, c .before .before .before .before .list-size .ensures)
+    (block-in _ _ _ _ (s .pre .0 .type) (s .pre .0 .near) (s .pre .0 .short) (s .pre .1))
 
 pub put-list-header-spec : {M : Type 1} → statement M
 put-list-header-spec =

@@ -7,12 +7,14 @@ use denote.Ref.{now}
 use Rattle.rtp.specs.Sizes.{minPacket}
 use Rattle.rtp.specs.Areas.{over}
 use Rattle.rtp.proofs.AreaLaws.{over-part, part-length}
-use Rattle.payload.specs.Rows.{rowsIn}
-use Rattle.sender.specs.Parts.{parts}
-use Rattle.sender.specs.Packets.{Heading, headerBytes, assembledFrom}
+use Rattle.frame_rows.specs.Rows.{rowsIn}
+use Rattle.packet_parts.specs.Parts.{parts}
+use Rattle.packet_parts.specs.Headings.{Heading, headerBytes}
+use Rattle.sender.specs.Packets.{assembledFrom}
 use Rattle.sender.specs.Room.{listsHeaders, listsPayloads}
 use Rattle.rtp.proofs.RangeLaws.{ranged}
-use Rattle.encoder.proofs.RequestLaws.{asked}
+use Rattle.payload_sizes.proofs.RequestLaws.{asked}
+use Rattle.packet_parts.proofs.HeadingLaws.{header-in}
 use Rattle.sender.proofs.SendingLaws.{Plain, plain-packet, Redundant, redundant-packet}
 use borrow.Author.Needs.{needs}
 use Rattle.sender.proofs.packets.put_packet.Statement.{statement}
@@ -28,7 +30,7 @@ redundant-at : (c : tie.Else1) → let a = c .before .before .before .before .be
 redundant-at c = let a = c .before .before .before .before .before .args in redundant-packet (a .asked) (a .mode-request) (heading (c .before .before .before .before .before)) (a .time) (now (a .bytes)) (now (a .counts)) (now (a .rows)) (length (now (a .out))) (c .before .before .before .before .before .pre) (c .if1 .left)
 
 put-header-requires : tie.Need-put-header-requires
-put-header-requires c κs = let a = c .before .before .before .before .before .before .args in (plain-at (c .before) .room, ranged (a .asked) (asked (a .asked) (a .mode-request) (c .before .before .before .before .before .before .pre .settings) .settings) .plain)
+put-header-requires c κs = search needs
 
 sub-put-payloads : tie.Need-sub-put-payloads
 sub-put-payloads c = omega (arith, plain-at (c .before .before .before .before) .room, c .before .before .put-header .kept .0)
@@ -47,11 +49,13 @@ same-length c = search needs
 
 returns : tie.Need-returns
 returns c = let a = c .before .before .before .before .before .before .before .before .before .before .before .before .before .args in
-    over-part (headerBytes (heading (c .before .before .before .before .before .before .before .before .before .before .before .before .before)) (a .asked .«payload_type») (a .time)) (listsPayloads (a .asked) (a .mode-request) (now (a .bytes)) (now (a .counts)) (now (a .rows))) (now (a .out)) (c .before .before .before .before .before .before .put-header .last .0) _ minPacket refl (c .before .before .before .before .before .before .put-header .ensures) (c .before .before .put-payloads .ensures)
+    over-part (headerBytes (heading (c .before .before .before .before .before .before .before .before .before .before .before .before .before)) (a .asked .«payload_type») (a .time)) (listsPayloads (a .asked) (a .mode-request) (now (a .bytes)) (now (a .counts)) (now (a .rows))) (now (a .out)) (c .before .before .before .before .before .before .put-header .last .0) _ minPacket refl
+    (c .before .before .before .before .before .before .put-header .ensures ∙ header-in (heading (c .before .before .before .before .before .before .before .before .before .before .before .before .before)) (a .asked .«payload_type») (a .time) (now (a .out)) (ranged (a .asked) (asked (a .asked) (a .mode-request) (c .before .before .before .before .before .before .before .before .before .before .before .before .before .pre .settings) .settings) .plain) (plain-at (c .before .before .before .before .before .before .before .before) .room))
+    (c .before .before .put-payloads .ensures)
     ∙ ap (λ (x : List ℕ). over x (now (a .out))) (sym (plain-at (c .before .before .before .before .before .before .before .before) .packet))
 
 put-header-requires-2 : tie.Need-put-header-requires-2
-put-header-requires-2 c κs = (redundant-at (c .before) .room, redundant-at (c .before) .type)
+put-header-requires-2 c κs = search needs
 
 sub-put-blocks : tie.Need-sub-put-blocks
 sub-put-blocks c = omega (arith, redundant-at (c .before .before .before .before) .room, c .before .before .put-header2 .kept .0)
@@ -70,7 +74,9 @@ same-length-2 c = search needs
 
 returns-2 : tie.Need-returns-2
 returns-2 c = let a = c .before .before .before .before .before .before .before .before .before .before .before .before .before .args in
-    over-part (headerBytes (heading (c .before .before .before .before .before .before .before .before .before .before .before .before .before)) (a .asked .«redundancy_type») (a .time)) (listsHeaders (a .asked) (a .time) (now (a .counts)) (now (a .rows)) ++ listsPayloads (a .asked) (a .mode-request) (now (a .bytes)) (now (a .counts)) (now (a .rows))) (now (a .out)) (c .before .before .before .before .before .before .put-header2 .last .0) _ minPacket refl (c .before .before .before .before .before .before .put-header2 .ensures) (c .before .before .put-blocks .ensures)
+    over-part (headerBytes (heading (c .before .before .before .before .before .before .before .before .before .before .before .before .before)) (a .asked .«redundancy_type») (a .time)) (listsHeaders (a .asked) (a .time) (now (a .counts)) (now (a .rows)) ++ listsPayloads (a .asked) (a .mode-request) (now (a .bytes)) (now (a .counts)) (now (a .rows))) (now (a .out)) (c .before .before .before .before .before .before .put-header2 .last .0) _ minPacket refl
+    (c .before .before .before .before .before .before .put-header2 .ensures ∙ header-in (heading (c .before .before .before .before .before .before .before .before .before .before .before .before .before)) (a .asked .«redundancy_type») (a .time) (now (a .out)) (redundant-at (c .before .before .before .before .before .before .before .before) .type) (redundant-at (c .before .before .before .before .before .before .before .before) .room))
+    (c .before .before .put-blocks .ensures)
     ∙ ap (λ (x : List ℕ). over x (now (a .out))) (sym (redundant-at (c .before .before .before .before .before .before .before .before) .packet))
 
 pub put-packet-spec : {M : Type 1} → statement M

@@ -3,14 +3,17 @@ use mathlib.Core.Bool.{true, false}
 use lib.ListN.{length}
 use denote.Ref.{now}
 use Rattle.rtp.specs.Areas.{over}
-use Rattle.payload.specs.Rows.{rowsIn}
+use Rattle.frame_rows.specs.Rows.{rowsIn}
 use Rattle.plans.specs.Lists.{outside}
-use Rattle.encoder.specs.Writings.{Encoded, askable, roomFor, writtenNumbers, encodedNumbers, encodedBytes}
-use Rattle.encoder.proofs.RequestLaws.{asked}
+use Rattle.encoder.specs.Writings.{Encoded, roomFor, encodedNumbers, encodedBytes}
+use Rattle.payload_sizes.specs.Measures.{writtenNumbers}
+use Rattle.payload_sizes.specs.Asking.{askable}
+use Rattle.payload_sizes.proofs.RequestLaws.{asked}
 use Rattle.encoder.proofs.WritingLaws.{refused-pair}
-use Rattle.sender.specs.Parts.{parts}
-use Rattle.sender.specs.Packets.{Heading, assembledFrom, countsFit, sending}
-use Rattle.sender.proofs.ListsLaws.{told-none, told-bytes}
+use Rattle.packet_parts.specs.Parts.{parts, countsFit}
+use Rattle.packet_parts.specs.Headings.{Heading}
+use Rattle.sender.specs.Packets.{assembledFrom, sending}
+use Rattle.packet_parts.proofs.ListsLaws.{told-none, told-bytes, size-few}
 use Rattle.sender.proofs.ListPartLaws.{agrees}
 use Rattle.sender.proofs.SendingLaws.{assembled-numbers, Fitting, fitting, sending-out, sending-outside, sending-unfit, sending-fit, refused-packet, packet-short, packet-fits, packet-room}
 use borrow.Author.Needs.{needs}
@@ -46,6 +49,7 @@ numbers-at c =
     let t = c .before .primary-time .result in
     let f = fits-at (c .before .before) in
     c .packet-size .ensures
+    ∙ size-few (a .asked) t (now (a .counts)) (now (a .rows)) (f .few)
     ∙ sym (assembled-numbers (a .asked) (a .mode-request) (heading (c .before .before .before .before .before .before .before .before .before .before .before .before)) t (now (a .bytes)) (now (a .counts)) (now (a .rows)) (parts (a .asked) (a .mode-request) (now (a .bytes)) t (now (a .counts)) (rowsIn (now (a .rows))))
     (agrees (a .asked) (a .mode-request) (now (a .bytes)) t (asked (a .asked) (a .mode-request) (range-at (c .before .before .before .before .before .before)) .settings) (now (a .counts)) (now (a .rows)) (f .some) (f .counted) (inside-at (c .before .before .before .before))))
 
@@ -65,10 +69,10 @@ counts-fit-requires : tie.Need-counts-fit-requires
 counts-fit-requires c κs = search needs
 
 primary-time-requires : tie.Need-primary-time-requires
-primary-time-requires c κs = (fits-at c .some, fits-at c .counted)
+primary-time-requires c κs = search needs
 
 packet-size-requires : tie.Need-packet-size-requires
-packet-size-requires c κs = (fits-at (c .before) .few, fits-at (c .before) .counted)
+packet-size-requires c κs = search needs
 
 enum-told : tie.Need-enum-told
 enum-told c = search needs

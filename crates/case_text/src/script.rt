@@ -1,0 +1,135 @@
+// The lines of a text.
+use libc::STDIN_FILENO;
+use libc::STDOUT_FILENO;
+
+// The room for a line. What is longer goes on as a line of its own.
+pub const LINE: usize = 512;
+
+pub(crate) const NEWLINE: u8 = 10;
+
+pub(crate) const SPACE: u8 = 32;
+
+const HASH: u8 = 35;
+
+// The next byte of the input, 0 at its end.
+fn next_byte() -> u8 {
+    let mut one = [0u8; 1];
+    if io::read_full(STDIN_FILENO, &mut one) == 0 {
+        return 0;
+    }
+    one[0]
+}
+
+fn blank() -> [u8; LINE] {
+    [0; LINE]
+}
+
+// The next line with its end, and zeros; zeros alone at the end of the input.
+pub fn next() -> [u8; LINE] {
+    let mut line = blank();
+    let mut i = 0;
+    while i < LINE {
+        let byte = next_byte();
+        line[i] = byte;
+        if byte <= NEWLINE {
+            break;
+        }
+        i += 1;
+    }
+    line
+}
+
+// The byte at a place, 0 past the room.
+pub(crate) fn byte(line: &[u8; LINE], i: usize) -> u8 {
+    if i < LINE { line[i] } else { 0 }
+}
+
+// Whether the input had a line.
+pub fn is_line(line: &[u8; LINE]) -> bool {
+    0 < byte(line, 0)
+}
+
+// Whether a line is blank or a comment.
+pub fn is_comment(line: &[u8; LINE]) -> bool {
+    let first = byte(line, 0);
+    first <= NEWLINE || first == HASH
+}
+
+// Whether a line's first word is this one.
+pub fn first_is(line: &[u8; LINE], word: &[u8]) -> bool {
+    let mut i = 0;
+    while i < word.len() {
+        if byte(line, i) != word[i] {
+            return false;
+        }
+        i += 1;
+    }
+    byte(line, i) <= SPACE
+}
+
+// How many words a line has after its first.
+pub fn count(line: &[u8; LINE]) -> usize {
+    let mut n = 0;
+    let mut i = 0;
+    while i < LINE {
+        if line[i] == SPACE {
+            n = std::num::wrapping_add_usize(n, 1);
+        }
+        i += 1;
+    }
+    n
+}
+
+// Whether a line's first word is this one, with so many after it.
+pub fn has(line: &[u8; LINE], word: &[u8], words: usize) -> bool {
+    if first_is(line, word) {
+        return count(line) == words;
+    }
+    false
+}
+
+// Where the word after the k-th space starts; the end of the room if there are fewer.
+pub(crate) fn place(line: &[u8; LINE], k: usize) -> usize {
+    let mut left = k;
+    let mut i = 0;
+    while i < LINE {
+        if left == 0 {
+            break;
+        }
+        if line[i] == SPACE {
+            left -= 1;
+        }
+        i += 1;
+    }
+    i
+}
+
+fn print_byte(byte: u8) {
+    io::write_all(STDOUT_FILENO, &[byte]);
+}
+
+// Prints the words after the k-th space, and the line's end.
+fn print(line: &[u8; LINE], k: usize) {
+    let mut i = place(line, k);
+    while i < LINE {
+        print_byte(line[i]);
+        if line[i] <= NEWLINE {
+            break;
+        }
+        i += 1;
+    }
+}
+
+pub fn malformed(line: &[u8; LINE]) {
+    io::write_all(STDOUT_FILENO, b"malformed: ");
+    print(line, 0);
+}
+
+// Prints all words after the first.
+pub fn print_label(line: &[u8; LINE]) {
+    if count(line) == 0 {
+        malformed(line);
+    } else {
+        print(line, 1);
+    }
+}

@@ -1,0 +1,2 @@
+// The mode request of a packet.
+pub mod requests;

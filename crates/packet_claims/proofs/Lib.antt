@@ -1,0 +1,3 @@
+pub mod CheckedTableProof
+pub mod CheckedPlacesProof
+pub mod PlaceTheorem

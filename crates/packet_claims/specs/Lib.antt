@@ -1,0 +1,2 @@
+pub mod CheckedTable
+pub mod Places

@@ -1,0 +1,3 @@
+pub mod WellFormedTheorem
+pub mod RangeTheorem
+pub mod RowTheorem

@@ -1,0 +1,4 @@
+pub mod AnswerLaws
+pub mod BlockLaws
+pub mod SplitLaws
+pub mod AskedLaws

@@ -1,0 +1,2 @@
+// Redundancy payloads (RFC 2198): read into frame rows.
+pub mod blocks;

@@ -1,0 +1,3 @@
+pub mod HeaderLaws
+pub mod RedundancyLaws
+pub mod NumberLaws

@@ -1,0 +1,56 @@
+-- Laws of the headers and the payloads of a packet's lists: of one list, and of a first list and the others.
+use mathlib.Core.Path.{_≡_, refl}
+use mathlib.Core.List.{List, [], _∷_, _++_}
+use Prim.Native.Nat.{ℕ, _*_, _≤_, _<_}
+use native.Mathlib.Omega.{arith}
+use lib.ListN.{length, getD, take, drop}
+use Rattle.rtp.specs.Sizes.{rowWidth}
+use Rattle.rtp.specs.declared.settings.Settings.{Settings}
+use Rattle.payload_sizes.specs.Measures.{measured}
+use Rattle.packet_parts.specs.Headings.{blockHeaderBytes}
+use Rattle.packet_parts.specs.ListSizes.{offsetOf}
+use Rattle.sender.specs.Room.{listsHeaders, HeaderFits, HeadersFit, listBytes, listsPayloads, listHeadersSize}
+
+module _ (st : Settings) (time : ℕ) where
+  -- The headers
+
+  pub headers-one : (counts ws : List ℕ) → length counts < 2 → listsHeaders st time counts ws ≡ st .«payload_type» ∷ []
+  unfolding listsHeaders
+  headers-one [] ws h = refl
+  headers-one (n ∷ []) ws h = refl
+  headers-one (n ∷ m ∷ ns) ws h = absurd (omega arith)
+
+  pub headers-more : (counts ws : List ℕ) → 2 ≤ length counts → let n = rowWidth * getD counts 0 0 in
+      listsHeaders st time counts ws ≡ blockHeaderBytes (st .«payload_type») (offsetOf time (take n ws)) (measured st (take n ws) .count) ++ listsHeaders st time (drop 1 counts) (drop n ws)
+  unfolding listsHeaders
+  headers-more [] ws h = absurd (omega arith)
+  headers-more (n ∷ []) ws h = absurd (omega arith)
+  headers-more (n ∷ m ∷ ns) ws h = refl
+
+  pub length-headers : (counts ws : List ℕ) → length (listsHeaders st time counts ws) ≡ listHeadersSize (length counts)
+  unfolding listsHeaders
+  length-headers [] ws = refl
+  length-headers (n ∷ []) ws = refl
+  length-headers (n ∷ m ∷ ns) ws = omega (arith, length-headers (m ∷ ns) (drop (rowWidth * n) ws))
+
+  pub fit-more : (counts ws : List ℕ) → 2 ≤ length counts → HeadersFit st time counts ws
+      → let n = rowWidth * getD counts 0 0 in HeaderFits st time (take n ws) × HeadersFit st time (drop 1 counts) (drop n ws)
+  fit-more [] ws h f = absurd (omega arith)
+  fit-more (n ∷ []) ws h f = absurd (omega arith)
+  fit-more (n ∷ m ∷ ns) ws h f = f
+
+-- The payloads
+
+module _ (st : Settings) (request : ℕ) (bytes : List ℕ) where
+  pub payloads-one : (counts ws : List ℕ) → length counts < 2 → listsPayloads st request bytes counts ws ≡ listBytes st request bytes ws
+  unfolding listsPayloads
+  payloads-one [] ws h = refl
+  payloads-one (n ∷ []) ws h = refl
+  payloads-one (n ∷ m ∷ ns) ws h = absurd (omega arith)
+
+  pub payloads-more : (counts ws : List ℕ) → 2 ≤ length counts → let n = rowWidth * getD counts 0 0 in
+      listsPayloads st request bytes counts ws ≡ listBytes st request bytes (take n ws) ++ listsPayloads st request bytes (drop 1 counts) (drop n ws)
+  unfolding listsPayloads
+  payloads-more [] ws h = absurd (omega arith)
+  payloads-more (n ∷ []) ws h = absurd (omega arith)
+  payloads-more (n ∷ m ∷ ns) ws h = refl

@@ -1,0 +1,2 @@
+// The marks of occupied slots: which are free, and how many are held.
+pub mod bits;

@@ -1,0 +1,2 @@
+// A row's second word.
+pub mod tagging;
