@@ -108,14 +108,14 @@ fn print_byte(byte: u8) {
     io::write_all(STDOUT_FILENO, &[byte]);
 }
 
-// Prints the words after the k-th space, and the line's end.
+// Prints the words after the k-th space.
 fn print(line: &[u8; LINE], k: usize) {
     let mut i = place(line, k);
     while i < LINE {
-        print_byte(line[i]);
         if line[i] <= NEWLINE {
             break;
         }
+        print_byte(line[i]);
         i += 1;
     }
 }
@@ -123,13 +123,20 @@ fn print(line: &[u8; LINE], k: usize) {
 pub fn malformed(line: &[u8; LINE]) {
     io::write_all(STDOUT_FILENO, b"malformed: ");
     print(line, 0);
+    print_byte(NEWLINE);
 }
 
 // Prints all words after the first.
-pub fn print_label(line: &[u8; LINE]) {
+pub fn print_words(line: &[u8; LINE]) {
     if count(line) == 0 {
         malformed(line);
     } else {
         print(line, 1);
     }
+}
+
+// The same and the end of the line.
+pub fn print_label(line: &[u8; LINE]) {
+    print_words(line);
+    print_byte(NEWLINE);
 }
