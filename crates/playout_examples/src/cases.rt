@@ -82,11 +82,11 @@ fn run(case: Case, line: &[u8; LINE], bytes: &[u8], store: &mut [u8; STORE_SIZE]
     if script::has(line, b"settings", 4) {
         return agree(line);
     }
-    if script::first_is(line, b"offer") {
+    if script::has_from(line, b"offer", 1) {
         script::print_words(line);
         return example::offer_part(case.buffer, store, bytes, case.size);
     }
-    if script::first_is(line, b"offer_blocks") {
+    if script::has_from(line, b"offer_blocks", 1) {
         return offer_all(case.buffer, store, case.base, line);
     }
     if script::has(line, b"draw", 0) {
@@ -109,20 +109,20 @@ pub(crate) fn follow(
     if script::is_comment(line) {
         return case;
     }
-    if script::first_is(line, b"case") {
+    if script::has_from(line, b"case", 1) {
         script::print_label(line);
         return case;
     }
     if script::has(line, b"base", 1) {
         return with_base(case, values::number(line, 1));
     }
-    if script::first_is(line, b"packet") {
+    if script::has_from(line, b"packet", 1) {
         return with_size(case, values::put_bytes(line, 1, bytes, 0));
     }
-    if script::first_is(line, b"bytes") {
+    if script::has_from(line, b"bytes", 1) {
         return with_size(case, values::put_bytes(line, 1, bytes, case.size));
     }
-    if script::first_is(line, b"text") {
+    if script::has_from(line, b"text", 1) {
         return with_size(case, values::put_text(line, 1, bytes, case.size));
     }
     with_buffer(case, run(case, line, bytes, store))
