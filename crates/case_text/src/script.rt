@@ -56,7 +56,7 @@ pub fn is_comment(line: &[u8; LINE]) -> bool {
 }
 
 // Whether a line's first word is this one.
-pub fn first_is(line: &[u8; LINE], word: &[u8]) -> bool {
+fn first_is(line: &[u8; LINE], word: &[u8]) -> bool {
     let mut i = 0;
     while i < word.len() {
         if byte(line, i) != word[i] {
@@ -80,7 +80,15 @@ pub fn count(line: &[u8; LINE]) -> usize {
     n
 }
 
-// Whether a line's first word is this one, with so many after it.
+// Whether a line's first word is this one, with so many after it or more.
+pub fn has_from(line: &[u8; LINE], word: &[u8], words: usize) -> bool {
+    if first_is(line, word) {
+        return words <= count(line);
+    }
+    false
+}
+
+// Whether a line's first word is this one, with so many after it and no more.
 pub fn has(line: &[u8; LINE], word: &[u8], words: usize) -> bool {
     if first_is(line, word) {
         return count(line) == words;
@@ -108,14 +116,14 @@ fn print_byte(byte: u8) {
     io::write_all(STDOUT_FILENO, &[byte]);
 }
 
-// Prints the words after the k-th space, and the line's end.
+// Prints the words after the k-th space.
 fn print(line: &[u8; LINE], k: usize) {
     let mut i = place(line, k);
     while i < LINE {
-        print_byte(line[i]);
         if line[i] <= NEWLINE {
             break;
         }
+        print_byte(line[i]);
         i += 1;
     }
 }
@@ -123,13 +131,16 @@ fn print(line: &[u8; LINE], k: usize) {
 pub fn malformed(line: &[u8; LINE]) {
     io::write_all(STDOUT_FILENO, b"malformed: ");
     print(line, 0);
+    print_byte(NEWLINE);
 }
 
 // Prints all words after the first.
+pub fn print_words(line: &[u8; LINE]) {
+    print(line, 1);
+}
+
+// The same and the end of the line.
 pub fn print_label(line: &[u8; LINE]) {
-    if count(line) == 0 {
-        malformed(line);
-    } else {
-        print(line, 1);
-    }
+    print(line, 1);
+    print_byte(NEWLINE);
 }

@@ -115,9 +115,6 @@ pub fn clear(bytes: &mut [u8; ROOM]) {
 pub fn put_bytes(line: &[u8; LINE], k: usize, bytes: &mut [u8; ROOM], at: usize) -> usize {
     let mut to = at;
     let mut i = script::place(line, k);
-    if LINE <= i {
-        script::malformed(line);
-    }
     while i < LINE {
         if line[i] <= NEWLINE {
             break;
@@ -137,9 +134,6 @@ pub fn put_bytes(line: &[u8; LINE], k: usize, bytes: &mut [u8; ROOM], at: usize)
 pub fn put_text(line: &[u8; LINE], k: usize, bytes: &mut [u8; ROOM], at: usize) -> usize {
     let mut to = at;
     let mut i = script::place(line, k);
-    if LINE <= i {
-        script::malformed(line);
-    }
     while i < LINE {
         if line[i] <= NEWLINE {
             break;

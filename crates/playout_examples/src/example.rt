@@ -1,4 +1,4 @@
-// A receiver of one channel, and packets of interleaved mono for it, printed.
+// Packets offered to a buffer and frames drawn from it, printed; and packets of interleaved mono, made up.
 use drawing::draws;
 use drawing::draws::DrawAnswer;
 use drawing::draws::DrawnFrame;
@@ -10,30 +10,16 @@ use reorder::calls;
 use reorder::calls::OfferAnswer;
 use rtp::refusal;
 use rtp::refusal::Fault;
-use rtp::settings::Settings;
 use rtp::sizes::ROW_AREA;
 use tags::tagging::PRIMARY;
 
-pub(crate) fn print(text: &[u8], value: u32) {
+fn print(text: &[u8], value: u32) {
     io::write_all(1, text);
     io::print_decimal(1, value as u64);
 }
 
 pub(crate) fn zero_store() -> [u8; STORE_SIZE] {
     [0; STORE_SIZE]
-}
-
-// A fresh buffer, under a label.
-pub(crate) fn begin(label: &[u8], format: u8) -> Buffer {
-    io::write_all(1, label);
-    io::write_all(1, b"\n");
-    let fresh = calls::new(Settings {
-        format,
-        channels: 1,
-        payload_type: 97,
-        redundancy_type: 98,
-    });
-    fresh.buffer
 }
 
 // The packet of frame-blocks k, k + 5, k + 10 and k + 15, each of 80 bytes that are its number. The time of frame-block 0 is `base`.
@@ -88,9 +74,8 @@ fn zero_rows() -> [u32; ROW_AREA] {
 }
 
 // A packet offered, and how it was judged.
-pub(crate) fn offer(label: &[u8], buffer: Buffer, store: &mut [u8], packet: &[u8]) -> Buffer {
+fn offer(buffer: Buffer, store: &mut [u8; STORE_SIZE], packet: &[u8]) -> Buffer {
     let mut rows = zero_rows();
-    io::write_all(1, label);
     let offered = calls::offer(buffer, packet, &mut rows, store);
     let answer = offered.answer;
     match answer {
@@ -100,19 +85,31 @@ pub(crate) fn offer(label: &[u8], buffer: Buffer, store: &mut [u8], packet: &[u8
     offered.buffer
 }
 
-fn offer_number(buffer: Buffer, store: &mut [u8], base: u32, k: u8) -> Buffer {
+// The packet of the first `size` bytes.
+pub(crate) fn offer_part(
+    buffer: Buffer,
+    store: &mut [u8; STORE_SIZE],
+    bytes: &[u8],
+    size: usize,
+) -> Buffer {
+    if size <= bytes.len() {
+        return offer(buffer, store, &bytes[..size]);
+    }
+    buffer
+}
+
+pub(crate) fn offer_number(
+    buffer: Buffer,
+    store: &mut [u8; STORE_SIZE],
+    base: u32,
+    k: u8,
+) -> Buffer {
     let bytes = packet_of(base, k);
     print(b"offer ", k as u32);
-    offer(b"", buffer, store, &bytes)
+    offer(buffer, store, &bytes)
 }
 
-pub(crate) fn three(buffer: Buffer, store: &mut [u8], base: u32, a: u8, b: u8, c: u8) -> Buffer {
-    let first = offer_number(buffer, store, base, a);
-    let second = offer_number(first, store, base, b);
-    offer_number(second, store, base, c)
-}
-
-pub(crate) fn zero_frame() -> [u8; SLOT_SIZE] {
+fn zero_frame() -> [u8; SLOT_SIZE] {
     [0; SLOT_SIZE]
 }
 
@@ -125,7 +122,7 @@ fn print_other(byte: u8, number: u32) {
 }
 
 // A frame-block's number by its time, its first and last byte if they tell of another, and a word if it was not heard first-hand.
-fn print_frame(base: u32, frame: DrawnFrame, area: &[u8; SLOT_SIZE]) {
+fn print_number(base: u32, frame: DrawnFrame, area: &[u8; SLOT_SIZE]) {
     let number = std::num::wrapping_sub_u32(frame.time, base) / 960;
     print(b" ", number);
     print_other(area[0], number);
@@ -135,7 +132,7 @@ fn print_frame(base: u32, frame: DrawnFrame, area: &[u8; SLOT_SIZE]) {
     }
 }
 
-fn draw_one(buffer: Buffer, store: &[u8], base: u32) -> Buffer {
+pub(crate) fn draw_number(buffer: Buffer, store: &[u8; STORE_SIZE], base: u32) -> Buffer {
     let mut area = zero_frame();
     let drawn = draws::draw(buffer, store, &mut area);
     let answer = drawn.answer;
@@ -144,34 +141,44 @@ fn draw_one(buffer: Buffer, store: &[u8], base: u32) -> Buffer {
         DrawAnswer::Empty => {
             io::write_all(1, b" empty");
         }
-        DrawAnswer::Frame(frame) => print_frame(base, frame, &area),
+        DrawAnswer::Frame(frame) => print_number(base, frame, &area),
     }
     drawn.buffer
 }
 
-fn draw_five(buffer: Buffer, store: &[u8], base: u32) -> Buffer {
-    let first = draw_one(buffer, store, base);
-    let second = draw_one(first, store, base);
-    let third = draw_one(second, store, base);
-    let fourth = draw_one(third, store, base);
-    draw_one(fourth, store, base)
+// Whether a frame drawn was heard first-hand.
+fn print_heard(primary: u32) {
+    if primary == PRIMARY as u32 {
+        io::write_all(1, b" first-hand: ");
+    } else {
+        io::write_all(1, b" by redundancy: ");
+    }
 }
 
-// A single draw.
-pub(crate) fn draw_once(buffer: Buffer, store: &[u8], base: u32) -> Buffer {
-    io::write_all(1, b"draw");
-    let next = draw_one(buffer, store, base);
-    io::write_all(1, b"\n");
-    next
+// The time and class of a frame drawn, whether it was heard first-hand, and its bytes.
+fn print_frame(frame: DrawnFrame, area: &[u8]) {
+    let length = frame.length as usize;
+    print(b" ", frame.time);
+    print(b" ", frame.class);
+    print_heard(frame.primary);
+    if length <= area.len() {
+        io::write_all(1, &area[..length]);
+    }
 }
 
-// One draw more than there are frames.
-pub(crate) fn draw_all(buffer: Buffer, store: &[u8], base: u32) {
+// The earliest frame drawn.
+pub(crate) fn draw(buffer: Buffer, store: &[u8; STORE_SIZE]) -> Buffer {
+    let mut area = zero_frame();
     io::write_all(1, b"draw");
-    let a = draw_five(buffer, store, base);
-    let b = draw_five(a, store, base);
-    let c = draw_five(b, store, base);
-    let d = draw_five(c, store, base);
-    draw_five(d, store, base);
+    let drawn = draws::draw(buffer, store, &mut area);
+    let answer = drawn.answer;
+    match answer {
+        DrawAnswer::Refused(why) => print(b" refusal ", refusal::refusal_number(why)),
+        DrawAnswer::Empty => {
+            io::write_all(1, b" empty");
+        }
+        DrawAnswer::Frame(frame) => print_frame(frame, &area),
+    }
     io::write_all(1, b"\n");
+    drawn.buffer
 }

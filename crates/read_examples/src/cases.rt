@@ -34,12 +34,12 @@ fn give_area(case: Case, line: &[u8; LINE]) -> Case {
 
 // A line that sets nothing: a label, bytes, or a packet to be read.
 fn run(case: Case, line: &[u8; LINE], bytes: &mut [u8; ROOM]) {
-    if script::first_is(line, b"case") {
+    if script::has_from(line, b"case", 1) {
         script::print_label(line);
-    } else if script::first_is(line, b"packet") {
+    } else if script::has_from(line, b"packet", 1) {
         values::clear(bytes);
         values::put_bytes(line, 1, bytes, 0);
-    } else if script::first_is(line, b"at") {
+    } else if script::has_from(line, b"at", 2) {
         values::put_bytes(line, 2, bytes, values::number(line, 1) as usize);
     } else if script::has(line, b"read", 1) {
         example::read(case.settings, case.words, bytes, values::number(line, 1));

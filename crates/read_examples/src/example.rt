@@ -36,17 +36,20 @@ fn print_header(format: u8, packet: Packet) {
     io::write_all(1, b"\n");
 }
 
+fn print_words(time: u32, tag: u32, start: u32, length: u32) {
+    print(b"", time);
+    print(b" ", tagging::tag_class(tag));
+    print(b" ", tagging::tag_channel(tag));
+    print(b" ", start);
+    print(b" ", length);
+    print(b" ", tagging::tag_mark(tag));
+    io::write_all(1, b"\n");
+}
+
 fn print_row(rows: &[u32; ROW_AREA], i: u32) {
     if (i as usize) < MAX_ROWS {
         let at = ROW_WIDTH * (i as usize);
-        let tag = rows[at + 1];
-        print(b"", rows[at]);
-        print(b" ", tagging::tag_class(tag));
-        print(b" ", tagging::tag_channel(tag));
-        print(b" ", rows[at + 2]);
-        print(b" ", rows[at + 3]);
-        print(b" ", tagging::tag_mark(tag));
-        io::write_all(1, b"\n");
+        print_words(rows[at], rows[at + 1], rows[at + 2], rows[at + 3]);
     }
 }
 

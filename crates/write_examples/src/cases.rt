@@ -68,7 +68,7 @@ fn write_packet(case: Case, line: &[u8; LINE], rows: &[u32]) {
 fn write(case: Case, line: &[u8; LINE], rows: &[u32]) {
     if script::has(line, b"payload", 0) {
         example::payload(case.settings, case.mode_request, rows, case.words);
-    } else if script::first_is(line, b"packet") {
+    } else if script::has_from(line, b"packet", 0) {
         write_packet(case, line, rows);
     } else {
         script::malformed(line);
@@ -79,11 +79,11 @@ pub(crate) fn follow(case: Case, line: &[u8; LINE], rows: &mut [u32; NUMBERS]) -
     if script::is_comment(line) {
         return case;
     }
-    if script::first_is(line, b"case") {
+    if script::has_from(line, b"case", 1) {
         script::print_label(line);
         return with_words(case, 0);
     }
-    if script::first_is(line, b"row") {
+    if script::has_from(line, b"row", 1) {
         return with_words(case, values::put_numbers(line, rows, case.words));
     }
     if script::has(line, b"settings", 4) {

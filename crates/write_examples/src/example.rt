@@ -1,6 +1,7 @@
 // Lists of frames written and printed.
 use encoder::writing;
 use packet::reading;
+use packet::reading::Packet;
 use packet::reading::Reading;
 use payload_sizes::measuring::Written;
 use rtp::refusal;
@@ -92,18 +93,23 @@ fn print_first(start: u32, packet: &[u8]) {
     }
 }
 
-// A row read: its time, class, channel, start and length, whether it was heard first-hand, and its first byte.
+// The words of a row read: time, class, channel, start and length, and whether it was heard first-hand.
+fn print_words(time: u32, tag: u32, start: u32, length: u32) {
+    print(b"row ", time);
+    print(b" ", tagging::tag_class(tag));
+    print(b" ", tagging::tag_channel(tag));
+    print(b" ", start);
+    print(b" ", length);
+    print(b" primary ", tagging::tag_mark(tag));
+}
+
+// The words of a row read, and its first byte.
 fn print_row(rows: &[u32], i: usize, packet: &[u8]) {
     if i < MAX_ROWS {
         if 4 * i + 3 < rows.len() {
-            let tag = rows[4 * i + 1];
-            print(b"row ", rows[4 * i]);
-            print(b" ", tagging::tag_class(tag));
-            print(b" ", tagging::tag_channel(tag));
-            print(b" ", rows[4 * i + 2]);
-            print(b" ", rows[4 * i + 3]);
-            print(b" primary ", tagging::tag_mark(tag));
-            print_first(rows[4 * i + 2], packet);
+            let start = rows[4 * i + 2];
+            print_words(rows[4 * i], rows[4 * i + 1], start, rows[4 * i + 3]);
+            print_first(start, packet);
             io::write_all(1, b"\n");
         }
     }
@@ -117,6 +123,19 @@ fn print_rows(rows: &[u32], count: u32, packet: &[u8]) {
     }
 }
 
+// The mode request is printed for the formats that have one.
+fn print_head(format: u8, head: Packet) {
+    print(b"read back: rows ", head.rows);
+    print(b" marker ", head.marker as u32);
+    print(b" sequence ", head.sequence as u32);
+    print(b" timestamp ", head.timestamp);
+    print(b" source ", head.source);
+    if AMR <= format {
+        print(b" mode request ", head.mode_request as u32);
+    }
+    io::write_all(1, b"\n");
+}
+
 fn read_back(settings: Settings, packet: &[u8]) {
     let mut rows = row_area();
     match reading::read(settings, packet, &mut rows) {
@@ -126,15 +145,7 @@ fn read_back(settings: Settings, packet: &[u8]) {
             io::write_all(1, b"\n");
         }
         Reading::Read(head) => {
-            print(b"read back: rows ", head.rows);
-            print(b" marker ", head.marker as u32);
-            print(b" sequence ", head.sequence as u32);
-            print(b" timestamp ", head.timestamp);
-            print(b" source ", head.source);
-            if AMR <= settings.format {
-                print(b" mode request ", head.mode_request as u32);
-            }
-            io::write_all(1, b"\n");
+            print_head(settings.format, head);
             print_rows(&rows, head.rows, packet);
         }
     }

@@ -15,14 +15,14 @@ place-requires c κs = search needs
 loop-holds : tie.Need-loop-holds Inv-loop μ-loop
 loop-holds c = search needs
 
+element-copy-out-if1 : tie.Need-element-copy-out-if1 Inv-loop μ-loop
+element-copy-out-if1 c = search needs
+
 element-copy-out-print-byte : tie.Need-element-copy-out-print-byte Inv-loop μ-loop
 element-copy-out-print-byte c = search needs
 
 print-byte-requires : tie.Need-print-byte-requires Inv-loop μ-loop
 print-byte-requires c κs = search needs
-
-element-copy-out-if1 : tie.Need-element-copy-out-if1 Inv-loop μ-loop
-element-copy-out-if1 c = search needs
 
 add-i : tie.Need-add-i Inv-loop μ-loop
 add-i c = search needs
@@ -47,9 +47,9 @@ print-spec =
     μ-loop
     place-requires
     loop-holds
+    element-copy-out-if1
     element-copy-out-print-byte
     print-byte-requires
-    element-copy-out-if1
     add-i
     loop-less
     loop-again

@@ -1,8 +1,8 @@
 use native.Mathlib.Omega.{arith}
 use lib.ListN.{length-take}
 use borrow.Author.Needs.{needs}
-use Rattle.playout_examples.proofs.amr.print_frame.Statement.{statement}
-use Rattle.playout_examples.proofs.amr.print_frame.Tie as tie
+use Rattle.playout_examples.proofs.example.print_frame.Statement.{statement}
+use Rattle.playout_examples.proofs.example.print_frame.Tie as tie
 
 cast-length : tie.Need-cast-length
 cast-length c = search needs
