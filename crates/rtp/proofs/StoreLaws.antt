@@ -1,12 +1,12 @@
 -- Laws of stores into an area that is written over from its front.
 use mathlib.Core.Path.{_≡_, ap, sym, _∙_}
-use mathlib.Core.List.{List, _++_}
+use mathlib.Core.List.{List, [], _∷_, _++_}
 use Prim.Native.Nat.{ℕ, suc, _+_, _≤_, _<_}
 use native.Mathlib.Omega.{arith}
 use native.Mathlib.Numerals.{add-one}
-use lib.ListN.{length, getD, take, drop, set}
+use lib.ListN.{length, getD, take, drop, set, length-append}
 use lib.Seq.{take-all, length-take-le, take-suc, drop-cons, set-at, append-snoc}
 use Rattle.rtp.specs.Areas.{over}
 
 -- the first i elements of s over the front
 pub over-taken : (s l : List ℕ) (i : ℕ) → i ≤ length s → over (take i s) l ≡ take i s ++ drop i l
@@ -24,3 +24,12 @@ over-next s l i h k =
 
 pub over-whole : (s l : List ℕ) (i : ℕ) → length s ≤ i → over (take i s) l ≡ over s l
 over-whole s l i h = ap (λ (m : List ℕ). over m l) (take-all i s h)
+
+-- one more element behind what was written
+pub over-store : (a l m : List ℕ) (n v : ℕ) → length a ≡ n → n < length l → m ≡ over a l → set m n v ≡ over (a ++ (v ∷ [])) l
+unfolding over
+over-store a l m n v h k p =
+    ap (λ (r : List ℕ). set r n v) (p ∙ ap (λ (r : List ℕ). a ++ r) (drop-cons l (length a) 0 (omega arith)))
+    ∙ set-at a (getD l (length a) 0) (drop (suc (length a)) l) v n h
+    ∙ sym (append-snoc a v (drop (suc (length a)) l))
+    ∙ sym (ap (λ (i : ℕ). (a ++ (v ∷ [])) ++ drop i l) (length-append a (v ∷ []) ∙ add-one (length a)))
