@@ -76,15 +76,15 @@ pub(crate) fn follow(
     if script::is_comment(line) {
         return case;
     }
-    if script::first_is(line, b"case") {
+    if script::has_from(line, b"case", 1) {
         script::print_label(line);
         return given(case, 0, 0);
     }
-    if script::first_is(line, b"bytes") {
+    if script::has_from(line, b"bytes", 1) {
         let n = values::put_bytes(line, 1, bytes, case.bytes);
         return given(case, n, case.words);
     }
-    if script::first_is(line, b"row") {
+    if script::has_from(line, b"row", 1) {
         let n = values::put_numbers(line, rows, case.words);
         return given(case, case.bytes, n);
     }
