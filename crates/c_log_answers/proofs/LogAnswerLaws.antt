@@ -7,13 +7,13 @@ use Rattle.rtp.specs.declared.refusal.Fault.{Fault}
 use Rattle.log.specs.declared.opening.OpenAnswer.{OpenAnswer}
 use Rattle.log.specs.declared.frames.Shown.{Shown}
 use Rattle.log.specs.declared.stepping.StepAnswer.{StepAnswer}
-use Rattle.log.specs.Opening.{openNumber}
+use Rattle.log.specs.Opening.{openNumbers}
 use Rattle.log.specs.Stepping.{stepNumbers}
 use Rattle.log_writer.specs.declared.field_bytes.LogWritten.{LogWritten}
 use Rattle.log_writer.specs.FieldBytes.{Numbers, writtenNumbers}
 use Rattle.c_log_answers.specs.Fields.{CStepNumbers, placeless}
 
-pub opened-refused : (x : OpenAnswer) (r : Refusal) (n : ℕ) → x ≡ OpenAnswer.Refused r → n ≡ number r → n ≡ openNumber x
+pub opened-refused : (x : OpenAnswer) (r : Refusal) (n : ℕ) → x ≡ OpenAnswer.Refused r → n ≡ number r → n ≡ openNumbers x .refusal
 opened-refused x r n h k = rw (h, k)
 
 pub stepped-frame : (x : StepAnswer) (f : Shown) → x ≡ StepAnswer.Frame f

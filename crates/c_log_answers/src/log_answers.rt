@@ -4,14 +4,14 @@ use log::stepping::StepAnswer;
 use log_writer::field_bytes::LogWritten;
 use rtp::refusal;
 ghost use mathlib.Core.Path.{_≡_};
-ghost use Rattle.log.specs.Opening.{openNumber};
+ghost use Rattle.log.specs.Opening.{openNumbers};
 ghost use Rattle.log.specs.Stepping.{stepNumbers};
 ghost use Rattle.log_writer.specs.FieldBytes.{writtenNumbers};
 ghost use Rattle.c_log_answers.specs.Fields.{steppedFields, placeless, logWrittenFields};
 
 // The refusal number of hsp_log_opened, or 0.
 pub fn opened_number(answer: OpenAnswer) -> u32
-    ensures { λ r. ⌜ r ≡ openNumber answer ⌝ }
+    ensures { λ r. ⌜ r ≡ openNumbers answer .refusal ⌝ }
 {
     match answer {
         OpenAnswer::Opened(settings) => 0,

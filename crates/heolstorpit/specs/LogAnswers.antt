@@ -1,4 +1,5 @@
 -- What C is answered of kept logs, in the numbers that the library's definitions give: field by field.
+use Prim.Native.Nat.{ℕ}
 use Rattle.log.specs.declared.opening.Cursor.{Cursor}
 use Rattle.log.specs.Opening.{OpenOutcome}
 use Rattle.log.specs.Stepping.{StepOutcome}
@@ -8,8 +9,15 @@ use Rattle.heolstorpit.specs.declared.logs.HspLogOpened.{HspLogOpened}
 use Rattle.heolstorpit.specs.declared.logs.HspLogStepped.{HspLogStepped}
 use Rattle.heolstorpit.specs.declared.logs.HspLogWritten.{HspLogWritten}
 
--- hsp_log_opened, the cursor with it
-abbrev pub openedAnswer : HspLogOpened → OpenOutcome
+-- hsp_log_opened, the cursor with it; C finds the settings in the cursor
+pub record COpenOutcome : Type 0 where
+  pub refusal : ℕ
+  pub cursor : Cursor
+
+abbrev pub openedOutcome : OpenOutcome → COpenOutcome
+openedOutcome o = record { refusal = o .answer .refusal; cursor = o .cursor }
+
+abbrev pub openedAnswer : HspLogOpened → COpenOutcome
 openedAnswer r = record { refusal = r .refusal; cursor = r .cursor }
 
 -- hsp_log_stepped, the cursor with it; the place of a fault is left out

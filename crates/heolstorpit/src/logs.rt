@@ -12,7 +12,7 @@ ghost use Rattle.log.specs.Opening.{openCall};
 ghost use Rattle.log.specs.Stepping.{stepCall};
 ghost use Rattle.log_writer.specs.FieldBytes.{putNumbers, putBytes};
 ghost use Rattle.log_writer.specs.Writings.{writing};
-ghost use Rattle.heolstorpit.specs.LogAnswers.{openedAnswer, steppedAnswer, steppedOutcome, logWrittenAnswer};
+ghost use Rattle.heolstorpit.specs.LogAnswers.{openedAnswer, openedOutcome, steppedAnswer, steppedOutcome, logWrittenAnswer};
 
 // hsp_log_opened: the refusal number or 0, and the cursor, zeros on refusal.
 #[repr(C)]
@@ -43,7 +43,7 @@ pub struct HspLogWritten {
 
 #[no_mangle]
 pub extern "C" fn hsp_log_open(log: &[u8]) -> HspLogOpened
-    ensures { λ r. ⌜ openedAnswer r ≡ openCall (now (log .entry)) ⌝ }
+    ensures { λ r. ⌜ openedAnswer r ≡ openedOutcome (openCall (now (log .entry))) ⌝ }
 {
     let opened = opening::open(log);
     let cursor = opened.cursor;

@@ -18,7 +18,7 @@ use Rattle.log_fields.specs.Fields.{settingsTag, frameTag, endTag, headSize, se
 use Rattle.log_fields.proofs.FieldLaws.{whole-inside}
 use Rattle.log.specs.declared.frames.Next.{Next}
 use Rattle.log.specs.declared.opening.OpenAnswer.{OpenAnswer}
-use Rattle.log.specs.Opening.{settingsField, openedBy, opening, openedCursor, openNumber, openCall}
+use Rattle.log.specs.Opening.{settingsField, openedBy, opening, openedCursor, openNumbers, openCall}
 use Rattle.log.specs.Stepping.{frameField, endField, nextBy, nextField}
 
 -- what the field at the front is decides
@@ -45,9 +45,9 @@ unfolding settingsField
 settings-out-of-range s n h a = rw (eq-eqb n settingsSize h, a)
 
 -- what opening answers and leaves
-pub open-as : (s : List ℕ) (a : OpenAnswer) → opening s ≡ a → openCall s ≡ record { refusal = openNumber a; cursor = openedCursor a }
+pub open-as : (s : List ℕ) (a : OpenAnswer) → opening s ≡ a → openCall s ≡ record { answer = openNumbers a; cursor = openedCursor a }
 unfolding openCall
-open-as s a e = ap (λ (x : OpenAnswer). record { refusal = openNumber x; cursor = openedCursor x }) e
+open-as s a e = ap (λ (x : OpenAnswer). record { answer = openNumbers x; cursor = openedCursor x }) e
 
 -- a frame's field, by its length and what the settings allow
 

@@ -38,15 +38,19 @@ abbrev pub openedCursor : OpenAnswer → Cursor
 openedCursor (OpenAnswer.Opened st) = record { settings = st; place = firstSize; count = 0 }
 openedCursor (OpenAnswer.Refused r) = noCursor
 
--- The answer in numbers: the refusal number or 0
-abbrev pub openNumber : OpenAnswer → ℕ
-openNumber (OpenAnswer.Opened st) = 0
-openNumber (OpenAnswer.Refused r) = number r
+-- The answer in numbers: the refusal number or 0, and the settings, zeros on refusal
+pub record OpenNumbers : Type 0 where
+  pub refusal : ℕ
+  pub settings : Settings
+
+abbrev pub openNumbers : OpenAnswer → OpenNumbers
+openNumbers (OpenAnswer.Opened st) = record { refusal = 0; settings = st }
+openNumbers (OpenAnswer.Refused r) = record { refusal = number r; settings = noSettings }
 
 -- what opening answers and leaves
 pub record OpenOutcome : Type 0 where
-  pub refusal : ℕ
+  pub answer : OpenNumbers
   pub cursor : Cursor
 
 unfoldable pub openCall : List ℕ → OpenOutcome
-openCall s = record { refusal = openNumber (opening s); cursor = openedCursor (opening s) }
+openCall s = record { answer = openNumbers (opening s); cursor = openedCursor (opening s) }

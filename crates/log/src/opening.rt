@@ -11,7 +11,7 @@ ghost use mathlib.Core.Path.{_≡_};
 ghost use Prim.Native.Nat.{_+_, _≤_};
 ghost use lib.ListN.{length};
 ghost use Rattle.log_fields.specs.Fields.{headSize, firstSize, settingsIn};
-ghost use Rattle.log.specs.Opening.{settingsField, opening, noCursor, openNumber, openedCursor, openCall};
+ghost use Rattle.log.specs.Opening.{settingsField, opening, noCursor, openNumbers, openCall};
 
 // What the log reader's record keeps beside the log: settings, the place of the next field, and the number of frames shown.
 #[repr(C)]
@@ -98,7 +98,7 @@ fn no_cursor() -> Cursor
 
 // Opens a log: the record behind its settings, or a refusal and a record of zeros.
 pub fn open(log: &[u8]) -> Opened
-    ensures { λ r. ⌜ record { refusal = openNumber (r .answer); cursor = r .cursor } ≡ openCall (now (log .entry)) ⌝ }
+    ensures { λ r. ⌜ record { answer = openNumbers (r .answer); cursor = r .cursor } ≡ openCall (now (log .entry)) ⌝ }
 {
     match first_field(log) {
         OpenAnswer::Opened(settings) => Opened {

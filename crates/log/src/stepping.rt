@@ -11,7 +11,7 @@ use rtp::settings::Settings;
 ghost use mathlib.Core.Path.{_≡_};
 ghost use Prim.Native.Nat.{_≤_};
 ghost use lib.ListN.{length, drop};
-ghost use Rattle.log.specs.Stepping.{further, walk, cursorFits, step, stepNumbers, cursorAfter, stepCall};
+ghost use Rattle.log.specs.Stepping.{further, walk, cursorFits, step, stepNumbers, stepCall};
 
 pub enum StepAnswer {
     Frame(Shown),

@@ -1,46 +1,66 @@
 -- No step leaves the log.
-use mathlib.Core.Path.{subst}
+use mathlib.Core.Path.{_≡_, subst}
 use mathlib.Core.List.{List}
-use Prim.Native.Nat.{ℕ, _+_, _≤_}
+use mathlib.Core.Bool.{true}
+use Prim.Native.Nat.{ℕ, _+_, _-_}
 use native.Mathlib.Omega.{arith}
-use lib.ListN.{length, drop, length-drop}
-use lib.Dec.{ltb}
-use borrow.Author.Tests.{ltb-false, leb-true}
+use lib.ListN.{length, drop}
+use borrow.Author.Tests.{le-ltb, le-leb}
 use Rattle.rtp.specs.Ranges.{inRange}
-use Rattle.rtp.proofs.TestLaws.{by-test, either}
-use Rattle.log_fields.specs.Fields.{headSize, frameHead, firstSize}
+use Rattle.rtp.proofs.TestLaws.{by-test}
+use Rattle.log_fields.specs.Fields.{firstSize}
 use Rattle.log.specs.declared.opening.Cursor.{Cursor}
 use Rattle.log.specs.declared.stepping.StepAnswer.{StepAnswer}
 use Rattle.log.specs.Stepping.{further, walk, cursorFits, step}
-use Rattle.log_claims.specs.Claims.{StepsStayInside}
-use Rattle.log_claims.proofs.WalkLaws.{Agrees, agrees}
+use Rattle.log.proofs.WalkLaws.{Inside, behind-inside, walk-inside, fits-is, shown-inside}
+use Rattle.log_claims.specs.Claims.{StepsStayInside, FaultsStayInside, FrameIsShown}
 
--- of an answer, where it is a frame: its bytes lie behind a field's head and the frame's own, and inside the log; the record's count was not over its place
-abbrev Inside : List ℕ → Cursor → StepAnswer → Type 0
-Inside log c (StepAnswer.Frame f) = (c .place + (headSize + frameHead) ≤ f .start) × (f .start + f .length ≤ length log) × (c .count ≤ c .place)
-Inside log c StepAnswer.End = Unit {0}
-Inside log c (StepAnswer.Refused f) = Unit {0}
+-- a frame is shown to a record that fits, under settings in range
+abbrev Ready : Cursor → ℕ → StepAnswer → Type 0
+Ready c l (StepAnswer.Frame f) = (inRange (c .settings) ≡ true) × (cursorFits c l ≡ true)
+Ready c l StepAnswer.End = Unit {0}
+Ready c l (StepAnswer.Refused f) = Unit {0}
 
-inside-walk : (log : List ℕ) (c : Cursor) → c .place ≤ length log → c .count ≤ c .place
-    → (a : StepAnswer) → Agrees (c .settings) (c .count) (drop (c .place) log) a → Inside log c (further (c .place) a)
-inside-walk log c p n (StepAnswer.Frame f) (low, high, r) = (omega arith, omega (arith, length-drop (c .place) log), n)
-inside-walk log c p n StepAnswer.End r = tt
-inside-walk log c p n (StepAnswer.Refused f) r = tt
+ready-both : (c : Cursor) (l : ℕ) (a : StepAnswer) → inRange (c .settings) ≡ true → cursorFits c l ≡ true → Ready c l a
+ready-both c l (StepAnswer.Frame f) r h = (r, h)
+ready-both c l StepAnswer.End r h = tt
+ready-both c l (StepAnswer.Refused f) r h = tt
 
-inside : (log : List ℕ) (c : Cursor) → Inside log c (step c log)
+-- so an answer lies inside the log
+record Answers (c : Cursor) (log : List ℕ) (a : StepAnswer) : Type 0 where
+  ready : Ready c (length log) a
+  inside : Inside (length log) a
+
+answers : (c : Cursor) (log : List ℕ) → Answers c log (step c log)
 unfolding step
-inside log c =
+answers c log =
     by-test (inRange (c .settings))
     (λ a. by-test (cursorFits c (length log))
     (λ b.
-    let x = either (ltb (c .place) firstSize) _ b in
-    let y = either (ltb (length log) (c .place)) _ (x .1) in
-    let s = drop (c .place) log in
+    let w = walk (c .settings) (c .count) (drop (c .place) log) in
     rw (a, b)
-    (inside-walk log c (ltb-false (length log) (c .place) (y .0)) (leb-true (c .count) (c .place) (y .1))
-    (walk (c .settings) (c .count) s) (agrees (c .settings) (c .count) s)))
-    (λ b. rw (a, b) tt))
-    (λ a. rw a tt)
+    (record { ready = ready-both c (length log) (further (c .place) w) a b; inside = behind-inside (c .place) log w (fits-is c (length log) b .1) (walk-inside (c .settings) (c .count) (drop (c .place) log)) }))
+    (λ b. rw (a, b) (record { ready = tt; inside = omega arith })))
+    (λ a. rw a (record { ready = tt; inside = omega arith }))
 
 pub steps-stay-inside : StepsStayInside
-steps-stay-inside log c f e = let h = subst (Inside log c) e (inside log c) in omega arith
+steps-stay-inside log c f e =
+    let x = subst (Answers c log) e (answers c log) in
+    let h = shown-inside c log f e in
+    let y = fits-is c (length log) (x .ready .1) in
+    let n = f .start + f .length in (
+      h .0,
+      h .1,
+      h .2,
+      x .ready .0,
+      rw (le-ltb n firstSize (omega (arith, h .0, y .0)), le-ltb (length log) n (h .1)) (le-leb (c .count + 1) n (h .2)),
+    )
+
+pub faults-stay-inside : FaultsStayInside
+faults-stay-inside log c g e = subst (Answers c log) e (answers c log) .inside
+
+-- What a host reads is the frame
+pub frame-is-shown : FrameIsShown
+frame-is-shown log c f e =
+    let h = shown-inside c log f e in
+    rw (le-ltb (length log) (f .start) (omega (arith, h .1)), le-ltb (length log - f .start) (f .length) (omega (arith, h .1)))

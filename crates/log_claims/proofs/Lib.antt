@@ -9,3 +9,4 @@ pub mod PiecesBackTheorem
 pub mod RowLaws
 pub mod RoundTripTheorem
 pub mod PiecesTheorem
+pub mod MarkTheorems

@@ -1,28 +1,28 @@
 -- A log written piece by piece is the log that is written at once.
-use mathlib.Core.Path.{ap, ap₂, sym, _∙_}
+use mathlib.Core.Path.{ap₂, sym, _∙_}
 use mathlib.Core.List.{List, _++_}
-use Prim.Native.Nat.{ℕ, _≤_}
+use Prim.Native.Nat.{ℕ}
 use native.Mathlib.Omega.{arith}
-use lib.ListN.{length, length-append}
+use lib.ListN.{length}
 use Rattle.plans.specs.Lists.{rowsIn}
-use Rattle.log_writer.specs.FieldBytes.{settingsBytes, endBytes, putBytes}
-use Rattle.log_writer.specs.Writings.{rowsBytes, logBytes}
-use Rattle.log_claims.specs.Claims.{PiecesAreTheLog}
-use Rattle.log_claims.proofs.PutLaws.{put-settings, put-end}
-use Rattle.log_claims.proofs.RowLaws.{accepted, pieces-are}
+use Rattle.log_writer.specs.FieldBytes.{settingsBytes, endBytes}
+use Rattle.log_writer.specs.Writings.{logBytes}
+use Rattle.log_claims.specs.Claims.{PiecesAreTheLog, PiecesAreAccepted}
+use Rattle.log_claims.proofs.PutLaws.{settings-put, end-put, put-settings, put-end}
+use Rattle.log_claims.proofs.RowLaws.{accepted, pieces-are, rows-put}
 
 pub pieces-are-the-log : PiecesAreTheLog
-unfolding logBytes putBytes
-pieces-are-the-log st ws bytes area p h =
-    let a = accepted st ws bytes area p h in
+unfolding logBytes
+pieces-are-the-log st ws bytes area a b w p m q h s k e =
     let rs = rowsIn ws in
-    let s = settingsBytes st in
-    let m = rowsBytes bytes rs in
-    let q = endBytes (length rs) in
-    let room : length (s ++ (m ++ q)) ≤ area = a .written .enough in
-    let k = length-append s (m ++ q) in
-    let l = length-append m q in
-    a .written .same
-    ∙ ap₂ (λ (u v : List ℕ). u ++ v) (sym (ap putBytes (put-settings st area (a .ranged) (omega arith))))
-    (ap₂ (λ (u v : List ℕ). u ++ v) (pieces-are st bytes (a .ranged) area rs (a .inside) (a .fit) (omega arith))
-    (sym (ap putBytes (put-end (length rs) area (a .few) (omega arith)))))
+    accepted st ws bytes area w h .written .same
+    ∙ sym (ap₂ (λ (u v : List ℕ). u ++ v) (settings-put st a p s .1 .same)
+    (ap₂ (λ (u v : List ℕ). u ++ v) (pieces-are st bytes rs m k) (end-put (length rs) b q e .1 .same)))
+
+-- Each piece is accepted in an area of the longest field's size
+pub pieces-are-accepted : PiecesAreAccepted
+unfolding settingsBytes endBytes
+pieces-are-accepted st ws bytes area small w h l =
+    let a = accepted st ws bytes area w h in
+    let rs = rowsIn ws in
+    (put-settings st small (a .ranged) (omega arith), rows-put st bytes (a .ranged) small l rs (a .inside) (a .fit), put-end (length rs) small (a .few) (omega arith))

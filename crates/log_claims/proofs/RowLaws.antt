@@ -1,24 +1,26 @@
 -- Laws of a log that is written of rows: each row's frame is one that the writer of a frame's field accepts.
-use mathlib.Core.Path.{_≡_, refl, ap, ap₂, sym}
+use mathlib.Core.Path.{_≡_, refl, ap, ap₂}
 use mathlib.Core.List.{List, [], _∷_, _++_}
 use mathlib.Core.Bool.{true, false}
 use Prim.Native.Nat.{ℕ, suc, _+_, _^_, _≤_, _<_}
 use native.Mathlib.Omega.{arith}
-use lib.ListN.{length, drop, length-append, length-drop}
+use lib.ListN.{length, drop, length-drop}
 use lib.Seq.{length-take-le}
 use lib.Dec.{ltb}
 use borrow.Author.Tests.{ltb-false}
 use Rattle.rtp.specs.Numbers.{Words}
+use Rattle.rtp.specs.Sizes.{maxFrame}
 use Rattle.rtp.specs.Ranges.{inRange}
 use Rattle.rtp.specs.declared.settings.Settings.{Settings}
 use Rattle.rtp.proofs.TestLaws.{both, either, neither}
+use Rattle.codes.proofs.AllowedLaws.{allowed-frame}
 use Rattle.frame_rows.specs.Rows.{frameIn, Row, rowsIn}
 use Rattle.plans.specs.Lists.{whole, outside}
 use Rattle.log_fields.specs.Fields.{frameFits}
-use Rattle.log_writer.specs.FieldBytes.{frameBytes, maxFrames, bytesOf, putBytes}
+use Rattle.log_writer.specs.FieldBytes.{frameBytes, maxFrames, bytesOf}
 use Rattle.log_writer.specs.Writings.{rowsBytes, logBytes, allFit, loggable, writing}
-use Rattle.log_claims.specs.Claims.{rowFrame, rowFrames, rowPieces, FramePieces, none, more}
-use Rattle.log_claims.proofs.PutLaws.{passing, failing, Room, room, put-frame}
+use Rattle.log_claims.specs.Claims.{rowFrame, rowFrames, FramePieces, none, more, longestField, AllPut}
+use Rattle.log_claims.proofs.PutLaws.{passing, failing, Room, room, frame-put, put-frame}
 
 -- what writing that was accepted says
 pub record Accepted (st : Settings) (ws bytes : List ℕ) (area : ℕ) (p : List ℕ) : Type 0 where
@@ -76,19 +78,7 @@ module _ (st : Settings) (bytes : List ℕ) (ranged : inRange st ≡ true) where
       let l = frame-length bytes r (ltb-false (length bytes) (r .start + r .length) (a .0)) in
       record { fits = rw l (b .0); fit = b .1; inside = a .1 }
 
-  -- each row's field is accepted, where there is room for them all
-  pub pieces-are : (area : ℕ) (rs : List Row) → outside (length bytes) rs ≡ false → allFit st rs ≡ true → length (rowsBytes bytes rs) ≤ area
-      → rowsBytes bytes rs ≡ rowPieces st bytes area rs
-  unfolding rowsBytes rowPieces putBytes
-  pieces-are area [] o f h = refl
-  pieces-are area (r ∷ rs) o f h =
-      let x = rest r rs o f in
-      let q = frameBytes (r .time) (r .channel) (r .class) (frameIn bytes r) in
-      let l = length-append q (rowsBytes bytes rs) in
-      let e = put-frame st (r .time) (r .channel) (r .class) (frameIn bytes r) area ranged (x .fits) (omega arith) in
-      ap₂ (λ (u v : List ℕ). u ++ v) (sym (ap putBytes e)) (pieces-are area rs (x .inside) (x .fit) (omega arith))
-
-  -- so they are pieces
+  -- each row's field is accepted, so they are pieces
   pub row-pieces : (rs : List Row) → outside (length bytes) rs ≡ false → allFit st rs ≡ true → Times rs → FramePieces st (rowFrames bytes rs) (rowsBytes bytes rs)
   unfolding rowsBytes rowFrames
   row-pieces [] o f t = none
@@ -99,7 +89,25 @@ module _ (st : Settings) (bytes : List ℕ) (ranged : inRange st ≡ true) where
       (put-frame st (r .time) (r .channel) (r .class) (frameIn bytes r) (length q) ranged (x .fits) (omega arith))
       (row-pieces rs (x .inside) (x .fit) (t .1))
 
+  -- .. in any area of the longest field's size
+  pub rows-put : (small : ℕ) → longestField ≤ small → (rs : List Row) → outside (length bytes) rs ≡ false → allFit st rs ≡ true → AllPut st small (rowFrames bytes rs)
+  unfolding rowFrames frameBytes
+  rows-put small h [] o f = tt
+  rows-put small h (r ∷ rs) o f =
+      let x = rest r rs o f in
+      let n = length (frameIn bytes r) in
+      let a = both (ltb (r .channel) (st .channels)) _ (x .fits) in
+      let l : n ≤ maxFrame = allowed-frame (st .format) (r .class) n (a .1) .1 in
+      (put-frame st (r .time) (r .channel) (r .class) (frameIn bytes r) small ranged (x .fits) (omega arith), rows-put small h rs (x .inside) (x .fit))
+
 pub length-frames : (bytes : List ℕ) (rs : List Row) → length (rowFrames bytes rs) ≡ length rs
 unfolding rowFrames
 length-frames bytes [] = refl
 length-frames bytes (r ∷ rs) = ap suc (length-frames bytes rs)
+
+-- pieces of the rows' frames are the rows' fields, whatever the areas
+pub pieces-are : (st : Settings) (bytes : List ℕ) (rs : List Row) (m : List ℕ) → FramePieces st (rowFrames bytes rs) m → m ≡ rowsBytes bytes rs
+unfolding rowFrames rowsBytes
+pieces-are st bytes [] m none = refl
+pieces-are st bytes (r ∷ rs) m (more f fs p k area t e q) =
+    ap₂ (λ (u v : List ℕ). u ++ v) (frame-put st (r .time) (r .channel) (r .class) (frameIn bytes r) area p e .1 .same) (pieces-are st bytes rs k q)

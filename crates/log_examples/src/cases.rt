@@ -61,6 +61,10 @@ fn run(case: Case, line: &[u8; LINE], bytes: &[u8], rows: &[u32]) {
         step(case, line, bytes);
     } else if script::has(line, b"write", 1) {
         let room = values::number(line, 1) as usize;
+        if example::AREA < room {
+            script::malformed(line);
+            return;
+        }
         example::write(case.settings, rows, case.words, bytes, case.bytes, room);
     } else {
         script::malformed(line);

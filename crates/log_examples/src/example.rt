@@ -7,7 +7,7 @@ use rtp::refusal::Refusal;
 use rtp::settings::Settings;
 
 // The most bytes that are written.
-const AREA: usize = 1024;
+pub(crate) const AREA: usize = 1024;
 
 fn area() -> [u8; AREA] {
     [0; AREA]

@@ -10,7 +10,7 @@ use Rattle.codes.specs.Allowed.{allowed}
 use Rattle.log_fields.specs.declared.fields.FieldHead.{FieldHead}
 use Rattle.log_fields.specs.declared.fields.Field.{Field}
 
--- the settings (kind, channels, plain type, redundancy type), a frame, and the end; a field with another tag is passed over
+-- the settings (format, channels, payload type, redundancy type), a frame, and the end; a field with another tag is passed over
 abbrev pub settingsTag : ℕ
 settingsTag = 1
 

@@ -14,7 +14,8 @@ pub struct LogReader<'a> {
     pub cursor: Cursor,
 }
 
-// A reader of a log: behind its settings, or with a cursor of zeros if its first field is refused.
+// A reader of a log: behind its settings, or with a cursor of zeros if its first field is refused
+// (the refusal of the first field is what `log::opening::open` answers; `next` then says 11).
 pub fn open<'a>(log: &'a [u8]) -> LogReader<'a>
     ensures { λ r. ⌜ (r .log ≡ log .entry) × (r .cursor ≡ openCall (now (log .entry)) .cursor) ⌝ }
 {

@@ -10,8 +10,7 @@ use Rattle.rtp.specs.Refusals.{number}
 use Rattle.rtp.specs.declared.settings.Settings.{Settings}
 use Rattle.rtp.specs.declared.refusal.Refusal.{Refusal}
 use Rattle.rtp.specs.declared.refusal.Refusal.the-variants.{SettingsOutOfRange, AreaTooShort, NotAllowed}
-use Rattle.log_fields.specs.Fields.{settingsTag, frameTag, endTag, settingsSize, frameHead, endSize}
-use Rattle.log_fields.specs.Fields.{frameFits}
+use Rattle.log_fields.specs.Fields.{settingsTag, frameTag, endTag, settingsSize, frameHead, endSize, frameFits}
 use Rattle.log_writer.specs.declared.field_bytes.LogWritten.{LogWritten}
 
 -- tag 1: the settings

@@ -1,5 +1,6 @@
 use mathlib.Core.Path.{sym, ap, _∙_}
-use Rattle.rtp.specs.Refusals.{number}
+use Rattle.log.specs.declared.opening.OpenAnswer.{OpenAnswer}
+use Rattle.log.specs.Opening.{openNumbers}
 use Rattle.log.specs.declared.opening.Cursor.{Cursor}
 use Rattle.log.proofs.FieldLaws.{open-as}
 use borrow.Author.Needs.{needs}
@@ -23,7 +24,7 @@ returns c = sym (open-as _ _ (sym (c .before .before .before .first-field .ensur
 
 returns-2 : tie.Need-returns-2
 returns-2 c =
-    ap (λ (u : Cursor). record { refusal = number (c .before .before .refusal .given .0 .0); cursor = u }) (c .no-cursor .ensures)
+    ap (λ (u : Cursor). record { answer = openNumbers (OpenAnswer.Refused (c .before .before .refusal .given .0 .0)); cursor = u }) (c .no-cursor .ensures)
     ∙ sym (open-as _ _ (sym (c .before .before .before .before .first-field .ensures) ∙ c .before .before .refusal .given .1))
 
 pub open-spec : {M : Type 1} → statement M

@@ -37,7 +37,7 @@ use denote.Triple.Table.{entered, cited}
 use denote.Triple.Walked.{says, Stays, stay-none-slice, walkOf, goes-none-slice, Walks, ends-at, walked, walk-meets}
 use denote.Triple.Clauses.{ensured, lasts}
 use denote.Exit.{yes}
-use Rattle.log.specs.Opening.{openNumber, openCall, OpenOutcome}
+use Rattle.log.specs.Opening.{openNumbers, openCall, OpenOutcome}
 use Rattle.log.specs.declared.opening.Cursor.{Cursor}
 use Rattle.log.specs.declared.opening.Opened.{Opened}
 use Rattle.log.proofs.opening.Cursor as C
@@ -86,7 +86,7 @@ module _ {M : Type 1} (𝓤 : URA M) (H : Heap 𝓤) (A : Atoms 𝓤) (W : Given
 
   -- what is said of the call's answer
   abbrev Told : Opened → Type 0
-  Told r = record { refusal = openNumber (r .answer); cursor = r .cursor } ≡ openCall (now s)
+  Told r = record { answer = openNumbers (r .answer); cursor = r .cursor } ≡ openCall (now s)
 
   abbrev to : Opening 𝓤 H A mem run .Ghost
   to = (((κ, tt), (q, tt), tt, (s, tt), at), tt)
