@@ -1,19 +1,20 @@
 /*
  * heolstorpit: RTP packets of G.719, GSM-HR, AMR and AMR-WB sound, read into frame rows, gathered and handed out in
- * time order, and written; and reception reports on their sources. The functions are proved against their definitions; link
- * target/staticlib/libheolstorpit.a (made by `rt staticlib heolstorpit`, for x86-64 Linux).
+ * time order, and written; reception reports on their sources; and logs of frames, written and read. The functions are proved
+ * against their definitions; link target/staticlib/libheolstorpit.a (made by `rt staticlib heolstorpit`, for x86-64 Linux).
  *
  * WHO OWNS WHAT. The library has no memory of its own: no allocation, no global state, nothing kept after a call returns.
- * Packets, rows, bytes, store and areas belong to the caller and are only used during the call. A buffer is a plain value:
- * it is handed in by value and comes back changed in the answer. Two threads may call at once, with areas of their own.
+ * Packets, rows, bytes, store, logs and areas belong to the caller and are only used during the call. A buffer is a plain
+ * value: it is handed in by value and comes back changed in the answer; so are a reception record and a log cursor. Two threads
+ * may call at once, with areas of their own.
  *
  * POINTERS. A pointer is followed by the number of elements it points to (bytes for uint8_t, words for uint32_t). It
  * is never NULL, not even for 0 elements, and is aligned for its type. Areas that one call is given do not overlap if
  * the call may write to one of them.
  *
  * REFUSALS. Every answer begins with `refusal`: 0, or the number of the first reason that applies. A refusal changes
- * nothing: no byte or word of any area; all other numbers of the answer are 0 but `offset`, and a buffer or a reception
- * record comes back as it was handed in (from hsp_new: all zero).
+ * nothing: no byte or word of any area; all other numbers of the answer are 0 but `offset`, and a buffer, a reception record or
+ * a log cursor comes back as it was handed in (from hsp_new and hsp_log_open: all zero).
  *
  *    1  packet shorter than 12 or longer than 2,048 bytes
  *    2  RTP version is not 2
@@ -25,15 +26,22 @@
  *    8  a table entry with 0 frame-blocks
  *    9  more than 128 rows
  *   10  after the tables or block headers there are too few bytes, or bytes are left over
- *   11  settings out of range, given or held in the buffer; a mode request over 15
+ *   11  settings out of range, given or held in the buffer or the log cursor; a mode request over 15
  *   12  an area is too short: see the function
  *   13  the rows cannot be written: see the function
  *   14  a row to be written has start + length over the length of the byte area
- *   15  the buffer or the reception record handed in is not well-formed: see hsp_buffer, hsp_reception
+ *   15  the buffer, the reception record or the log cursor handed in is not well-formed: see hsp_buffer, hsp_reception,
+ *       hsp_log_cursor
+ *   17  a field of the log is cut
+ *   18  a tag of the log is in the wrong place or missing
+ *   19  content of the log, or a row to be written to it, that the settings do not allow
+ *   20  the log says another count than that of its frames
+ * No function answers 16.
  *
  * The order in which they are asked: reading 11, 12, 1, 2, 3, 4, 5, then 6 to 9 table entry by table entry, then 10.
  * (Redundancy: all block headers 6, then their lengths 10, then block by block as a payload.) Writing 11, 14, 13, 12.
- * hsp_offer and hsp_draw 11, 15, 12, then as reading.
+ * hsp_offer and hsp_draw 11, 15, 12, then as reading. Logs: hsp_log_step 11, 15, then 17 to 20 as under LOGS; hsp_log_write
+ * 11, 14, 19, 12.
  *
  * OFFSETS. With refusals 6 to 10, hsp_read and hsp_offer answer as `offset` a place in the whole packet; else it is 0.
  *    6 to 9  the first byte of the table entry or block header at fault, also of one cut short; where one is missing, the place
@@ -51,6 +59,20 @@
  *    3  length of the frame in bytes
  * A row of no data has length 0; reading gives it as start the place where its bytes would lie. A frame of formats 4 and 5 is
  * its bytes whole, the unused bits at its end included.
+ *
+ * LOGS. A log keeps frames: fields, one after another, each of a tag (1 byte), the length of its content (2 bytes) and the
+ * content. Numbers are big-endian.
+ *    tag 1  the settings, first and once; 4 bytes: format, channels, payload_type, redundancy_type
+ *    tag 2  a frame: time (4 bytes), channel, class (1 byte each), then the frame's bytes
+ *    tag 3  the end; 4 bytes: the number of tag 2 fields
+ * Fields of other tags are passed over by their length. Times may be in any order. A row's primary is not kept. The first field
+ * at fault decides, and within a field the order is 18, 17, 19, 20:
+ *    18  the first tag is not 1; a second tag 1; a byte after the tag 3 field, whatever it is; a log that stops before tag 1 (an
+ *        empty one) or before tag 3
+ *    17  tag and length are under 3 bytes, or the content is shorter than its length says
+ *    19  tag 1 or 3 not of 4 bytes, tag 2 of under 6; settings out of range; a channel that the settings do not have; class 0; a
+ *        class and length that no packet of the settings gives
+ *    20  the count of tag 3 is not the number of frames before it (asked before a byte after the field is)
  */
 #ifndef HEOLSTORPIT_H
 #define HEOLSTORPIT_H
@@ -75,6 +97,9 @@ extern "C" {
 #define HSP_MAX_REDUNDANT 4    /* redundant lists of a packet written, at most */
 #define HSP_NO_REDUNDANCY 128  /* redundancy_type: none */
 #define HSP_NO_MODE_REQUEST 15 /* mode_request: none; the greatest there is */
+#define HSP_LOG_FIRST 7        /* bytes of a log's first field (tag 1), and so the least place of a cursor */
+#define HSP_LOG_FRAME 9        /* bytes of a frame's field (tag 2) before the frame's own */
+#define HSP_LOG_LAST 7         /* bytes of a log's last field (tag 3) */
 
 /*
  * What was agreed with the sender; 4 bytes.
@@ -198,6 +223,42 @@ typedef struct {
 } hsp_reported;
 
 /*
+ * Where the reading of a log stands; 24 bytes, with 4 of padding after the settings. Get one from hsp_log_open and hand in what
+ * the last step gave back, with the same log. Whatever is handed in is tested for the rules below. The test cannot tell a
+ * cursor of this log from another that keeps the rules: a step believes the cursor.
+ *   settings  those of the log. Out of range they are 11 (the all-zero cursor of a refused hsp_log_open too)
+ *   place     where in the log the next field starts; under 7 or over the length of the log it is 15
+ *   count     frames shown so far; over the place it is 15
+ */
+typedef struct {
+    hsp_settings settings;
+    uint64_t place, count;
+} hsp_log_cursor;
+
+/* hsp_log_open's answer: the cursor after the first field. 32 bytes, the cursor at 8. */
+typedef struct {
+    uint32_t refusal;
+    hsp_log_cursor cursor;
+} hsp_log_opened;
+
+/*
+ * hsp_log_step's answer: a frame, whose bytes are the `length` bytes from `start` in the log, and the cursor after its field; or,
+ * with `end` 1 and zeros, that the log is at its end. At the end and on a refusal the cursor is as handed in, also where fields
+ * of other tags were passed over. 64 bytes, `start` at 24 after 4 bytes of padding, the cursor at 40.
+ */
+typedef struct {
+    uint32_t refusal, end, time, channel, frame_class;
+    uint64_t start, length;
+    hsp_log_cursor cursor;
+} hsp_log_stepped;
+
+/* hsp_log_write's answer: the number of bytes written at the front of `out`. 16 bytes, the length at 8. */
+typedef struct {
+    uint32_t refusal;
+    uint64_t length;
+} hsp_log_written;
+
+/*
  * Reads a packet into frame rows: plain payloads and redundancy payloads. The rows stand at the front of `rows`, in the
  * packet's order; the words after the last row stay as they were. Blocks of other payload types in a redundancy
  * payload are passed over, and an empty block gives no rows.
@@ -278,6 +339,33 @@ hsp_received hsp_reception_packet(hsp_reception reception, uint16_t sequence, ui
  * expected and received. Before the first valid packet it is all zeros and changes nothing.
  */
 hsp_reported hsp_reception_report(hsp_reception reception);
+
+/*
+ * Opens a log: reads its first field, and no other (18, 17, 19). The cursor has the log's settings, place 7 and count 0; of a
+ * refused opening it is all zero.
+ *   log  of any length
+ */
+hsp_log_opened hsp_log_open(const uint8_t *log, size_t log_length);
+
+/*
+ * Shows the next frame of the log where it stands: nothing is copied. It reads the fields from the cursor's place on up to the
+ * first tag 2 or 3 and no further; so a frame says nothing of the fields after it, and only `end` says that the log is whole. A
+ * frame moves the cursor past its field and adds 1 to the count. See hsp_log_stepped.
+ *   log  the one that was opened
+ */
+hsp_log_stepped hsp_log_step(hsp_log_cursor cursor, const uint8_t *log, size_t log_length);
+
+/*
+ * Writes a log of the rows' frames, in the order of the rows, at the front of `out`; the bytes of `out` after it stay. Opened and
+ * read by steps, it gives the settings and each row's time, channel, class and frame bytes again, and then the end. The rows'
+ * primary bit is ignored.
+ *   rows   four words a row; no row makes a log of no frame. 19 says: a part of a row at the end, a row of no data, a channel,
+ *          class or length that the settings do not allow (a bit above the primary one is of such a class), or over 2^32 - 1 rows
+ *   bytes  what the rows' starts and lengths point into (a row outside it, also one of no data, is refused with 14)
+ *   out    at least the bytes to be written (else 12): 14, and for each row 9 and its length
+ */
+hsp_log_written hsp_log_write(hsp_settings settings, const uint32_t *rows, size_t rows_length, const uint8_t *bytes, size_t bytes_length,
+                              uint8_t *out, size_t out_length);
 
 #ifdef __cplusplus
 }

@@ -9,7 +9,7 @@ need() { # says which program is missing, and where it is to be had
 need cargo 'Debian: cargo'
 need "${CC:-cc}" 'Debian: gcc'
 groups=("$@")
-[ ${#groups[@]} -gt 0 ] || groups=(read write buffer reception)
+[ ${#groups[@]} -gt 0 ] || groups=(read write buffer reception log)
 features=$(printf '%s,' "${groups[@]}")
 if [ -z "${HEOLSTORPIT_LIB_DIR:-}" ]; then
     need rt 'the Rattle kit'

@@ -1,8 +1,8 @@
 #!/usr/bin/env bash
 # Prints the table of benchmarks. Takes libre's jbuf and speexdsp's jitter buffer along where Debian's libre-dev and libspeexdsp-dev are
 # installed (apt-get install libre-dev libspeexdsp-dev).
-#   bench.sh [read] [write] [buffer] [reception]    only these functions; none named: all
-#   HEOLSTORPIT_LIB_DIR                             a folder with libheolstorpit.a, used as it is
+#   bench.sh [read] [write] [buffer] [reception] [log]    only these functions; none named: all
+#   HEOLSTORPIT_LIB_DIR                                   a folder with libheolstorpit.a, used as it is
 set -euo pipefail
 cd "$(dirname "$0")"
 . ./archive.sh

@@ -1,8 +1,8 @@
 #!/usr/bin/env bash
 # Tests the library from outside: builds the archive, compares every function with the reference over generated inputs, and calls the
 # functions from C. Needs no network.
-#   test.sh [read] [write] [buffer] [reception]    only these functions; none named: all
-#   HEOLSTORPIT_LIB_DIR                            a folder with libheolstorpit.a, used as it is
+#   test.sh [read] [write] [buffer] [reception] [log]    only these functions; none named: all
+#   HEOLSTORPIT_LIB_DIR                                  a folder with libheolstorpit.a, used as it is
 set -euo pipefail
 cd "$(dirname "$0")"
 . ./archive.sh

@@ -1,5 +1,5 @@
 /* The header used from C: sizes and places of the structs' fields, and each function called once as its comment says.
- * -DHAVE_READ, -DHAVE_WRITE, -DHAVE_BUFFER, -DHAVE_RECEPTION: which functions the archive has. */
+ * -DHAVE_READ, -DHAVE_WRITE, -DHAVE_BUFFER, -DHAVE_RECEPTION, -DHAVE_LOG: which functions the archive has. */
 #include "heolstorpit.h"
 
 #include <stdio.h>
@@ -34,6 +34,14 @@ HOLDS(received_size, sizeof(hsp_received) == 64 && offsetof(hsp_received, recept
 HOLDS(reported_size, sizeof(hsp_reported) == 80 && offsetof(hsp_reported, reception) == 24);
 HOLDS(reported_lost, offsetof(hsp_reported, cumulative_lost) == 8 && offsetof(hsp_reported, highest_sequence) == 12);
 HOLDS(reported_jitter, offsetof(hsp_reported, jitter) == 16);
+HOLDS(cursor_size, sizeof(hsp_log_cursor) == 24 && offsetof(hsp_log_cursor, settings) == 0);
+HOLDS(cursor_numbers, offsetof(hsp_log_cursor, place) == 8 && offsetof(hsp_log_cursor, count) == 16);
+HOLDS(opened_size, sizeof(hsp_log_opened) == 32 && offsetof(hsp_log_opened, cursor) == 8);
+HOLDS(stepped_size, sizeof(hsp_log_stepped) == 64 && offsetof(hsp_log_stepped, cursor) == 40);
+HOLDS(stepped_frame, offsetof(hsp_log_stepped, end) == 4 && offsetof(hsp_log_stepped, time) == 8);
+HOLDS(stepped_class, offsetof(hsp_log_stepped, channel) == 12 && offsetof(hsp_log_stepped, frame_class) == 16);
+HOLDS(stepped_part, offsetof(hsp_log_stepped, start) == 24 && offsetof(hsp_log_stepped, length) == 32);
+HOLDS(log_written_size, sizeof(hsp_log_written) == 16 && offsetof(hsp_log_written, length) == 8);
 HOLDS(areas, HSP_ROW_AREA == HSP_MAX_ROWS * HSP_ROW_WORDS && HSP_STORE_BYTES == HSP_SLOTS * HSP_SLOT_BYTES);
 
 #define EXPECT(fact)                                                  \
@@ -225,6 +233,78 @@ int main(void) {
         r.reception.jitter = 34359738360;
         EXPECT(hsp_reception_report(r.reception).jitter == 2147483647);
         puts("hsp_reception_new, hsp_reception_packet and hsp_reception_report work from C");
+    }
+#endif
+#ifdef HAVE_LOG
+    {
+        /* settings, a field that is passed over, SID of 14 bytes at 0x01020304, sound at 9, the end */
+        static const uint8_t log[7 + 5 + 2 * 23 + 7] = {1, 0, 4, 3, 1, 97, 98, 200, 0, 2, 1, 3, 2, 0, 20, 1, 2, 3, 4, 0, 2, 77, [35] = 2, 0, 20,
+                                                        0, 0, 0, 9, 0, 1, [57] = 88, 3, 0, 4, 0, 0, 0, 2};
+        static const uint32_t list[8] = {0x01020304, 2 * 256, 21, 14, 9, HSP_PRIMARY + 256, 44, 14};
+        uint8_t out[sizeof log], damaged[sizeof log];
+        hsp_log_cursor second;
+        hsp_log_stepped s;
+        hsp_log_written w;
+        hsp_log_opened o = hsp_log_open(log, sizeof log);
+        EXPECT(o.refusal == 0 && o.cursor.place == HSP_LOG_FIRST && o.cursor.count == 0);
+        EXPECT(memcmp(&o.cursor.settings, &gsm_settings, sizeof gsm_settings) == 0);
+        s = hsp_log_step(o.cursor, log, sizeof log);
+        EXPECT(s.refusal == 0 && s.end == 0 && s.time == 0x01020304 && s.channel == 0 && s.frame_class == 2 && s.start == 21 && s.length == 14);
+        EXPECT(s.cursor.place == 35 && s.cursor.count == 1 && memcmp(&s.cursor.settings, &gsm_settings, sizeof gsm_settings) == 0);
+        second = s.cursor;
+        s = hsp_log_step(second, log, sizeof log);
+        EXPECT(s.refusal == 0 && s.time == 9 && s.frame_class == 1 && s.start == 44 && s.length == 14 && log[s.start + 13] == 88);
+        EXPECT(s.cursor.place == 58 && s.cursor.count == 2);
+        s = hsp_log_step(s.cursor, log, sizeof log);
+        EXPECT(s.refusal == 0 && s.end == 1 && s.time == 0 && s.channel == 0 && s.frame_class == 0 && s.start == 0 && s.length == 0);
+        EXPECT(s.cursor.place == 58 && s.cursor.count == 2);
+        /* written again: the same without the field that was passed over */
+        memset(out, 0xEE, sizeof out);
+        w = hsp_log_write(gsm_settings, list, 8, log, sizeof log, out, HSP_LOG_FIRST + 2 * (HSP_LOG_FRAME + 14) + HSP_LOG_LAST);
+        EXPECT(w.refusal == 0 && w.length == 60 && memcmp(out, log, 7) == 0 && memcmp(out + 7, log + 12, 53) == 0 && out[60] == 0xEE);
+        w = hsp_log_write(gsm_settings, list, 0, log, 0, out, HSP_LOG_FIRST + HSP_LOG_LAST);
+        EXPECT(w.refusal == 0 && w.length == 14 && out[7] == 3 && out[13] == 0);
+        EXPECT(hsp_log_write(gsm_settings, list, 8, log, sizeof log, out, 59).refusal == 12);
+        EXPECT(hsp_log_write(gsm_settings, list, 8, log, 57, out, 0).refusal == 14);
+        EXPECT(hsp_log_write(gsm_settings, list, 7, log, sizeof log, out, 0).refusal == 19);
+        EXPECT(hsp_log_write(settings, list, 8, log, sizeof log, out, sizeof out).refusal == 19);
+        settings.channels = 3;
+        w = hsp_log_write(settings, list, 7, log, 0, out, 0);
+        EXPECT(w.refusal == 11 && w.length == 0);
+        /* openings: no tag 1, cut, not of 4 bytes */
+        o = hsp_log_open(log + 1, sizeof log - 1);
+        EXPECT(o.refusal == 18 && o.cursor.place == 0 && o.cursor.count == 0 && o.cursor.settings.format == 0);
+        EXPECT(hsp_log_step(o.cursor, log, sizeof log).refusal == 11);
+        EXPECT(hsp_log_open(log, 0).refusal == 18 && hsp_log_open(log, 6).refusal == 17);
+        memcpy(damaged, log, sizeof log);
+        damaged[2] = 5;
+        EXPECT(hsp_log_open(damaged, sizeof log).refusal == 19);
+        /* steps: cut, stopped, not a GSM-HR frame, another count, another tag 1, a byte after the end */
+        s = hsp_log_step(second, log, 57);
+        EXPECT(s.refusal == 17 && s.end == 0 && s.time == 0 && s.start == 0 && s.length == 0 && s.cursor.place == 35 && s.cursor.count == 1);
+        EXPECT(hsp_log_step(second, log, 35).refusal == 18);
+        damaged[43] = 5;
+        EXPECT(hsp_log_step(second, damaged, sizeof log).refusal == 19);
+        s.cursor.place = 58;
+        EXPECT(hsp_log_step(s.cursor, log, sizeof log).refusal == 20);
+        s.cursor.count = 2;
+        damaged[58] = 1;
+        EXPECT(hsp_log_step(s.cursor, damaged, sizeof log).refusal == 18);
+        memcpy(damaged, log + 1, sizeof log - 1);
+        damaged[sizeof log - 1] = 0;
+        s.cursor.place = 57;
+        s = hsp_log_step(s.cursor, damaged, sizeof log);
+        EXPECT(s.refusal == 18 && s.cursor.place == 57 && s.cursor.count == 2);
+        /* cursors: a place under 7, past the log, a count over it */
+        s.cursor.place = 6;
+        EXPECT(hsp_log_step(s.cursor, log, sizeof log).refusal == 15);
+        s.cursor.place = sizeof log + 1;
+        EXPECT(hsp_log_step(s.cursor, log, sizeof log).refusal == 15);
+        s.cursor.place = 58;
+        s.cursor.count = 59;
+        s = hsp_log_step(s.cursor, log, sizeof log);
+        EXPECT(s.refusal == 15 && s.cursor.place == 58 && s.cursor.count == 59);
+        puts("hsp_log_open, hsp_log_step and hsp_log_write work from C");
     }
 #endif
     return 0;

@@ -10,8 +10,9 @@ use Rattle.packet.specs.Readings.{Numbers, readingNumbers}
 use Rattle.payload_sizes.specs.declared.measuring.Written.{Written}
 use Rattle.payload_sizes.specs.Measures.{Numbers as WrittenNumbers, writtenNumbers}
 use Rattle.insertion.specs.declared.tally.Tally.{Tally}
+use Rattle.reorder.specs.declared.calls.NewAnswer.{NewAnswer}
 use Rattle.reorder.specs.declared.calls.OfferAnswer.{OfferAnswer}
-use Rattle.reorder.specs.Calls.{OfferNumbers, offerNumbers}
+use Rattle.reorder.specs.Calls.{newNumber, OfferNumbers, offerNumbers}
 use Rattle.drawing.specs.declared.draws.DrawnFrame.{DrawnFrame}
 use Rattle.drawing.specs.declared.draws.DrawAnswer.{DrawAnswer}
 use Rattle.drawing.specs.Calls.{DrawNumbers, drawNumbers}
@@ -35,6 +36,9 @@ pub written-numbers : (x : Written) (n : ℕ) → x ≡ Written.Bytes n → _≡
 written-numbers x n h = rw h
 
 -- The buffer
+
+pub new-refused : (x : NewAnswer) (r : Refusal) (n : ℕ) → x ≡ NewAnswer.Refused r → n ≡ number r → n ≡ newNumber x
+new-refused x r n h k = rw (h, k)
 
 pub offer-refused : (x : OfferAnswer) (f : Fault) (n : ℕ) → x ≡ OfferAnswer.Refused f → n ≡ number (f .refusal)
     → _≡_ {A = OfferNumbers} (record { refusal = n; offset = f .offset; late = 0; far = 0; repeated = 0; better = 0; noRoom = 0; inserted = 0 }) (offerNumbers x)

@@ -1,10 +1,11 @@
 -- What can be said of answers that come from the operating system.
-use Prim.Native.Nat.{_<_}
+use Prim.Native.Nat.{ℕ, _<_, _≤_}
 use mathlib.Core.Path.{_≡_}
 use mathlib.Core.Bool.{true}
 use Rattle.rtp.specs.Ranges.{inRange}
 use Rattle.console.specs.declared.arguments.Asked.{Asked}
 use Rattle.console.specs.declared.stream.Input.{Input}
+use Rattle.console.specs.declared.standard_input.AllRead.{AllRead}
 
 -- settings that the arguments ask for are in range
 abbrev pub InRange : Asked → Type 0
@@ -15,3 +16,9 @@ InRange Asked.Nothing = Unit
 abbrev pub Short : Input → Type 0
 Short (Input.Packet n) = n < 65536
 Short Input.End = Unit
+
+-- what is read into an area of so many bytes is not more
+abbrev pub Within : AllRead → ℕ → Type 0
+Within (AllRead.Bytes n) size = n ≤ size
+Within AllRead.TooLong size = Unit
+Within AllRead.Failed size = Unit

@@ -1,4 +1,4 @@
-// A program's arguments: four numbers, the settings.
+// A program's arguments: four numbers, the settings, which a word may follow; or none.
 use console_text::lines;
 use console_text::numbers;
 use console_text::numbers::Number;
@@ -14,18 +14,24 @@ pub enum Asked {
     Nothing,
 }
 
-// How the program is called, and what it does.
-fn print_usage(fd: i32, program: &[u8], purpose: &[u8]) {
+// How the program is called, with which arguments, and what it does.
+fn print_call(fd: i32, program: &[u8], arguments: &[u8], purpose: &[u8]) {
     let mut line = lines::blank();
     let mut at = lines::put(&mut line, 0, b"usage: ");
     at = lines::put(&mut line, at, program);
-    at = lines::put(
-        &mut line,
-        at,
-        b" FORMAT CHANNELS TYPE REDUNDANCY < PACKETS\n",
-    );
+    at = lines::put(&mut line, at, arguments);
     lines::write(fd, &line, at);
     io::write_all(fd, purpose);
+}
+
+// .. with four numbers.
+fn print_usage(fd: i32, program: &[u8], purpose: &[u8]) {
+    print_call(
+        fd,
+        program,
+        b" FORMAT CHANNELS TYPE REDUNDANCY < PACKETS\n",
+        purpose,
+    );
     io::write_all(
         fd,
         b"  FORMAT      payload format: 1 = G.719 basic, 2 = G.719 interleaved, 3 = GSM-HR, 4 = AMR, 5 = AMR-WB\n",
@@ -45,8 +51,8 @@ fn print_usage(fd: i32, program: &[u8], purpose: &[u8]) {
     );
 }
 
-// What is wrong with an argument, and how the program is called.
-fn complain(program: &[u8], purpose: &[u8], subject: &[u8], fault: &[u8]) {
+// What is wrong with the arguments.
+fn say_fault(program: &[u8], subject: &[u8], fault: &[u8]) {
     let mut line = lines::blank();
     let mut at = lines::put(&mut line, 0, program);
     at = lines::put(&mut line, at, b": ");
@@ -54,6 +60,11 @@ fn complain(program: &[u8], purpose: &[u8], subject: &[u8], fault: &[u8]) {
     at = lines::put(&mut line, at, fault);
     at = lines::put(&mut line, at, b"\n");
     lines::write(STDERR_FILENO, &line, at);
+}
+
+// .. and how the program is called.
+fn complain(program: &[u8], purpose: &[u8], subject: &[u8], fault: &[u8]) {
+    say_fault(program, subject, fault);
     print_usage(STDERR_FILENO, program, purpose);
 }
 
@@ -124,26 +135,70 @@ fn same(a: &[u8], b: &[u8]) -> bool {
     true
 }
 
-// Whether the first argument asks for help.
-fn asks_help() -> bool {
+// Whether argument i is this word, of 1 to 16 bytes.
+pub fn is_word(i: usize, word: &[u8]) -> bool {
     let mut text = [0u8; 16];
-    let n = os::arg(1, &mut text);
-    same(&text[..n], b"--help")
+    let n = os::arg(i, &mut text);
+    if n == 0 {
+        return false;
+    }
+    same(&text[..n], word)
 }
 
-// The settings in the program's arguments. With `--help` it prints the usage, with the program's name and its purpose; wrong arguments
-// it says to standard error. What the arguments are is the operating system's answer, and the rules leave it open; but settings that it
-// answers are in range.
-pub fn read(program: &[u8], purpose: &[u8]) -> Asked
+// Whether the first argument asks for help.
+fn asks_help() -> bool {
+    is_word(1, b"--help")
+}
+
+// Whether there are four arguments, or five and the last is the word.
+fn are_four(word: &[u8]) -> bool {
+    let n = os::arg_count();
+    if n == 6 {
+        return is_word(5, word);
+    }
+    n == 5
+}
+
+// The settings in the program's arguments, behind which the word may stand. With `--help` it prints the usage, with the program's name and its
+// purpose; wrong arguments it says to standard error. What the arguments are is the operating system's answer, and the rules leave it open; but
+// settings that it answers are in range.
+pub fn read_with(program: &[u8], purpose: &[u8], word: &[u8]) -> Asked
     ensures { λ r. ⌜ InRange r ⌝ }
 {
     if asks_help() {
         print_usage(STDOUT_FILENO, program, purpose);
         return Asked::Nothing;
     }
-    if os::arg_count() != 5 {
-        complain(program, purpose, b"four numbers are needed", b"");
-        return Asked::Nothing;
+    if are_four(word) {
+        return read_four(program, purpose);
     }
-    read_four(program, purpose)
+    complain(
+        program,
+        purpose,
+        b"four numbers are needed, and nothing else that is not below",
+        b"",
+    );
+    Asked::Nothing
+}
+
+// .. behind which nothing may stand.
+pub fn read(program: &[u8], purpose: &[u8]) -> Asked
+    ensures { λ r. ⌜ InRange r ⌝ }
+{
+    read_with(program, purpose, b"")
+}
+
+// Whether a program that takes no arguments is to run: not with `--help`, and not with other arguments, to which it says so. The rules leave open
+// which it is.
+pub fn read_none(program: &[u8], arguments: &[u8], purpose: &[u8]) -> bool {
+    if asks_help() {
+        print_call(STDOUT_FILENO, program, arguments, purpose);
+        return false;
+    }
+    if os::arg_count() < 2 {
+        return true;
+    }
+    say_fault(program, b"it takes no arguments", b"");
+    print_call(STDERR_FILENO, program, arguments, purpose);
+    false
 }

@@ -4,6 +4,20 @@ use console_text::lines::LINE;
 ghost use Rattle.io.specs.Counts.{Counts};
 ghost use Rattle.console_text.specs.Lines.{Continued};
 
+// What is wrong with a log.
+fn put_log_reason(line: &mut [u8; LINE], at: usize, number: u32) -> usize
+    ensures { λ r. ⌜ Counts r (now (line .exit)) ⌝ }
+    ensures { λ r. ⌜ Continued (now (line .entry)) at (now (line .exit)) r ⌝ }
+{
+    match number {
+        17 => lines::put_words(line, at, b"a field is cut"),
+        18 => lines::put_words(line, at, b"a tag is in the wrong place or missing"),
+        19 => lines::put_words(line, at, b"the content is not allowed by the settings"),
+        20 => lines::put_words(line, at, b"the count of the frames is wrong"),
+        _ => lines::put_words(line, at, b"no such refusal"),
+    }
+}
+
 // Why a call other than a reading is refused.
 fn put_call_reason(line: &mut [u8; LINE], at: usize, number: u32) -> usize
     ensures { λ r. ⌜ Counts r (now (line .exit)) ⌝ }
@@ -14,8 +28,8 @@ fn put_call_reason(line: &mut [u8; LINE], at: usize, number: u32) -> usize
         12 => lines::put_words(line, at, b"an area that was lent is too short"),
         13 => lines::put_words(line, at, b"the frame list cannot be written"),
         14 => lines::put_words(line, at, b"a frame lies outside the bytes that were lent"),
-        15 => lines::put_words(line, at, b"the buffer is malformed"),
-        _ => lines::put_words(line, at, b"no such refusal"),
+        15 => lines::put_words(line, at, b"the buffer or the record is malformed"),
+        _ => put_log_reason(line, at, number),
     }
 }
 

@@ -4,7 +4,7 @@ use mathlib.Core.Path.{_≡_}
 use mathlib.Core.List.{List, [], _∷_, _++_}
 use mathlib.Core.Bool.{cond}
 use lib.Dec.{ltb, eqb}
-use lib.ListN.{take}
+use lib.ListN.{length, take}
 use Rattle.io.specs.Digits.{digits, glyph}
 
 -- the bytes of a line's area
@@ -36,6 +36,20 @@ hexadecimal (b ∷ bs) = glyph (b / 16) ∷ glyph (b % 16) ∷ hexadecimal bs
 -- a 32-bit number's bytes, the high one first
 abbrev pub bytesOf : ℕ → List ℕ
 bytesOf n = (n / 16777216 % 256) ∷ (n / 65536 % 256) ∷ (n / 256 % 256) ∷ (n % 256) ∷ []
+
+-- a frame's class in a word: sound, sid, damaged-sound, damaged-sid; unknown
+unfoldable pub classWord : ℕ → List ℕ
+classWord class =
+    cond (eqb class 1) (115 ∷ 111 ∷ 117 ∷ 110 ∷ 100 ∷ [])
+    (cond (eqb class 2) (115 ∷ 105 ∷ 100 ∷ [])
+    (cond (eqb class 5) (100 ∷ 97 ∷ 109 ∷ 97 ∷ 103 ∷ 101 ∷ 100 ∷ 45 ∷ 115 ∷ 111 ∷ 117 ∷ 110 ∷ 100 ∷ [])
+    (cond (eqb class 6) (100 ∷ 97 ∷ 109 ∷ 97 ∷ 103 ∷ 101 ∷ 100 ∷ 45 ∷ 115 ∷ 105 ∷ 100 ∷ [])
+    (117 ∷ 110 ∷ 107 ∷ 110 ∷ 111 ∷ 119 ∷ 110 ∷ []))))
+
+-- a frame: time, channel, class, length and bytes, a space between them
+unfoldable pub frameText : ℕ → ℕ → ℕ → List ℕ → List ℕ
+frameText time channel class bytes =
+    decimal time ++ ((32 ∷ decimal channel) ++ ((32 ∷ classWord class) ++ ((32 ∷ decimal (length bytes)) ++ (32 ∷ hexadecimal bytes))))
 
 -- the r bytes that a line holds begin with the first `at` of the line before; what follows them is left open
 abbrev pub Continued : List ℕ → ℕ → List ℕ → ℕ → Type 0

@@ -12,7 +12,7 @@ use Rattle.rtp.specs.Refusals.{number}
 use Rattle.rtp.specs.declared.settings.Settings.{Settings}
 use Rattle.rtp.specs.Faults.{fault}
 use Rattle.rtp.specs.declared.refusal.Fault.{Fault}
-use Rattle.rtp.specs.declared.refusal.Refusal.the-variants.{SettingsOutOfRange, MalformedBuffer}
+use Rattle.rtp.specs.declared.refusal.Refusal.the-variants.{SettingsOutOfRange, Malformed}
 use Rattle.rtp.proofs.TestLaws.{by-test}
 use Rattle.rtp.proofs.RefusalLaws.{number-positive}
 use Rattle.rtp.specs.Areas.{over}
@@ -84,7 +84,7 @@ module _ (b : Buffer) (packet l store : List ℕ) where
   answer-tallies =
       let x = offerTo (model b) packet (length l) store in
       by-test (inRange (b .settings))
-      (λ r. by-test (wellFormed b) (λ w. rw (r, w) (done-tallies x)) (λ w. rw (r, w) (refused-tallies x (fault MalformedBuffer))))
+      (λ r. by-test (wellFormed b) (λ w. rw (r, w) (done-tallies x)) (λ w. rw (r, w) (refused-tallies x (fault Malformed))))
       (λ r. rw r (refused-tallies x (fault SettingsOutOfRange)))
 
 pub counts-verdicts : CountsVerdicts

@@ -13,7 +13,7 @@ use Rattle.rtp.specs.Ranges.{inRange}
 use Rattle.rtp.specs.Faults.{fault}
 use Rattle.rtp.specs.declared.refusal.Refusal.{Refusal}
 use Rattle.rtp.specs.declared.refusal.Fault.{Fault}
-use Rattle.rtp.specs.declared.refusal.Refusal.the-variants.{SettingsOutOfRange, MalformedBuffer, AreaTooShort}
+use Rattle.rtp.specs.declared.refusal.Refusal.the-variants.{SettingsOutOfRange, Malformed, AreaTooShort}
 use Rattle.rtp.proofs.TestLaws.{by-test}
 use Rattle.rtp.proofs.RefusalLaws.{number-positive}
 use Rattle.packet.specs.Readings.{Outcome, refused as unread, readAs, reading}
@@ -146,7 +146,7 @@ module _ (b : Buffer) (m : Machine b) (packet rows store : List ℕ) where
       (λ s.
       went (offerRead b packet rows store (reading (b .settings) (length rows) packet)) (offer-reads b packet rows store r w (ltb-false _ _ a) (ltb-false _ _ s))
       (read-leaves r w (ltb-false _ _ s) (reading (b .settings) (length rows) packet) refl))))
-      (λ w. went (offerRefused (fault MalformedBuffer) b rows store) (offer-malformed b packet rows store r w) (refusing (fault MalformedBuffer))))
+      (λ w. went (offerRefused (fault Malformed) b rows store) (offer-malformed b packet rows store r w) (refusing (fault Malformed))))
       (λ r. went (offerRefused (fault SettingsOutOfRange) b rows store) (offer-out b packet rows store r) (refusing (fault SettingsOutOfRange)))
 
 -- Draws
@@ -172,7 +172,7 @@ module _ (b : Buffer) (none : Empty b) (store area : List ℕ) where
       (λ a. drew (drawRefused AreaTooShort b area) (draw-area b store area r w (ltb-false _ _ s) (ltb-true _ _ a)) (stopping AreaTooShort))
       (λ a.
       drew (drawFirst b store area []) (draw-goes b store area r w (ltb-false _ _ s) (ltb-false _ _ a) ∙ ap (drawFirst b store area) no-entries) (refl, refl, λ z. refl))))
-      (λ w. drew (drawRefused MalformedBuffer b area) (draw-malformed b store area r w) (stopping MalformedBuffer)))
+      (λ w. drew (drawRefused Malformed b area) (draw-malformed b store area r w) (stopping Malformed)))
       (λ r. drew (drawRefused SettingsOutOfRange b area) (draw-out b store area r) (stopping SettingsOutOfRange))
 
 pub changes-nothing : ChangesNothing

@@ -6,7 +6,7 @@ use Prim.Native.Nat.{ℕ, _≤_, _<_}
 use lib.ListN.{length}
 use borrow.Author.Tests.{lt-ltb, le-ltb}
 use Rattle.rtp.specs.Ranges.{inRange}
-use Rattle.rtp.specs.declared.refusal.Refusal.the-variants.{SettingsOutOfRange, MalformedBuffer, AreaTooShort}
+use Rattle.rtp.specs.declared.refusal.Refusal.the-variants.{SettingsOutOfRange, Malformed, AreaTooShort}
 use Rattle.playout.specs.Sizes.{slotSize, storeSize}
 use Rattle.playout.specs.Entries.{Entry}
 use Rattle.layout.specs.declared.buffer.Buffer.{Buffer}
@@ -25,7 +25,7 @@ module _ (b : Buffer) (store area : List ℕ) where
   draw-out h = rw h
 
   module _ (h : inRange (b .settings) ≡ true) where
-    pub draw-malformed : wellFormed b ≡ false → drawCall b store area ≡ drawRefused MalformedBuffer b area
+    pub draw-malformed : wellFormed b ≡ false → drawCall b store area ≡ drawRefused Malformed b area
     unfolding drawCall
     draw-malformed w = rw (h, w)
 

@@ -8,7 +8,7 @@ use Rattle.rtp.specs.Ranges.{inRange}
 use Rattle.rtp.specs.Refusals.{number}
 use Rattle.rtp.specs.Areas.{over}
 use Rattle.rtp.specs.declared.refusal.Refusal.{Refusal}
-use Rattle.rtp.specs.declared.refusal.Refusal.the-variants.{SettingsOutOfRange, MalformedBuffer}
+use Rattle.rtp.specs.declared.refusal.Refusal.the-variants.{SettingsOutOfRange, Malformed}
 use Rattle.layout.specs.declared.buffer.Buffer.{Buffer}
 use Rattle.layout.specs.Layout.{encode, model}
 use Rattle.layout.specs.WellFormed.{wellFormed}
@@ -57,5 +57,5 @@ unfoldable pub drawCall : Buffer → List ℕ → List ℕ → DrawOutcome
 drawCall b store area =
     cond (inRange (b .settings))
     (cond (wellFormed b) (drawDone b area (drawFrom (model b) store (length area)))
-    (drawRefused MalformedBuffer b area))
+    (drawRefused Malformed b area))
     (drawRefused SettingsOutOfRange b area)

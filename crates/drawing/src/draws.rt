@@ -103,7 +103,7 @@ fn draw_checked(buffer: Buffer, store: &[u8], area: &mut [u8]) -> Drawn
         settings,
     };
     if !well_formed::well_formed(&times, &tags, &lengths, &slots, occupied, fixed) {
-        return refuse_draw(Refusal::MalformedBuffer, buffer);
+        return refuse_draw(Refusal::Malformed, buffer);
     }
     if store.len() < STORE_SIZE {
         return refuse_draw(Refusal::AreaTooShort, buffer);

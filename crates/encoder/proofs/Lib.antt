@@ -1,5 +1,4 @@
 pub mod RunLaws
-pub mod StoreLaws
 pub mod GapLaws
 pub mod EntryLaws
 pub mod TableLaws

@@ -2,10 +2,10 @@
 use Prim.Native.Nat.{ℕ, _+_, _*_}
 use mathlib.Core.List.{List, [], _∷_, _++_}
 use mathlib.Core.Bool.{Bool, true, false, cond}
-use lib.ListN.{length, take, drop}
+use lib.ListN.{length}
 use Rattle.formats.specs.Formats.{formatOf}
 use Rattle.contents.specs.Contents.{Group}
-use Rattle.frame_rows.specs.Rows.{Row}
+use Rattle.frame_rows.specs.Rows.{Row, frameIn}
 use Rattle.codes.specs.Codes.{codeFor}
 
 -- 4-bit numbers in bytes, high half first, with four zero bits after an odd number
@@ -37,10 +37,6 @@ unfoldable pub tableBytes : ℕ → List Group → List ℕ
 tableBytes format [] = []
 tableBytes format (g ∷ []) = entryBytes format false g
 tableBytes format (g ∷ h ∷ gs) = entryBytes format true g ++ tableBytes format (h ∷ gs)
-
--- a row's frame in the bytes that it points into
-abbrev pub frameIn : List ℕ → Row → List ℕ
-frameIn bytes r = take (r .length) (drop (r .start) bytes)
 
 -- the frames of a list, one after another
 unfoldable pub frames : List ℕ → List Row → List ℕ

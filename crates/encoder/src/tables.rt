@@ -5,10 +5,11 @@ use formats::facts;
 use plans::lists;
 use plans::lists::RowWords;
 use plans::planning;
+use rtp::bytes;
 use rtp::sizes::ROW_WIDTH;
 use tags::tagging;
 ghost use mathlib.Core.Path.{_≡_};
-ghost use Prim.Native.Nat.{_≤_, _<_};
+ghost use Prim.Native.Nat.{_<_};
 ghost use lib.ListN.{length};
 ghost use Rattle.rtp.specs.Areas.{over};
 ghost use Rattle.formats.specs.Formats.{stepOf};
@@ -18,18 +19,6 @@ ghost use Rattle.plans.specs.Plans.{planFrom};
 ghost use Rattle.encoder.specs.Bytes.{flag, halves, firstByte, startBytes, entryBytes, frames};
 ghost use Rattle.plans.specs.Room.{rowAs};
 ghost use Rattle.encoder.specs.Room.{FramesRoom, joined, RunRoom, timed, blockGaps, runGroup, GapRoom, StartRoom, EntryRoom, TableRoom, planBytes};
-
-// The bytes of src over the front of the area.
-fn copy_bytes(out: &mut [u8], src: &[u8])
-    requires { ⌜ length (now src) ≤ length (now out) ⌝ }
-    ensures { λ _. ⌜ now (out .exit) ≡ over (now (src .entry)) (now (out .entry)) ⌝ }
-{
-    let mut i = 0;
-    while i < src.len() {
-        out[i] = src[i];
-        i += 1;
-    }
-}
 
 // The frames of the rows, one after another.
 pub(crate) fn put_frames(rows: &[u32], bytes: &[u8], out: &mut [u8])
@@ -43,7 +32,7 @@ pub(crate) fn put_frames(rows: &[u32], bytes: &[u8], out: &mut [u8])
     let start = row.start as usize;
     let length = row.length as usize;
     let end = start + length;
-    copy_bytes(out, &bytes[start..end]);
+    bytes::put_bytes(out, &bytes[start..end]);
     put_frames(&rows[ROW_WIDTH..], bytes, &mut out[length..]);
 }
 

@@ -1,7 +1,7 @@
 -- Document 01, "A row is", and document 02, P6: frame rows, and the words that they take in a row area.
 use Prim.Native.Nat.{ℕ, zero, suc, _+_, _*_, _^_, _%_}
 use mathlib.Core.List.{List, [], _∷_, _++_}
-use lib.ListN.{length}
+use lib.ListN.{length, take, drop}
 use Rattle.tags.specs.Tags.{tagOf, tagMark, tagClass, tagChannel, redundantMark}
 use Rattle.contents.specs.Contents.{Group}
 
@@ -13,6 +13,10 @@ pub record Row : Type 0 where
   pub start : ℕ
   pub length : ℕ
   pub primary : ℕ
+
+-- a row's frame in the bytes that it points into
+abbrev pub frameIn : List ℕ → Row → List ℕ
+frameIn bytes r = take (r .length) (drop (r .start) bytes)
 
 -- its four words
 abbrev pub rowWords : Row → List ℕ

@@ -1,3 +1,4 @@
 pub mod OutcomeLaws
 pub mod SizeLaws
 pub mod PlaceLaws
+pub mod LogOutcomeLaws

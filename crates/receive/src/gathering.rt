@@ -1,6 +1,7 @@
 // The stream through a reorder buffer: each packet is offered, and frames are drawn so that the next packet's have room.
 use crate::gaps;
 use crate::gaps::Gaps;
+use crate::logging;
 use crate::printing;
 use crate::sources;
 use crate::sources::Sources;
@@ -16,6 +17,8 @@ use formats::frames;
 use layout::buffer::Buffer;
 use layout::buffer::SLOT_SIZE;
 use layout::buffer::STORE_SIZE;
+use libc::STDERR_FILENO;
+use libc::STDOUT_FILENO;
 use reorder::calls;
 use reorder::calls::NewAnswer;
 use reorder::calls::OfferAnswer;
@@ -27,10 +30,12 @@ use slot_marks::bits::SLOTS;
 // The frames kept between packets: with the most that a packet can bring they fill the buffer, so that none is turned away for want of room.
 const KEPT: usize = SLOTS - MAX_ROWS;
 
-// The buffer, the ticks of a frame-block, what was counted, whether the input may have more, and whether all that was to be written is.
+// The buffer, the ticks of a frame-block, whether the frames go to a log, what was counted, whether the input may have more, and whether all that was
+// to be written is.
 struct State {
     buffer: Buffer,
     step: u32,
+    log: bool,
     totals: Totals,
     gaps: Gaps,
     sources: Sources,
@@ -50,10 +55,11 @@ fn zero_frame() -> [u8; SLOT_SIZE] {
     [0; SLOT_SIZE]
 }
 
-fn begin(buffer: Buffer, step: u32) -> State {
+fn begin(buffer: Buffer, step: u32, log: bool) -> State {
     State {
         buffer,
         step,
+        log,
         totals: totals::none(),
         gaps: gaps::none(),
         sources: sources::none(),
@@ -77,35 +83,43 @@ fn stop_writing(state: State) -> State {
     next
 }
 
-// A frame drawn from this buffer, printed after the gap before it, if there is one.
-fn print_drawn(state: State, buffer: Buffer, frame: DrawnFrame, bytes: &[u8; SLOT_SIZE]) -> State {
+// A frame to the log, or printed after the gap before it, if there is one; answers whether that succeeded.
+fn hand_out(state: State, missing: u32, frame: DrawnFrame, bytes: &[u8; SLOT_SIZE]) -> bool {
+    if state.log {
+        let settings = state.buffer.settings;
+        return logging::write_frame(settings, frame, bytes);
+    }
+    printing::print_gap(state.gaps.last, frame.time, missing) && printing::print_frame(frame, bytes)
+}
+
+// A frame drawn from this buffer, handed out and counted.
+fn add_drawn(state: State, buffer: Buffer, frame: DrawnFrame, bytes: &[u8; SLOT_SIZE]) -> State {
     let before = state.gaps;
     let sources = state.sources;
     let missing = gaps::missing_before(before, frame.time, state.step);
     let next = State {
         buffer,
         step: state.step,
+        log: state.log,
         totals: totals::add_frame(state.totals, frame.primary),
         gaps: gaps::add(before, frame.time, missing),
         sources,
         more: state.more,
         written: state.written,
     };
-    if printing::print_gap(before.last, frame.time, missing)
-        && printing::print_frame(frame, bytes)
-    {
+    if hand_out(state, missing, frame, bytes) {
         return next;
     }
     stop_writing(next)
 }
 
-// The earliest frame, drawn and printed. Drawing is never refused here, nor the buffer empty: it holds a frame, and the areas have their sizes.
+// The earliest frame, drawn and handed out. Drawing is never refused here, nor the buffer empty: it holds a frame, and the areas have their sizes.
 fn draw_one(state: State, store: &[u8]) -> State {
     let mut area = zero_frame();
     let drawn = draws::draw(state.buffer, store, &mut area);
     let answer = drawn.answer;
     match answer {
-        DrawAnswer::Frame(frame) => print_drawn(state, drawn.buffer, frame, &area),
+        DrawAnswer::Frame(frame) => add_drawn(state, drawn.buffer, frame, &area),
         DrawAnswer::Empty => state,
         DrawAnswer::Refused(_) => state,
     }
@@ -144,12 +158,21 @@ fn hear(state: State, was_read: bool, packet: &[u8]) -> Sources {
     heard
 }
 
+// Where the words go that are not about a frame: standard output is the log's, if there is one.
+fn words_of(state: State) -> i32 {
+    if state.log {
+        STDERR_FILENO
+    } else {
+        STDOUT_FILENO
+    }
+}
+
 // The line of the last packet, if it was refused.
 fn print_answer(state: State, answer: OfferAnswer) -> State {
     match answer {
         OfferAnswer::Judged(_) => state,
         OfferAnswer::Refused(fault) => {
-            if printing::print_fault(state.totals.packets, fault) {
+            if printing::print_fault(words_of(state), state.totals.packets, fault) {
                 return state;
             }
             stop_writing(state)
@@ -167,6 +190,7 @@ fn offer(state: State, packet: &[u8], store: &mut [u8]) -> State {
     let next = State {
         buffer,
         step: state.step,
+        log: state.log,
         totals: totals::add_packet(state.totals, answer),
         gaps,
         sources: hear(state, totals::was_read(answer), packet),
@@ -214,30 +238,53 @@ fn receive_packets(state: State, area: &mut [u8; AREA], store: &mut [u8]) -> Sta
     reached
 }
 
-// The frames that are left, and the summary.
+// The start of the log, if there is one.
+fn write_start(state: State) -> State {
+    if state.log {
+        let settings = state.buffer.settings;
+        if logging::write_settings(settings) {
+            return state;
+        }
+        return stop_writing(state);
+    }
+    state
+}
+
+// The end of the log, if there is one, and the summary; answers whether they are written.
+fn write_end(state: State) -> bool {
+    if state.log {
+        if !logging::write_end(state.totals.frames) {
+            return false;
+        }
+    }
+    printing::print_summary(words_of(state), state.totals, state.gaps, state.sources)
+}
+
+// The frames that are left, and the end.
 fn finish(state: State, store: &[u8]) {
     let last = draw_down(state, store, 0);
     if last.written {
-        if printing::print_summary(last.totals, last.gaps, last.sources) {
+        if write_end(last) {
             return;
         }
     }
     os::fail(b"receive: standard output");
 }
 
-fn receive_stream(buffer: Buffer, step: u32) {
+fn receive_stream(buffer: Buffer, step: u32, log: bool) {
     let mut store = zero_store();
     let mut area = io::large_buffer();
-    let state = receive_packets(begin(buffer, step), &mut area, &mut store);
+    let start = write_start(begin(buffer, step, log));
+    let state = receive_packets(start, &mut area, &mut store);
     finish(state, &store);
 }
 
 // A buffer for the settings, and the stream through it. The settings are in range, so that a buffer is never refused.
-pub(crate) fn open(asked: Settings) {
+pub(crate) fn open(asked: Settings, log: bool) {
     let fresh = calls::new(asked);
     let answer = fresh.answer;
     match answer {
-        NewAnswer::Accepted => receive_stream(fresh.buffer, frames::step_of(asked.format)),
+        NewAnswer::Accepted => receive_stream(fresh.buffer, frames::step_of(asked.format), log),
         NewAnswer::Refused(_) => {}
     }
 }

@@ -5,7 +5,7 @@ use Prim.Native.Nat.{ℕ, _≤_}
 use lib.Dec.{ltb}
 use borrow.Author.Tests.{ltb-false, eq-eqb, ne-eqb}
 use Rattle.rtp.specs.Time.{difference}
-use Rattle.rtp.specs.declared.refusal.Refusal.the-variants.{MalformedBuffer}
+use Rattle.rtp.specs.declared.refusal.Refusal.the-variants.{Malformed}
 use Rattle.rtp.proofs.TestLaws.{either, not-both}
 use Rattle.validity.specs.Sizes.{minSequential, maxSum}
 use Rattle.validity.specs.declared.record.Reception.{Reception}
@@ -35,7 +35,7 @@ sum-bounded r h =
 -- Packet
 
 module _ (r : Reception) (s t a : ℕ) where
-  pub packet-refused : wellFormed r ≡ false → packetCall r s t a ≡ record { answer = packetNumbers (PacketAnswer.Refused MalformedBuffer); reception = r }
+  pub packet-refused : wellFormed r ≡ false → packetCall r s t a ≡ record { answer = packetNumbers (PacketAnswer.Refused Malformed); reception = r }
   unfolding packetCall
   packet-refused h = rw h
 
@@ -52,7 +52,7 @@ module _ (r : Reception) (s t a : ℕ) where
 -- Report
 
 module _ (r : Reception) where
-  pub report-refused : wellFormed r ≡ false → reportCall r ≡ record { answer = reportNumbers (ReportAnswer.Refused MalformedBuffer); reception = r }
+  pub report-refused : wellFormed r ≡ false → reportCall r ≡ record { answer = reportNumbers (ReportAnswer.Refused Malformed); reception = r }
   unfolding reportCall
   report-refused h = rw h
 

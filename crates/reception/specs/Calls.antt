@@ -5,7 +5,7 @@ use lib.IntN.{ℤ, pos}
 use lib.Dec.{eqb}
 use Rattle.rtp.specs.Time.{difference}
 use Rattle.rtp.specs.Refusals.{number}
-use Rattle.rtp.specs.declared.refusal.Refusal.the-variants.{MalformedBuffer}
+use Rattle.rtp.specs.declared.refusal.Refusal.the-variants.{Malformed}
 use Rattle.validity.specs.declared.record.Counts.{Counts}
 use Rattle.validity.specs.declared.record.Reception.{Reception}
 use Rattle.validity.specs.declared.sequence.Judged.{Judged}
@@ -70,7 +70,7 @@ packetJudged r transit j =
 unfoldable pub packetCall : Reception → ℕ → ℕ → ℕ → PacketOutcome
 packetCall r sequence timestamp arrival =
     cond (wellFormed r) (packetJudged r (difference arrival timestamp) (judged (r .counts) sequence))
-    (record { answer = packetNumbers (PacketAnswer.Refused MalformedBuffer); reception = r })
+    (record { answer = packetNumbers (PacketAnswer.Refused Malformed); reception = r })
 
 -- Report
 
@@ -118,4 +118,4 @@ reportCall r =
     cond (wellFormed r)
     (cond (eqb (r .«transit_set») 0) (record { answer = blockNumbers 0 noBlock; reception = r })
     (record { answer = blockNumbers 0 (blockOf r); reception = withCounts r (noted (r .counts)) }))
-    (record { answer = reportNumbers (ReportAnswer.Refused MalformedBuffer); reception = r })
+    (record { answer = reportNumbers (ReportAnswer.Refused Malformed); reception = r })

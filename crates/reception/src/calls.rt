@@ -92,7 +92,7 @@ pub fn packet(reception: Reception, sequence: u16, timestamp: u32, arrival: u32)
 {
     if !record::well_formed(reception) {
         return Received {
-            answer: PacketAnswer::Refused(Refusal::MalformedBuffer),
+            answer: PacketAnswer::Refused(Refusal::Malformed),
             reception,
         };
     }
@@ -136,7 +136,7 @@ pub fn report(reception: Reception) -> Reported
 {
     if !record::well_formed(reception) {
         return Reported {
-            answer: ReportAnswer::Refused(Refusal::MalformedBuffer),
+            answer: ReportAnswer::Refused(Refusal::Malformed),
             reception,
         };
     }

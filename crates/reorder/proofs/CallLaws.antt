@@ -12,7 +12,7 @@ use Rattle.rtp.specs.Ranges.{inRange}
 use Rattle.rtp.specs.Refusals.{number}
 use Rattle.rtp.specs.Faults.{fault}
 use Rattle.rtp.specs.declared.settings.Settings.{Settings}
-use Rattle.rtp.specs.declared.refusal.Refusal.the-variants.{SettingsOutOfRange, MalformedBuffer, AreaTooShort}
+use Rattle.rtp.specs.declared.refusal.Refusal.the-variants.{SettingsOutOfRange, Malformed, AreaTooShort}
 use Rattle.rtp.proofs.TestLaws.{by-test}
 use Rattle.packet.specs.Readings.{Outcome, refused, readAs, reading}
 use Rattle.packet.proofs.PlaceLaws.{place-small}
@@ -41,7 +41,7 @@ module _ (b : Buffer) (packet rows store : List ℕ) where
   offer-out h = rw h
 
   module _ (h : inRange (b .settings) ≡ true) where
-    pub offer-malformed : wellFormed b ≡ false → offerCall b packet rows store ≡ offerRefused (fault MalformedBuffer) b rows store
+    pub offer-malformed : wellFormed b ≡ false → offerCall b packet rows store ≡ offerRefused (fault Malformed) b rows store
     unfolding offerCall
     offer-malformed w = rw (h, w)
 

@@ -10,7 +10,7 @@ use Rattle.rtp.specs.Areas.{over}
 use Rattle.rtp.specs.declared.settings.Settings.{Settings}
 use Rattle.rtp.specs.declared.refusal.Refusal.{Refusal}
 use Rattle.rtp.specs.declared.refusal.Fault.{Fault}
-use Rattle.rtp.specs.declared.refusal.Refusal.the-variants.{SettingsOutOfRange, MalformedBuffer}
+use Rattle.rtp.specs.declared.refusal.Refusal.the-variants.{SettingsOutOfRange, Malformed}
 use Rattle.frame_rows.specs.Rows.{words}
 use Rattle.playout.specs.Verdicts.{Counts, noCounts, tally}
 use Rattle.layout.specs.declared.buffer.Buffer.{Buffer}
@@ -97,5 +97,5 @@ unfoldable pub offerCall : Buffer → List ℕ → List ℕ → List ℕ → Off
 offerCall b packet rows store =
     cond (inRange (b .settings))
     (cond (wellFormed b) (offerDone b rows store (offerTo (model b) packet (length rows) store))
-    (offerRefused (fault MalformedBuffer) b rows store))
+    (offerRefused (fault Malformed) b rows store))
     (offerRefused (fault SettingsOutOfRange) b rows store)

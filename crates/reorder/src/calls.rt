@@ -143,7 +143,7 @@ fn offer_checked(buffer: Buffer, packet: &[u8], rows: &mut [u32], store: &mut [u
         settings,
     };
     if !well_formed::well_formed(&times, &tags, &lengths, &slots, occupied, fixed) {
-        return refuse_offer(Refusal::MalformedBuffer, 0, buffer);
+        return refuse_offer(Refusal::Malformed, 0, buffer);
     }
     if rows.len() < ROW_AREA {
         return refuse_offer(Refusal::AreaTooShort, 0, buffer);

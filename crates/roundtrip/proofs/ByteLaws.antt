@@ -10,10 +10,10 @@ use lib.Dec.{eqb}
 use Rattle.rtp.specs.Sizes.{maxRows}
 use Rattle.rtp.proofs.ByteLaws.{bytes-drop}
 use Rattle.contents.specs.Contents.{Group, rowCount}
-use Rattle.frame_rows.specs.Rows.{Row}
+use Rattle.frame_rows.specs.Rows.{Row, frameIn}
 use Rattle.formats.specs.Formats.{formatOf, maxGap}
 use Rattle.plans.specs.Plans.{headGap}
-use Rattle.encoder.specs.Bytes.{halves, firstByte, startBytes, gapBytes, entryBytes, tableBytes, frameIn, frames}
+use Rattle.encoder.specs.Bytes.{halves, firstByte, startBytes, gapBytes, entryBytes, tableBytes, frames}
 use Rattle.payload_sizes.specs.Asking.{requestBytes, maxRequest}
 use Rattle.roundtrip.specs.ReadingBack.{Bytes}
 use Rattle.encoder.proofs.EntryLaws.{first-small}

@@ -10,9 +10,9 @@ use lib.Dec.{ltb}
 use borrow.Author.Tests.{ltb-false}
 use Rattle.rtp.proofs.TestLaws.{neither}
 use Rattle.rtp.proofs.AreaLaws.{part-size}
-use Rattle.frame_rows.specs.Rows.{Row}
+use Rattle.frame_rows.specs.Rows.{Row, frameIn}
 use Rattle.plans.specs.Lists.{outside}
-use Rattle.encoder.specs.Bytes.{frameIn, frames}
+use Rattle.encoder.specs.Bytes.{frames}
 use Rattle.plans.specs.Room.{lengthsIn}
 use Rattle.roundtrip.specs.ReadingBack.{SameFrames}
 use Rattle.roundtrip.proofs.TableBlockLaws.{Laid}

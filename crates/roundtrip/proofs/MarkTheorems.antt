@@ -7,11 +7,11 @@ use lib.ListN.{length, take, drop}
 use Rattle.rtp.specs.declared.settings.Settings.{Settings}
 use Rattle.tags.specs.Tags.{redundantMark, tagMark, tagClass, tagChannel}
 use Rattle.contents.specs.Contents.{Contents, refused, groups}
-use Rattle.frame_rows.specs.Rows.{Row, rowsIn, withMark, marked}
+use Rattle.frame_rows.specs.Rows.{Row, frameIn, rowsIn, withMark, marked}
 use Rattle.frame_rows.proofs.RowLaws.{length-marked}
 use Rattle.plans.specs.Lists.{firstTime, outside}
 use Rattle.plans.specs.Plans.{planFrom, plan, stepBefore}
-use Rattle.encoder.specs.Bytes.{tableBytes, frameIn, frames}
+use Rattle.encoder.specs.Bytes.{tableBytes, frames}
 use Rattle.payload_sizes.specs.Asking.{requestBytes}
 use Rattle.encoder.specs.Writings.{bytesOf, plannedBytes, encoded, writing}
 use Rattle.payload_sizes.specs.Measures.{measured}

@@ -10,9 +10,8 @@ use lib.Dec.{ltb}
 use borrow.Author.Tests.{ltb-false}
 use Rattle.rtp.proofs.TestLaws.{neither}
 use Rattle.rtp.proofs.AreaLaws.{part-size}
-use Rattle.frame_rows.specs.Rows.{Row}
+use Rattle.frame_rows.specs.Rows.{Row, frameIn}
 use Rattle.plans.specs.Lists.{outside}
-use Rattle.encoder.specs.Bytes.{frameIn}
 use Rattle.roundtrip.specs.ReadingBack.{SameFrames}
 
 pub same-length : (p bytes : List ℕ) (qs rs : List Row) → SameFrames p bytes qs rs → length qs ≡ length rs

@@ -1,26 +1,17 @@
 -- What it is to read back to a frame list.
-use Prim.Native.Nat.{ℕ, _<_, _^_}
+use Prim.Native.Nat.{ℕ}
 use mathlib.Core.Path.{_≡_}
 use mathlib.Core.List.{List, [], _∷_}
 use mathlib.Core.Bool.{true, cond}
-use lib.ListN.{getD}
 use lib.Dec.{eqb}
+pub use Rattle.rtp.specs.Numbers.{Bytes, Words}
 use Rattle.rtp.specs.declared.settings.Settings.{Settings}
 use Rattle.formats.specs.Formats.{formatOf}
 use Rattle.tags.specs.Tags.{primaryMark}
-use Rattle.frame_rows.specs.Rows.{Row}
+use Rattle.frame_rows.specs.Rows.{Row, frameIn}
 use Rattle.payload.specs.Payloads.{noRequest, rowsOf, payloadRows}
 use Rattle.plans.specs.Lists.{rowsIn, firstTime, whole}
-use Rattle.encoder.specs.Bytes.{frameIn}
 use Rattle.roundtrip.specs.Marks.{AllMarked}
-
--- each element is a byte
-abbrev pub Bytes : List ℕ → Type 0
-Bytes s = (i : ℕ) → getD s i 0 < 256
-
--- each element is a 32-bit word
-abbrev pub Words : List ℕ → Type 0
-Words ws = (i : ℕ) → getD ws i 0 < 2 ^ 32
 
 -- a row q of the payload p is the row r of the list: the same time, class, channel, length and frame bytes; starts and marks may differ
 pub record SameFrame (p bytes : List ℕ) (q r : Row) : Type 0 where

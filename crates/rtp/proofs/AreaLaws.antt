@@ -34,6 +34,10 @@ over-part a b l m e n h p q =
     let all : take (length m - n) (drop n m) ≡ drop n m = take-all (length m - n) (drop n m) (simp length-drop (omega arith)) in
     rw (first, none, append-nil, q, all, rest, ← h) (sym (over-more a b l))
 
+-- how long the part from n on is, where the area kept its length
+pub part-length : (m l : List ℕ) (n : ℕ) → length m ≡ length l → length (take (length m - n) (drop n m)) ≡ length l - n
+part-length m l n h = rw (take-all (length m - n) (drop n m) (simp length-drop (omega arith)), length-drop, h)
+
 -- what fits is written over the front, and what does not leaves the area
 pub fitted-in : (ws l : List ℕ) → length ws ≤ length l → fitted ws l ≡ over ws l
 unfolding fitted
@@ -42,6 +46,19 @@ fitted-in ws l h = rw (le-leb (length ws) (length l) h)
 pub fitted-short : (ws l : List ℕ) → length l < length ws → fitted ws l ≡ l
 unfolding fitted
 fitted-short ws l h = rw (lt-leb (length ws) (length l) h)
+
+-- the area keeps its length
+pub length-over : (ws l : List ℕ) → length ws ≤ length l → length (over ws l) ≡ length l
+unfolding over
+length-over ws l h = simp (length-append, length-drop) (omega arith)
+
+-- the area from n on to its end, lent and written where it fits
+pub fitted-part : (a b l m e : List ℕ) (n : ℕ) → length a ≡ n → n + length b ≤ length l → m ≡ over a l → e ≡ fitted b (take (length m - n) (drop n m))
+    → putMid n (length m - n) m e ≡ over (a ++ b) l
+fitted-part a b l m e n h r p q =
+    let k : length m ≡ length l = ap length p ∙ length-over a l (omega arith) in
+    let room : length b ≤ length (take (length m - n) (drop n m)) = rw (part-length m l n k) (omega arith) in
+    over-part a b l m e n h p (q ∙ fitted-in b _ room)
 
 -- one store, two and four at the front
 pub over-one : (l : List ℕ) (a : ℕ) → 1 ≤ length l → set l 0 a ≡ over (a ∷ []) l
@@ -62,10 +79,6 @@ over-four (w ∷ []) a b c d h = absurd (omega arith)
 over-four (w ∷ x ∷ []) a b c d h = absurd (omega arith)
 over-four (w ∷ x ∷ y ∷ []) a b c d h = absurd (omega arith)
 over-four (w ∷ x ∷ y ∷ z ∷ l) a b c d h = refl
-
--- how long the part from n on is, where the area kept its length
-pub part-length : (m l : List ℕ) (n : ℕ) → length m ≡ length l → length (take (length m - n) (drop n m)) ≡ length l - n
-part-length m l n h = rw (take-all (length m - n) (drop n m) (simp length-drop (omega arith)), length-drop, h)
 
 -- a part to the end
 pub part-to-end : (n : ℕ) (s : List ℕ) → take (length s - n) (drop n s) ≡ drop n s

@@ -7,10 +7,7 @@ use lib.ListN.{length, drop}
 use lib.Seq.{getD-drop}
 use borrow.Author.Tests.{le-leb, lt-leb}
 use Rattle.rtp.specs.Numbers.{byteAt, be16, be32, readU16, readU32, two, four}
-
--- each element is a byte
-abbrev pub Bytes : List ℕ → Type 0
-Bytes s = (i : ℕ) → byteAt s i < 256
+pub use Rattle.rtp.specs.Numbers.{Bytes}
 
 pub bytes-drop : (n : ℕ) (s : List ℕ) → Bytes s → Bytes (drop n s)
 bytes-drop n s bs i = rw getD-drop (bs (n + i))

@@ -3,3 +3,4 @@ pub mod AreaLaws
 pub mod ByteLaws
 pub mod RefusalLaws
 pub mod RangeLaws
+pub mod StoreLaws

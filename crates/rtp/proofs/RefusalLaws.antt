@@ -8,7 +8,7 @@ use lib.ListN.{getD}
 use lib.Dec.{eqb}
 use borrow.Author.Tests.{ne-eqb}
 use Rattle.rtp.specs.declared.refusal.Refusal.{Refusal}
-use Rattle.rtp.specs.declared.refusal.Refusal.the-variants.{PacketLength, Version, HeaderTruncated, PaddingCount, UnknownPayloadType, ContentsTruncated, ReservedCode, NoFrameBlocks, TooManyRows, LengthMismatch, SettingsOutOfRange, AreaTooShort, Unwritable, RowOutsideBytes, MalformedBuffer}
+use Rattle.rtp.specs.declared.refusal.Refusal.the-variants.{PacketLength, Version, HeaderTruncated, PaddingCount, UnknownPayloadType, ContentsTruncated, ReservedCode, NoFrameBlocks, TooManyRows, LengthMismatch, SettingsOutOfRange, AreaTooShort, Unwritable, RowOutsideBytes, Malformed, CutField, MisplacedTag, NotAllowed, WrongCount}
 use Rattle.rtp.specs.declared.refusal.Fault.{Fault}
 use Rattle.rtp.specs.Refusals.{number}
 use Rattle.rtp.specs.Faults.{faultAt}
@@ -29,11 +29,15 @@ number-positive SettingsOutOfRange = omega arith
 number-positive AreaTooShort = omega arith
 number-positive Unwritable = omega arith
 number-positive RowOutsideBytes = omega arith
-number-positive MalformedBuffer = omega arith
+number-positive Malformed = omega arith
+number-positive CutField = omega arith
+number-positive MisplacedTag = omega arith
+number-positive NotAllowed = omega arith
+number-positive WrongCount = omega arith
 
 -- each has its own
 refusalOf : ℕ → Refusal
-refusalOf n = getD (PacketLength ∷ PacketLength ∷ Version ∷ HeaderTruncated ∷ PaddingCount ∷ UnknownPayloadType ∷ ContentsTruncated ∷ ReservedCode ∷ NoFrameBlocks ∷ TooManyRows ∷ LengthMismatch ∷ SettingsOutOfRange ∷ AreaTooShort ∷ Unwritable ∷ RowOutsideBytes ∷ MalformedBuffer ∷ []) n PacketLength
+refusalOf n = getD (PacketLength ∷ PacketLength ∷ Version ∷ HeaderTruncated ∷ PaddingCount ∷ UnknownPayloadType ∷ ContentsTruncated ∷ ReservedCode ∷ NoFrameBlocks ∷ TooManyRows ∷ LengthMismatch ∷ SettingsOutOfRange ∷ AreaTooShort ∷ Unwritable ∷ RowOutsideBytes ∷ Malformed ∷ PacketLength ∷ CutField ∷ MisplacedTag ∷ NotAllowed ∷ WrongCount ∷ []) n PacketLength
 
 back : (r : Refusal) → refusalOf (number r) ≡ r
 unfolding refusalOf
@@ -51,7 +55,11 @@ back SettingsOutOfRange = refl
 back AreaTooShort = refl
 back Unwritable = refl
 back RowOutsideBytes = refl
-back MalformedBuffer = refl
+back Malformed = refl
+back CutField = refl
+back MisplacedTag = refl
+back NotAllowed = refl
+back WrongCount = refl
 
 pub same-number : (a b : Refusal) → number a ≡ number b → a ≡ b
 same-number a b h = sym (back a) ∙ ap refusalOf h ∙ back b

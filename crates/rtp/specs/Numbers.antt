@@ -1,5 +1,5 @@
 -- Big-endian numbers in a list of bytes.
-use Prim.Native.Nat.{ℕ, _+_, _*_, _/_, _%_}
+use Prim.Native.Nat.{ℕ, _+_, _*_, _/_, _%_, _^_, _<_}
 use mathlib.Core.List.{List, [], _∷_}
 use mathlib.Core.Bool.{cond}
 use lib.ListN.{length, getD}
@@ -7,6 +7,13 @@ use lib.Dec.{leb}
 
 abbrev pub byteAt : List ℕ → ℕ → ℕ
 byteAt s i = getD s i 0
+
+-- each element is a byte, or a 32-bit word
+abbrev pub Bytes : List ℕ → Type 0
+Bytes s = (i : ℕ) → byteAt s i < 256
+
+abbrev pub Words : List ℕ → Type 0
+Words ws = (i : ℕ) → getD ws i 0 < 2 ^ 32
 
 abbrev pub be16 : List ℕ → ℕ → ℕ
 be16 s i = 256 * byteAt s i + byteAt s (i + 1)

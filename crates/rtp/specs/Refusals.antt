@@ -1,7 +1,8 @@
--- Document 01, "Refusal numbers".
+-- Document 01, "Refusal numbers", and document 02, P3: 17 cut field, 18 tag in the wrong place or missing, 19 content not allowed by the settings, 20 wrong
+-- count.
 use Prim.Native.Nat.{ℕ}
 use Rattle.rtp.specs.declared.refusal.Refusal.{Refusal}
-use Rattle.rtp.specs.declared.refusal.Refusal.the-variants.{PacketLength, Version, HeaderTruncated, PaddingCount, UnknownPayloadType, ContentsTruncated, ReservedCode, NoFrameBlocks, TooManyRows, LengthMismatch, SettingsOutOfRange, AreaTooShort, Unwritable, RowOutsideBytes, MalformedBuffer}
+use Rattle.rtp.specs.declared.refusal.Refusal.the-variants.{PacketLength, Version, HeaderTruncated, PaddingCount, UnknownPayloadType, ContentsTruncated, ReservedCode, NoFrameBlocks, TooManyRows, LengthMismatch, SettingsOutOfRange, AreaTooShort, Unwritable, RowOutsideBytes, Malformed, CutField, MisplacedTag, NotAllowed, WrongCount}
 
 -- the number of each reason; an answer that is no refusal has the number 0
 abbrev pub number : Refusal → ℕ
@@ -19,4 +20,8 @@ number SettingsOutOfRange = 11
 number AreaTooShort = 12
 number Unwritable = 13
 number RowOutsideBytes = 14
-number MalformedBuffer = 15
+number Malformed = 15
+number CutField = 17
+number MisplacedTag = 18
+number NotAllowed = 19
+number WrongCount = 20

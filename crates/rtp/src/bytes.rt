@@ -1,4 +1,4 @@
-// Big-endian numbers in a slice of bytes: the one place where they are read and written.
+// Big-endian numbers and bytes in a slice of bytes: the one place where they are read and written.
 ghost use mathlib.Core.Path.{_≡_};
 ghost use Prim.Native.Nat.{_<_};
 ghost use Rattle.rtp.specs.Numbers.{readU16, readU32, two, four};
@@ -62,4 +62,18 @@ pub fn put_u32(out: &mut [u8], n: u32)
     out[1] = (n / 65536 % 256) as u8;
     out[2] = (n / 256 % 256) as u8;
     out[3] = (n % 256) as u8;
+}
+
+// Bytes over the front of the area, likewise.
+pub fn put_bytes(out: &mut [u8], src: &[u8])
+    ensures { λ _. ⌜ now (out .exit) ≡ fitted (now (src .entry)) (now (out .entry)) ⌝ }
+{
+    if out.len() < src.len() {
+        return;
+    }
+    let mut i = 0;
+    while i < src.len() {
+        out[i] = src[i];
+        i += 1;
+    }
 }

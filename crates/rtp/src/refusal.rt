@@ -17,7 +17,11 @@ pub enum Refusal {
     AreaTooShort,
     Unwritable,
     RowOutsideBytes,
-    MalformedBuffer,
+    Malformed,
+    CutField,
+    MisplacedTag,
+    NotAllowed,
+    WrongCount,
 }
 
 // Why bytes were refused, and where: the offset of the place at fault from the front of what was read, 0 where a refusal has none.
@@ -45,6 +49,10 @@ pub fn refusal_number(refusal: Refusal) -> u32
         Refusal::AreaTooShort => 12,
         Refusal::Unwritable => 13,
         Refusal::RowOutsideBytes => 14,
-        Refusal::MalformedBuffer => 15,
+        Refusal::Malformed => 15,
+        Refusal::CutField => 17,
+        Refusal::MisplacedTag => 18,
+        Refusal::NotAllowed => 19,
+        Refusal::WrongCount => 20,
     }
 }

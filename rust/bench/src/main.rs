@@ -1,15 +1,18 @@
 //! Prints nanoseconds an operation, and how many times as long the others take: reading, writing, offer + draw, and reception reports, by
-//! the proved library, by plain Rust, by libre's and speexdsp's jitter buffers, and two copies of the frame for scale.
+//! the proved library, by plain Rust, by libre's and speexdsp's jitter buffers, and two copies of the frame for scale. Of logs it prints
+//! bytes a second, with a copy of the log for scale.
 //!
 //! Each figure is the least of several samples, taken turn by turn so that all contenders meet the same machine. Build with the
 //! profile `measured`: bench.sh does.
 
 use bench::plain;
-use reference::{step_ticks, DRAW_AREA, HEADER_BYTES, MAX_PACKET, ROW_AREA, SLOTS, SLOT_BYTES, STORE_BYTES};
+use reference::{step_ticks, DRAW_AREA, HEADER_BYTES, LOG_FRAME, MAX_PACKET, ROW_AREA, SLOTS, SLOT_BYTES, STORE_BYTES};
 use std::hint::black_box;
 use std::time::{Duration, Instant};
 
 const SAMPLES: usize = 200;
+/// of rounds that are longer than a sample by themselves
+const FEW_SAMPLES: usize = 40;
 const SAMPLE: Duration = Duration::from_micros(400);
 const PLAIN: u8 = 97;
 const REDUNDANCY: u8 = 121;
@@ -29,10 +32,21 @@ fn contender<'a>(name: &'static str, round: impl FnMut() -> usize + 'a) -> Conte
     Contender { name, round: Box::new(round) }
 }
 
-/// Measures the contenders and prints one line of the table.
-fn measure(title: &str, columns: &[&str], mut contenders: Vec<Contender>) {
+/// Measures the contenders and prints one line of the table, in nanoseconds.
+fn measure(title: &str, columns: &[&str], contenders: Vec<Contender>) {
+    measure_in(|time| format!("{} ns", shown(time)), SAMPLES, title, columns, contenders);
+}
+
+/// Measures the contenders, each operation a byte, and prints one line of the table, in bytes a second.
+fn measure_bytes(samples: usize, title: &str, columns: &[&str], contenders: Vec<Contender>) {
+    // a byte in a nanosecond
+    let rate = |time: f64| 1.0 / time;
+    measure_in(|time| format!("{:.2} GB/s", rate(time)), samples, title, columns, contenders);
+}
+
+fn measure_in(said: impl Fn(f64) -> String, samples: usize, title: &str, columns: &[&str], mut contenders: Vec<Contender>) {
     let mut least = vec![f64::INFINITY; contenders.len()];
-    for sample in 0..=SAMPLES {
+    for sample in 0..=samples {
         for (contender, least) in contenders.iter_mut().zip(&mut least) {
             let start = Instant::now();
             let mut operations = 0;
@@ -51,8 +65,8 @@ fn measure(title: &str, columns: &[&str], mut contenders: Vec<Contender>) {
     for column in columns {
         match contenders.iter().position(|contender| contender.name == *column) {
             None => print!("{:>20}", "-"),
-            Some(0) => print!("{:>20}", format!("{} ns", shown(least[0]))),
-            Some(i) => print!("{:>20}", format!("{} ns ({:.2})", shown(least[i]), least[i] / base)),
+            Some(0) => print!("{:>20}", said(least[0])),
+            Some(i) => print!("{:>20}", format!("{} ({:.2})", said(least[i]), least[i] / base)),
         }
     }
     println!();
@@ -83,7 +97,7 @@ fn settings(format: u8, channels: u8) -> reference::Settings {
     reference::Settings { format, channels, payload_type: PLAIN, redundancy_type: REDUNDANCY }
 }
 
-#[cfg(any(feature = "read", feature = "write", feature = "buffer"))]
+#[cfg(any(feature = "read", feature = "write", feature = "buffer", feature = "log"))]
 fn given(s: reference::Settings) -> heolstorpit::Settings {
     let reference::Settings { format, channels, payload_type, redundancy_type } = s;
     heolstorpit::Settings { format: format.into(), channels, payload_type, redundancy_type }
@@ -597,8 +611,97 @@ fn receiving() {
     }
 }
 
+/// A log of about so many bytes: settings, rows, the bytes that they point into, and the log.
+struct Logged {
+    settings: reference::Settings,
+    rows: Vec<u32>,
+    bytes: Vec<u8>,
+    log: Vec<u8>,
+}
+
+impl Logged {
+    /// Frames of one length, each with bytes of its own.
+    fn new(settings: reference::Settings, length: usize, bytes: usize) -> Logged {
+        let frames = bytes / (LOG_FRAME + length);
+        let row = |i: usize| [(i as u32).wrapping_mul(step_ticks(settings.format)), 256, (length * i) as u32, length as u32];
+        let rows: Vec<u32> = (0..frames).flat_map(row).collect();
+        let bytes: Vec<u8> = (0..length * frames).map(|i| (i * 7 % 251) as u8).collect();
+        let mut log = vec![0; reference::LOG_FIRST + frames * (LOG_FRAME + length) + reference::LOG_LAST];
+        let written = reference::log_write(settings, &rows, &bytes, &mut log);
+        assert_eq!(written, Ok(log.len() as u64));
+        Logged { settings, rows, bytes, log }
+    }
+}
+
+const COPY: &str = "memcpy";
+
+/// Logs by title, with the number of samples.
+fn logs() -> Vec<(&'static str, usize, Logged)> {
+    let (g719, amr) = (settings(1, 1), settings(4, 1));
+    let (small, large) = (64 << 10, 16 << 20);
+    vec![
+        ("64 KiB of G.719 frames of 160 bytes", SAMPLES, Logged::new(g719, LENGTH, small)),
+        ("64 KiB of AMR frames of 31 bytes", SAMPLES, Logged::new(amr, AMR_LENGTH, small)),
+        ("16 MiB of G.719 frames of 160 bytes", FEW_SAMPLES, Logged::new(g719, LENGTH, large)),
+        ("16 MiB of AMR frames of 31 bytes", FEW_SAMPLES, Logged::new(amr, AMR_LENGTH, large)),
+    ]
+}
+
+/// Copies the log.
+fn copier<'a>(logged: &'a Logged) -> Contender<'a> {
+    let mut out = vec![0; logged.log.len()];
+    contender(COPY, move || {
+        black_box(&mut out).copy_from_slice(black_box(&logged.log));
+        out.len()
+    })
+}
+
+fn logging() {
+    let columns = [LIBRARY, RUST, COPY];
+    let logs = logs();
+    head("Reading a log by steps", &columns);
+    for (title, samples, logged) in &logs {
+        #[allow(unused_mut)]
+        let mut contenders = Vec::new();
+        #[cfg(feature = "log")]
+        contenders.push(contender(LIBRARY, move || {
+            let mut reader = heolstorpit::LogReader::open(black_box(&logged.log)).unwrap();
+            while let Some(frame) = reader.step().unwrap() {
+                black_box(frame);
+            }
+            logged.log.len()
+        }));
+        contenders.push(contender(RUST, move || {
+            let mut reader = plain::Log::open(black_box(&logged.log)).unwrap();
+            while let Some(frame) = reader.step().unwrap() {
+                black_box(frame);
+            }
+            logged.log.len()
+        }));
+        contenders.push(copier(logged));
+        measure_bytes(*samples, title, &columns, contenders);
+    }
+    head("Writing a log", &columns);
+    for (title, samples, logged) in &logs {
+        let Logged { settings: s, rows, bytes, log } = logged;
+        let mut out = vec![0; log.len()];
+        #[allow(unused_mut)]
+        let mut contenders = Vec::new();
+        #[cfg(feature = "log")]
+        {
+            let mut out = vec![0; log.len()];
+            contenders
+                .push(contender(LIBRARY, move || heolstorpit::write_log(given(*s), black_box(rows), bytes, black_box(&mut out)).unwrap()));
+        }
+        contenders.push(contender(RUST, move || plain::write_log(*s, black_box(rows), bytes, black_box(&mut out)).unwrap()));
+        contenders.push(copier(logged));
+        measure_bytes(*samples, title, &columns, contenders);
+    }
+}
+
 fn main() {
-    println!("Nanoseconds an operation, the least of {SAMPLES} samples; in brackets: times as long as {LIBRARY}.");
+    println!("Nanoseconds an operation, or bytes a second of a log, the best of {SAMPLES} samples (of {FEW_SAMPLES} with 16 MiB); in");
+    println!("brackets: times as long as {LIBRARY}.");
     if !cfg!(feature = "libre") {
         println!("libre-dev is not installed: its jbuf is left out.");
     }
@@ -610,6 +713,7 @@ fn main() {
         ("write", cfg!(feature = "write")),
         ("buffer", cfg!(feature = "buffer")),
         ("reception", cfg!(feature = "reception")),
+        ("log", cfg!(feature = "log")),
     ] {
         if !on {
             println!("Built without the library's functions of the group `{group}`: the first column there is plain Rust.");
@@ -617,7 +721,9 @@ fn main() {
     }
     // words: only these parts
     let words: Vec<String> = std::env::args().skip(1).collect();
-    for (word, part) in [("reading", reading as fn()), ("writing", writing), ("gathering", gathering), ("receiving", receiving)] {
+    let parts =
+        [("reading", reading as fn()), ("writing", writing), ("gathering", gathering), ("receiving", receiving), ("logging", logging)];
+    for (word, part) in parts {
         if words.is_empty() || words.iter().any(|w| w == word) {
             part();
         }

@@ -675,3 +675,124 @@ impl Reception {
         Report { fraction_lost, cumulative_lost, highest_sequence, jitter: (self.jitter >> 4) as u32 }
     }
 }
+
+// The log
+
+/// A frame of a log.
+#[derive(Clone, Copy, Debug, PartialEq, Eq)]
+pub struct Logged<'a> {
+    pub time: u32,
+    pub channel: u8,
+    pub class: u8,
+    pub bytes: &'a [u8],
+}
+
+/// Reads a log where it stands.
+#[derive(Clone, Debug)]
+pub struct Log<'a> {
+    pub settings: Settings,
+    /// from the next field on
+    rest: &'a [u8],
+    count: u32,
+}
+
+/// A log from a field on: the content of the field, and what comes after it.
+fn split_field(log: &[u8]) -> Result<(&[u8], &[u8]), u32> {
+    let Some((head, rest)) = log.split_at_checked(FIELD_HEAD) else {
+        return Err(CUT_FIELD);
+    };
+    rest.split_at_checked(u16::from_be_bytes([head[1], head[2]]) as usize).ok_or(CUT_FIELD)
+}
+
+fn allowed(s: Settings, channel: u32, class: u32, length: u32) -> bool {
+    channel < s.channels as u32 && class != 0 && code(s.format, class, length).is_some()
+}
+
+impl<'a> Log<'a> {
+    pub fn open(log: &'a [u8]) -> Result<Log<'a>, u32> {
+        if log.first() != Some(&SETTINGS_TAG) {
+            return Err(MISPLACED_TAG);
+        }
+        let (content, rest) = split_field(log)?;
+        let &[format, channels, payload_type, redundancy_type] = content else {
+            return Err(NOT_ALLOWED);
+        };
+        let settings = Settings { format, channels, payload_type, redundancy_type };
+        if settings.in_range() {
+            Ok(Log { settings, rest, count: 0 })
+        } else {
+            Err(NOT_ALLOWED)
+        }
+    }
+
+    /// The next frame, or nothing at the end.
+    pub fn step(&mut self) -> Result<Option<Logged<'a>>, u32> {
+        let mut from = self.rest;
+        while let Some(tag) = from.first() {
+            if *tag == SETTINGS_TAG {
+                return Err(MISPLACED_TAG);
+            }
+            let (content, rest) = split_field(from)?;
+            match *tag {
+                FRAME_TAG => {
+                    let &[a, b, c, d, channel, class, ref bytes @ ..] = content else {
+                        return Err(NOT_ALLOWED);
+                    };
+                    if !allowed(self.settings, channel as u32, class as u32, bytes.len() as u32) {
+                        return Err(NOT_ALLOWED);
+                    }
+                    self.rest = rest;
+                    self.count = self.count.wrapping_add(1);
+                    return Ok(Some(Logged { time: u32::from_be_bytes([a, b, c, d]), channel, class, bytes }));
+                }
+                END_TAG => {
+                    let &[a, b, c, d] = content else {
+                        return Err(NOT_ALLOWED);
+                    };
+                    if u32::from_be_bytes([a, b, c, d]) != self.count {
+                        return Err(WRONG_COUNT);
+                    }
+                    return if rest.is_empty() { Ok(None) } else { Err(MISPLACED_TAG) };
+                }
+                _ => from = rest,
+            }
+        }
+        Err(MISPLACED_TAG)
+    }
+}
+
+pub fn write_log(s: Settings, words: &[u32], bytes: &[u8], out: &mut [u8]) -> Result<usize, u32> {
+    if !s.in_range() {
+        return Err(BAD_SETTINGS);
+    }
+    if outside(words, bytes) {
+        return Err(ROW_OUTSIDE);
+    }
+    if words.len() % ROW_WORDS != 0 || words.len() / ROW_WORDS > u32::MAX as usize {
+        return Err(NOT_ALLOWED);
+    }
+    let mut size = LOG_FIRST + LOG_LAST;
+    for row in words.chunks_exact(ROW_WORDS) {
+        if !allowed(s, row[1] & 255, (row[1] & !PRIMARY) / 256, row[3]) {
+            return Err(NOT_ALLOWED);
+        }
+        size += LOG_FRAME + row[3] as usize;
+    }
+    let Some(out) = out.get_mut(..size) else {
+        return Err(AREA_TOO_SHORT);
+    };
+    let (first, mut rest) = out.split_at_mut(LOG_FIRST);
+    first.copy_from_slice(&[SETTINGS_TAG, 0, 4, s.format, s.channels, s.payload_type, s.redundancy_type]);
+    for row in words.chunks_exact(ROW_WORDS) {
+        let (start, length) = (row[2] as usize, row[3] as usize);
+        let (field, after) = rest.split_at_mut(LOG_FRAME + length);
+        let (size, time) = (((FRAME_HEAD + length) as u16).to_be_bytes(), row[0].to_be_bytes());
+        let (channel, class) = (row[1] as u8, (row[1] >> 8) as u8);
+        field[..LOG_FRAME].copy_from_slice(&[FRAME_TAG, size[0], size[1], time[0], time[1], time[2], time[3], channel, class]);
+        field[LOG_FRAME..].copy_from_slice(&bytes[start..start + length]);
+        rest = after;
+    }
+    rest[..FIELD_HEAD].copy_from_slice(&[END_TAG, 0, 4]);
+    rest[FIELD_HEAD..].copy_from_slice(&((words.len() / ROW_WORDS) as u32).to_be_bytes());
+    Ok(size)
+}

@@ -1,7 +1,7 @@
 //! The plain Rust version answers and leaves what the reference does.
 
 use bench::plain;
-use cases::{Arrival, Random, Shape, Source};
+use cases::{Arrival, Random, Shape, Source, LOG_LIST_SPOILS, LOG_SPOILS};
 use reference::{DRAW_AREA, MAX_PACKET, MAX_PAYLOAD, MAX_ROWS, ROW_AREA, ROW_WORDS, STORE_BYTES};
 
 #[test]
@@ -98,5 +98,52 @@ fn receiving() {
             }
         }
         assert_eq!(Ok(mine.report()), reference::reception_report(&theirs).1);
+    }
+}
+
+#[test]
+fn logs() {
+    let mut r = Random::new(45);
+    for i in 0..100_000 {
+        let s = cases::settings(&mut r);
+        let rows = r.below(6);
+        let mut log = match r.below(3) {
+            0 => cases::spoiled_log(&mut r, s, i % LOG_SPOILS.len()).log,
+            _ => cases::log_bytes(&cases::log_fields(&mut r, s, rows, 20)),
+        };
+        if r.percent(30) {
+            cases::damage_log(&mut r, &mut log);
+        }
+        let whole = reference::read_log(&log);
+        let mut frames = whole.frames.iter();
+        let ending = plain::Log::open(&log).map_or_else(
+            |refusal| refusal,
+            |mut mine| loop {
+                assert_eq!(Some(mine.settings), whole.settings);
+                match mine.step() {
+                    Ok(Some(frame)) => {
+                        let of = frames.next().expect("a frame of the reference");
+                        let bytes = &log[of.start as usize..][..of.length as usize];
+                        assert_eq!((frame.time, frame.channel as u32, frame.class as u32), (of.time, of.channel, of.class));
+                        assert_eq!(frame.bytes, bytes);
+                    }
+                    Ok(None) => break 0,
+                    Err(refusal) => break refusal,
+                }
+            },
+        );
+        assert_eq!((ending, frames.next()), (whole.refusal, None), "{log:02x?}");
+
+        let mut list = cases::log_list(&mut r, s, rows);
+        let given = if r.percent(2) { cases::bad_settings(&mut r) } else { s };
+        let length = cases::log_length(&list);
+        if rows > 0 && r.percent(30) {
+            cases::spoil_log_list(&mut r, s, &mut list, i % LOG_LIST_SPOILS.len());
+        }
+        let out = if r.percent(80) { length } else { r.below(length) };
+        let (mut one, mut two) = (vec![7; out], vec![7; out]);
+        let mine = plain::write_log(given, &list.words, &list.bytes, &mut one).map(|length| length as u64);
+        let theirs = reference::log_write(given, &list.words, &list.bytes, &mut two);
+        assert_eq!((mine, one), (theirs, two), "{given:?} {list:?}");
     }
 }

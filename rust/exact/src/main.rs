@@ -7,9 +7,9 @@
 mod convert;
 
 use cases::{Random, Shape};
-use convert::{raw_drawn, raw_reception, settings, to_raw};
+use convert::{raw_cursor, raw_drawn, raw_log_written, raw_opened, raw_reception, raw_stepped, settings, to_raw};
 use heolstorpit::raw;
-use reference::{DRAW_AREA, MAX_PACKET, MAX_PAYLOAD, MAX_ROWS, ROW_AREA, ROW_WORDS, STORE_BYTES};
+use reference::{LogStep, DRAW_AREA, MAX_PACKET, MAX_PAYLOAD, MAX_ROWS, ROW_AREA, ROW_WORDS, STORE_BYTES};
 
 fn main() {
     let cases: usize = match std::env::args().nth(1) {
@@ -25,6 +25,8 @@ fn main() {
     buffer(&mut r, cases);
     #[cfg(feature = "reception")]
     reception(&mut r, cases);
+    #[cfg(feature = "log")]
+    log(&mut r, cases);
 }
 
 /// A heap block of exactly these elements.
@@ -165,4 +167,50 @@ fn reception(r: &mut Random, cases: usize) {
         }
     }
     println!("exact lengths: {cases} calls of reception_packet and of reception_report");
+}
+
+#[cfg(feature = "log")]
+fn log(r: &mut Random, cases: usize) {
+    for i in 0..cases {
+        let s = cases::settings(r);
+        let rows = r.below(6);
+        let mut list = cases::log_list(r, s, rows);
+        let length = cases::log_length(&list);
+        if rows > 0 && r.percent(20) {
+            cases::spoil_log_list(r, s, &mut list, i % cases::LOG_LIST_SPOILS.len());
+        }
+        let (words, bytes) = (exact(&list.words), exact(&list.bytes));
+        let out = if r.percent(80) { length } else { r.below(length) };
+        let (mut one, mut two) = (exact(&vec![7; out]), exact(&vec![7; out]));
+        let answer = raw::log_write(settings(s), &words, &bytes, &mut one);
+        let expected = reference::log_write(s, &words, &bytes, &mut two);
+        assert_eq!((answer, &one), (raw_log_written(expected), &two));
+
+        let log = match r.below(4) {
+            0 => exact(&cases::spoiled_log(r, s, i % cases::LOG_SPOILS.len()).log),
+            1 => exact(&two[..r.below(out + 1)]),
+            2 => {
+                let mut log = two.to_vec();
+                cases::damage_log(r, &mut log);
+                exact(&log)
+            }
+            _ => two,
+        };
+        let answer = raw::log_open(&log);
+        let (mut cursor, expected) = reference::log_open(&log);
+        assert_eq!(answer, raw_opened(&cursor, expected));
+        loop {
+            let answer = raw::log_step(raw_cursor(&cursor), &log);
+            let (after, expected) = reference::log_step(&cursor, &log);
+            assert_eq!(answer, raw_stepped(&after, expected));
+            if !matches!(expected, Ok(LogStep::Frame(_))) {
+                break;
+            }
+            cursor = after;
+        }
+        let given = cases::log_cursor(r, s, &log);
+        let (after, expected) = reference::log_step(&given, &log);
+        assert_eq!(raw::log_step(raw_cursor(&given), &log), raw_stepped(&after, expected));
+    }
+    println!("exact lengths: {cases} calls of log_write and of log_open, steps to the end and from any cursor");
 }

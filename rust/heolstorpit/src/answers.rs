@@ -1,6 +1,6 @@
 //! The C functions' answers as results: all of them, whatever their numbers.
 
-use crate::{raw, Buffer, Class, Fault, Refusal};
+use crate::{raw, Buffer, Class, Fault, LogReader, Refusal};
 
 /// What a packet that was read says of itself.
 #[derive(Clone, Copy, Debug, PartialEq, Eq, Hash)]
@@ -64,6 +64,19 @@ pub struct Report {
     pub highest_sequence: u32,
     /// interarrival jitter, in ticks
     pub jitter: u32,
+}
+
+/// A frame of a log, shown where it stands.
+#[derive(Clone, Copy, Debug, PartialEq, Eq, Hash)]
+pub struct LogFrame<'a> {
+    /// timestamp of the frame
+    pub time: u32,
+    /// channels count from 0
+    pub channel: u8,
+    /// what the frame is, one with no name here included
+    pub class: Class,
+    /// the frame: a part of the log
+    pub bytes: &'a [u8],
 }
 
 /// `value` where the number is 0, else the refusal.
@@ -139,5 +152,35 @@ impl raw::Reported {
         let raw::Reported { refusal, fraction_lost, cumulative_lost, highest_sequence, jitter, .. } = *self;
         // a fraction has 8 bits
         accepted(refusal, Report { fraction_lost: fraction_lost as u8, cumulative_lost, highest_sequence, jitter })
+    }
+}
+
+impl raw::LogOpened {
+    /// The reader of the log that was opened, or the refusal.
+    #[inline]
+    pub fn result<'a>(&self, log: &'a [u8]) -> Result<LogReader<'a>, Refusal> {
+        accepted(self.refusal, LogReader::from_raw(log, self.cursor))
+    }
+}
+
+impl raw::LogStepped {
+    /// The frame of the log that the step was made in, whatever its class; nothing at the end; or the refusal. Of places that are not in
+    /// the log, which a step does not answer, there are no bytes.
+    #[inline]
+    pub fn result<'a>(&self, log: &'a [u8]) -> Result<Option<LogFrame<'a>>, Refusal> {
+        let raw::LogStepped { refusal, end, time, channel, frame_class, start, length, .. } = *self;
+        let part = |start: u64, length: u64| log.get(usize::try_from(start).ok()?..)?.get(..usize::try_from(length).ok()?);
+        // a channel has 8 bits of a field
+        let (channel, class) = (channel as u8, Class::from(frame_class));
+        accepted(refusal, (end == 0).then(|| LogFrame { time, channel, class, bytes: part(start, length).unwrap_or_default() }))
+    }
+}
+
+impl raw::LogWritten {
+    /// The number of bytes written, or the refusal.
+    #[inline]
+    pub fn result(&self) -> Result<usize, Refusal> {
+        // no more than the area has
+        accepted(self.refusal, self.length as usize)
     }
 }

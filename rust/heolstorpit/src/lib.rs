@@ -1,5 +1,5 @@
-//! RTP packets of G.719, GSM-HR, AMR and AMR-WB sound: read into frame rows, gathered and drawn in time order, written; and reception
-//! reports.
+//! RTP packets of G.719, GSM-HR, AMR and AMR-WB sound: read into frame rows, gathered and drawn in time order, written; reception
+//! reports; and logs of frames, written and read.
 //!
 //! Safe Rust over the proved library `libheolstorpit.a`. Everything is done in memory that the caller lends: nothing
 //! is allocated and nothing is kept. Each function refuses what it cannot do, says why, and then has changed nothing.
@@ -12,6 +12,7 @@
 #![warn(missing_docs)]
 
 mod answers;
+mod log;
 mod numbered;
 pub mod raw;
 mod reception;
@@ -19,7 +20,10 @@ mod refusal;
 mod rows;
 mod sizes;
 
-pub use answers::{Frame, Reading, Report, Verdicts};
+pub use answers::{Frame, LogFrame, Reading, Report, Verdicts};
+pub use log::LogReader;
+#[cfg(feature = "log")]
+pub use log::{write_log, LogFrames};
 pub use numbered::{Class, Format};
 pub use reception::Reception;
 pub use refusal::{Fault, Refusal};

@@ -133,6 +133,49 @@ pub struct Reported {
     pub reception: Reception,
 }
 
+/// `hsp_log_cursor`: where the reading of a log stands.
+#[repr(C)]
+#[derive(Clone, Copy, Debug, Default, PartialEq, Eq, Hash)]
+pub struct LogCursor {
+    pub settings: Settings,
+    pub place: u64,
+    pub count: u64,
+}
+
+const _: () = assert!(size_of::<LogCursor>() == 24 && align_of::<LogCursor>() == 8);
+
+/// `hsp_log_opened`
+#[repr(C)]
+#[derive(Clone, Copy, Debug, Default, PartialEq, Eq)]
+pub struct LogOpened {
+    pub refusal: u32,
+    pub cursor: LogCursor,
+}
+
+/// `hsp_log_stepped`
+#[repr(C)]
+#[derive(Clone, Copy, Debug, Default, PartialEq, Eq)]
+pub struct LogStepped {
+    pub refusal: u32,
+    pub end: u32,
+    pub time: u32,
+    pub channel: u32,
+    pub frame_class: u32,
+    pub start: u64,
+    pub length: u64,
+    pub cursor: LogCursor,
+}
+
+const _: () = assert!(size_of::<LogStepped>() == 64);
+
+/// `hsp_log_written`
+#[repr(C)]
+#[derive(Clone, Copy, Debug, Default, PartialEq, Eq)]
+pub struct LogWritten {
+    pub refusal: u32,
+    pub length: u64,
+}
+
 mod c {
     use super::*;
 
@@ -178,6 +221,17 @@ mod c {
         pub fn hsp_reception_new() -> Reception;
         pub fn hsp_reception_packet(reception: Reception, sequence: u16, timestamp: u32, arrival: u32) -> Received;
         pub fn hsp_reception_report(reception: Reception) -> Reported;
+        pub fn hsp_log_open(log: *const u8, log_length: usize) -> LogOpened;
+        pub fn hsp_log_step(cursor: LogCursor, log: *const u8, log_length: usize) -> LogStepped;
+        pub fn hsp_log_write(
+            settings: Settings,
+            rows: *const u32,
+            rows_length: usize,
+            bytes: *const u8,
+            bytes_length: usize,
+            out: *mut u8,
+            out_length: usize,
+        ) -> LogWritten;
     }
 }
 
@@ -256,4 +310,19 @@ pub fn reception_packet(reception: Reception, sequence: u16, timestamp: u32, arr
 #[cfg(feature = "reception")]
 pub fn reception_report(reception: Reception) -> Reported {
     unsafe { c::hsp_reception_report(reception) }
+}
+
+#[cfg(feature = "log")]
+pub fn log_open(log: &[u8]) -> LogOpened {
+    unsafe { c::hsp_log_open(log.as_ptr(), log.len()) }
+}
+
+#[cfg(feature = "log")]
+pub fn log_step(cursor: LogCursor, log: &[u8]) -> LogStepped {
+    unsafe { c::hsp_log_step(cursor, log.as_ptr(), log.len()) }
+}
+
+#[cfg(feature = "log")]
+pub fn log_write(settings: Settings, rows: &[u32], bytes: &[u8], out: &mut [u8]) -> LogWritten {
+    unsafe { c::hsp_log_write(settings, rows.as_ptr(), rows.len(), bytes.as_ptr(), bytes.len(), out.as_mut_ptr(), out.len()) }
 }

@@ -21,7 +21,11 @@ numbered! {
     12 AreaTooShort "an area is too short for what is written to it"
     13 Unwritable "no payload or packet of the format reads to these rows"
     14 RowOutsideBytes "a row's start and length run past the end of the bytes"
-    15 MalformedBuffer "the reorder buffer, or the record of a reception, is not in a state that its calls leave"
+    15 Malformed "the reorder buffer, the record of a reception or the cursor of a log is not in a state that its calls leave"
+    17 CutField "a field of the log is cut"
+    18 MisplacedTag "a tag of the log is in the wrong place or missing"
+    19 NotAllowed "the log, or a row to be written to it, has content that its settings do not allow"
+    20 WrongCount "the log says another count than that of its frames"
 }
 
 impl Refusal {

@@ -23,7 +23,7 @@ pub struct Row {
 
 impl Row {
     /// The words of the row. The second has 24 bits for the class, without the one that is [`PRIMARY`]: a number that does not fit there
-    /// is no class of any format, and is refused as the writers refuse those, with [`Refusal::Unwritable`].
+    /// is no class of any format, and is refused as the writers of packets refuse those, with [`Refusal::Unwritable`].
     pub fn words(self) -> Result<[u32; ROW_WORDS], Refusal> {
         let class = self.class.number().checked_mul(CLASS_UNIT).filter(|class| class & PRIMARY == 0).ok_or(Refusal::Unwritable)?;
         let primary = if self.primary { PRIMARY } else { 0 };

@@ -28,3 +28,9 @@ pub const PRIMARY: u32 = 65_536;
 pub const NO_REDUNDANCY: u8 = 128;
 /// The mode request that says: none. It is the greatest.
 pub const NO_MODE_REQUEST: u8 = 15;
+/// Bytes of a log's first field, which has the settings.
+pub const LOG_FIRST: usize = 7;
+/// Bytes of a frame's field in a log before the frame's own.
+pub const LOG_FRAME: usize = 9;
+/// Bytes of a log's last field, which has the number of frames.
+pub const LOG_LAST: usize = 7;

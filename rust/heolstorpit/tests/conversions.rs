@@ -6,7 +6,8 @@ mod common;
 use cases::Random;
 use common::{raw_reception, to_raw};
 use heolstorpit::{
-    raw, Buffer, Class, Fault, Format, Frame, Reception, Refusal, Report, Row, Settings, MAX_PACKET, MAX_ROWS, MIN_PACKET, ROW_WORDS,
+    raw, Buffer, Class, Fault, Format, Frame, LogFrame, LogReader, Reception, Refusal, Report, Row, Settings, MAX_PACKET, MAX_ROWS,
+    MIN_PACKET, ROW_WORDS,
 };
 use std::collections::HashSet;
 use std::fmt::Display;
@@ -62,15 +63,18 @@ fn formats() {
 #[test]
 fn refusals() {
     assert_eq!(Refusal::from_number(0), None);
-    assert_eq!(Refusal::NAMED.iter().map(|refusal| refusal.number()).collect::<Vec<_>>(), (1..=15).collect::<Vec<_>>());
+    let named: Vec<u32> = (1..=15).chain(17..=20).collect();
+    assert_eq!(Refusal::NAMED.iter().map(|refusal| refusal.number()).collect::<Vec<_>>(), named);
     assert_eq!(Refusal::from_number(1), Some(Refusal::PacketLength));
-    assert_eq!(Refusal::from_number(15), Some(Refusal::MalformedBuffer));
+    assert_eq!(Refusal::from_number(15), Some(Refusal::Malformed));
+    let log = [Refusal::CutField, Refusal::MisplacedTag, Refusal::NotAllowed, Refusal::WrongCount];
+    assert_eq!([17, 18, 19, 20].map(Refusal::from_number), log.map(Some));
     for number in numbers() {
         let refusal = Refusal::from_number(number);
         assert_eq!(refusal.map_or(0, Refusal::number), number);
         assert_eq!(refusal, NonZeroU32::new(number).map(Refusal::from));
         assert_eq!(refusal.map_or(0, u32::from), number);
-        assert_eq!(matches!(refusal, Some(Refusal::Other { .. })), number > 15);
+        assert_eq!(matches!(refusal, Some(Refusal::Other { .. })), number != 0 && !named.contains(&number));
         assert_ne!(refusal, Refusal::from_number(number.wrapping_add(1)));
     }
     assert_told_apart((1..1000).chain([u32::MAX]).filter_map(Refusal::from_number));
@@ -159,6 +163,8 @@ fn answers() {
     let reception = raw_reception(&reference::Reception { jitter: 1, started: 1, ..Default::default() });
     let received = raw::Received { refusal: 0, valid: 1, reception };
     let reported = raw::Reported { refusal: 0, fraction_lost: 255, cumulative_lost: -1, highest_sequence: 2, jitter: 3, reception };
+    let (log, opened, written_log) = ([0; 9], raw::LogOpened::default(), raw::LogWritten { refusal: 0, length: 1 << 33 });
+    let stepped = raw::LogStepped { start: 2, length: 3, ..raw::LogStepped::default() };
     for refusal in numbers().into_iter().filter(|number| *number != 0) {
         let found = [
             raw::Reading { refusal, ..reading }.result().err().map(Refusal::from),
@@ -169,8 +175,12 @@ fn answers() {
             raw::Drawn { refusal, empty: 1, ..drawn }.result().err(),
             raw::Received { refusal, ..received }.result().err(),
             raw::Reported { refusal, ..reported }.result().err(),
+            raw::LogOpened { refusal, ..opened }.result(&log).err(),
+            raw::LogStepped { refusal, ..stepped }.result(&log).err(),
+            raw::LogStepped { refusal, end: 1, ..stepped }.result(&log).err(),
+            raw::LogWritten { refusal, ..written_log }.result().err(),
         ];
-        assert_eq!(found.map(|refusal| refusal.map_or(0, Refusal::number)), [refusal; 8]);
+        assert_eq!(found.map(|refusal| refusal.map_or(0, Refusal::number)), [refusal; 12]);
     }
     let of = reading.result().unwrap();
     assert_eq!((of.rows, of.marker, of.sequence, of.timestamp, of.source, of.mode_request), (1, true, 65_535, u32::MAX, 5, 14));
@@ -180,6 +190,43 @@ fn answers() {
     assert_eq!([of.late, of.far, of.repeated, of.better, of.no_room, of.inserted], [1, 2, 3, 4, 5, 6]);
     assert_eq!([0, 1].map(|valid| raw::Received { valid, ..received }.result()), [Ok(false), Ok(true)]);
     assert_eq!(reported.result(), Ok(Report { fraction_lost: 255, cumulative_lost: -1, highest_sequence: 2, jitter: 3 }));
+    assert_eq!(written_log.result(), Ok(1 << 33));
+}
+
+/// A frame of a log is a frame whatever its class, and shows its part of the log; only an answer that says so is the end.
+#[test]
+fn frames_of_logs() {
+    let log: Vec<u8> = (0..40).collect();
+    let stepped = raw::LogStepped { time: 9, channel: 1, start: 5, length: 14, ..raw::LogStepped::default() };
+    for frame_class in numbers() {
+        let frame = LogFrame { time: 9, channel: 1, class: Class::from(frame_class), bytes: &log[5..19] };
+        assert_eq!(raw::LogStepped { frame_class, ..stepped }.result(&log), Ok(Some(frame)));
+        assert_eq!(frame.class.number(), frame_class);
+    }
+    assert_eq!(raw::LogStepped { end: 1, ..raw::LogStepped::default() }.result(&log), Ok(None));
+    // places that are not in the log are no panic
+    for start in [0, 26, 27, 40, 41, 1 << 32, u64::MAX] {
+        for length in [0, 14, 40, 41, 1 << 32, u64::MAX] {
+            let bytes = if start.saturating_add(length) <= 40 { &log[start as usize..][..length as usize] } else { &[] };
+            let frame = raw::LogStepped { start, length, ..stepped }.result(&log).unwrap().unwrap();
+            assert_eq!(frame.bytes, bytes);
+        }
+    }
+}
+
+/// A reader of a log keeps the numbers that it has, whatever they are.
+#[test]
+fn readers_of_logs() {
+    let mut r = Random::new(65);
+    let log = r.bytes(100);
+    for format in 0..=u8::MAX {
+        let settings = raw::Settings { format, channels: r.byte(), payload_type: r.byte(), redundancy_type: r.byte() };
+        let cursor = raw::LogCursor { settings, place: r.bits(), count: r.bits() };
+        let reader = LogReader::from_raw(&log, cursor);
+        assert_eq!((*reader.as_raw(), reader.log(), reader.settings()), (cursor, &log[..], settings.into()));
+        assert_eq!((reader.place(), reader.count()), (cursor.place, cursor.count));
+        assert_eq!(raw::LogOpened { refusal: 0, cursor }.result(&log), Ok(reader));
+    }
 }
 
 /// A fault has the offset that was answered, whatever the refusal; 0 is none.
@@ -237,5 +284,6 @@ fn figures() {
         ($($name:ident)*) => { $(assert_eq!([heolstorpit::$name as usize, reference::$name as usize], [defined(stringify!($name)); 2]);)* };
     }
     same!(MAX_PACKET MAX_PAYLOAD MAX_ROWS ROW_WORDS ROW_AREA SLOTS SLOT_BYTES STORE_BYTES DRAW_AREA PRIMARY MAX_REDUNDANT NO_REDUNDANCY NO_MODE_REQUEST);
+    same!(LOG_FIRST LOG_FRAME LOG_LAST);
     assert_eq!(heolstorpit::MIN_PACKET, reference::MIN_PACKET);
 }

@@ -299,6 +299,6 @@ fn a_stream_by_hand() {
     // and a state out of range
     let mut spoiled = Reception::from_raw(raw::Reception { probation: 3, ..*reception.as_raw() });
     let before = spoiled;
-    assert_eq!((spoiled.packet(3, 0, 0), spoiled.report()), (Err(Refusal::MalformedBuffer), Err(Refusal::MalformedBuffer)));
+    assert_eq!((spoiled.packet(3, 0, 0), spoiled.report()), (Err(Refusal::Malformed), Err(Refusal::Malformed)));
     assert_eq!(spoiled, before);
 }

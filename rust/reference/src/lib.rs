@@ -8,12 +8,14 @@
 #![forbid(unsafe_code)]
 
 mod buffer;
+mod log;
 mod reading;
 mod reception;
 mod sizes;
 mod writing;
 
 pub use buffer::{draw, fresh, is_well_formed, offer, Buffer, Drawn, Verdicts};
+pub use log::*;
 pub use reading::{read, step_ticks, Fault, Reading};
 pub use reception::*;
 pub use sizes::*;

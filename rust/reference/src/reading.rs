@@ -362,6 +362,6 @@ pub fn step_ticks(format: u8) -> u32 {
     }
 }
 
-fn big_endian(bytes: &[u8]) -> u32 {
+pub(crate) fn big_endian(bytes: &[u8]) -> u32 {
     bytes.iter().fold(0, |number, byte| number * 256 + *byte as u32)
 }

@@ -41,6 +41,27 @@ pub const NO_MODE_REQUEST: u8 = 15;
 pub const AMR_LENGTHS: [u32; 9] = [12, 13, 15, 17, 19, 20, 26, 31, 5];
 pub const AMR_WB_LENGTHS: [u32; 10] = [17, 23, 32, 36, 40, 46, 50, 58, 60, 5];
 
+/// document 02: the tags of a log's fields; "Other tags are passed over by length"
+pub const SETTINGS_TAG: u8 = 1;
+pub const FRAME_TAG: u8 = 2;
+pub const END_TAG: u8 = 3;
+/// "one-byte tag, two-byte length"
+pub const FIELD_HEAD: usize = 3;
+/// tag 1: "4 bytes: kind, channels, plain type, redundancy type"
+pub const SETTINGS_BYTES: usize = 4;
+/// tag 2: "4-byte time, a byte each of channel and sort"
+pub const FRAME_HEAD: usize = 6;
+/// tag 3: "a 4-byte count"
+pub const COUNT_BYTES: usize = 4;
+/// whole fields: the first, what a frame's has before the frame, and the last
+pub const LOG_FIRST: usize = FIELD_HEAD + SETTINGS_BYTES;
+pub const LOG_FRAME: usize = FIELD_HEAD + FRAME_HEAD;
+pub const LOG_LAST: usize = FIELD_HEAD + COUNT_BYTES;
+/// "a place under 7"
+pub const LEAST_PLACE: u64 = 7;
+/// "over 2^32 − 1 rows"
+pub const MOST_LOG_ROWS: u64 = (1 << 32) - 1;
+
 pub const BAD_PACKET_LENGTH: u32 = 1;
 pub const BAD_VERSION: u32 = 2;
 pub const HEADER_PAST_END: u32 = 3;
@@ -56,3 +77,8 @@ pub const AREA_TOO_SHORT: u32 = 12;
 pub const NOT_WRITABLE: u32 = 13;
 pub const ROW_OUTSIDE: u32 = 14;
 pub const BAD_BUFFER: u32 = 15;
+/// document 02, P3
+pub const CUT_FIELD: u32 = 17;
+pub const MISPLACED_TAG: u32 = 18;
+pub const NOT_ALLOWED: u32 = 19;
+pub const WRONG_COUNT: u32 = 20;

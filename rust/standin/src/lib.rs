@@ -1,7 +1,7 @@
 //! The C functions over the reference. mutants.sh builds it over a reference with a fault planted in it, links the tests to
 //! that, and sees them fail.
 
-use reference::{Buffer, Drawn, Fault, Reception, Report, Settings, Verdicts, SLOTS};
+use reference::{Buffer, Drawn, Fault, LogCursor, LogFrame, LogStep, Reception, Report, Settings, Verdicts, SLOTS};
 use std::slice::{from_raw_parts, from_raw_parts_mut};
 
 #[repr(C)]
@@ -42,8 +42,25 @@ pub struct CReceived(u32, u32, CReception);
 #[repr(C)]
 pub struct CReported(u32, u32, i32, u32, u32, CReception);
 
+#[repr(C)]
+#[derive(Clone, Copy)]
+pub struct CCursor(CSettings, u64, u64);
+
+#[repr(C)]
+pub struct COpened(u32, CCursor);
+
+#[repr(C)]
+pub struct CStepped([u32; 5], u64, u64, CCursor);
+
+#[repr(C)]
+pub struct CLogWritten(u32, u64);
+
 fn settings(s: CSettings) -> Settings {
     Settings { format: s.0, channels: s.1, payload_type: s.2, redundancy_type: s.3 }
+}
+
+fn c_settings(s: Settings) -> CSettings {
+    CSettings(s.format, s.channels, s.payload_type, s.redundancy_type)
 }
 
 fn buffer(b: CBuffer) -> Buffer {
@@ -53,12 +70,11 @@ fn buffer(b: CBuffer) -> Buffer {
 }
 
 fn c_buffer(b: Buffer) -> CBuffer {
-    let s = b.settings;
     CBuffer {
         columns: [b.times, b.tags, b.lengths, b.slots],
         occupied: b.occupied,
         last: [b.last_time, b.last_channel, b.drawn],
-        settings: CSettings(s.format, s.channels, s.payload_type, s.redundancy_type),
+        settings: c_settings(b.settings),
     }
 }
 
@@ -84,6 +100,10 @@ fn c_reception(r: Reception) -> CReception {
         transit_set,
     } = r;
     CReception(jitter, [probation, started, base, highest, bad, cycles, received, expected_prior, received_prior, transit, transit_set])
+}
+
+fn c_cursor(c: LogCursor) -> CCursor {
+    CCursor(c_settings(c.settings), c.place, c.count)
 }
 
 fn written(answer: Result<u32, u32>) -> CWritten {
@@ -192,4 +212,40 @@ pub extern "C" fn hsp_reception_report(r: CReception) -> CReported {
     let (after, answer) = reference::reception_report(&reception(r));
     let Report { fraction_lost, cumulative_lost, highest_sequence, jitter } = answer.unwrap_or_default();
     CReported(answer.err().unwrap_or(0), fraction_lost, cumulative_lost, highest_sequence, jitter, c_reception(after))
+}
+
+#[no_mangle]
+pub unsafe extern "C" fn hsp_log_open(log: *const u8, n: usize) -> COpened {
+    let (cursor, answer) = reference::log_open(from_raw_parts(log, n));
+    COpened(answer.err().unwrap_or(0), c_cursor(cursor))
+}
+
+#[no_mangle]
+pub unsafe extern "C" fn hsp_log_step(c: CCursor, log: *const u8, n: usize) -> CStepped {
+    let given = LogCursor { settings: settings(c.0), place: c.1, count: c.2 };
+    let (after, answer) = reference::log_step(&given, from_raw_parts(log, n));
+    let after = c_cursor(after);
+    match answer {
+        Ok(LogStep::Frame(LogFrame { time, channel, class, start, length })) => {
+            CStepped([0, 0, time, channel, class], start, length, after)
+        }
+        Ok(LogStep::End) => CStepped([0, 1, 0, 0, 0], 0, 0, after),
+        Err(refusal) => CStepped([refusal, 0, 0, 0, 0], 0, 0, after),
+    }
+}
+
+#[no_mangle]
+pub unsafe extern "C" fn hsp_log_write(
+    s: CSettings,
+    rows: *const u32,
+    n: usize,
+    bytes: *const u8,
+    m: usize,
+    out: *mut u8,
+    o: usize,
+) -> CLogWritten {
+    match reference::log_write(settings(s), from_raw_parts(rows, n), from_raw_parts(bytes, m), from_raw_parts_mut(out, o)) {
+        Ok(length) => CLogWritten(0, length),
+        Err(refusal) => CLogWritten(refusal, 0),
+    }
 }

@@ -1,4 +1,4 @@
-//! The reference's settings, buffers, draws and receptions as the library's. Also used by `exact`.
+//! The reference's settings, buffers, draws, receptions, cursors and steps as the library's. Also used by `exact`.
 #![allow(dead_code)]
 
 use heolstorpit::raw;
@@ -48,4 +48,29 @@ pub fn raw_reception(r: &reference::Reception) -> raw::Reception {
         transit: r.transit,
         transit_set: r.transit_set,
     }
+}
+
+pub fn raw_cursor(c: &reference::LogCursor) -> raw::LogCursor {
+    raw::LogCursor { settings: settings(c.settings), place: c.place, count: c.count }
+}
+
+/// What opening a log answers, and the cursor that it gives.
+pub fn raw_opened(cursor: &reference::LogCursor, answer: Result<(), u32>) -> raw::LogOpened {
+    raw::LogOpened { refusal: answer.err().unwrap_or(0), cursor: raw_cursor(cursor) }
+}
+
+/// What a step answers, and the cursor that it leaves.
+pub fn raw_stepped(after: &reference::LogCursor, answer: Result<reference::LogStep, u32>) -> raw::LogStepped {
+    let none = raw::LogStepped { cursor: raw_cursor(after), ..raw::LogStepped::default() };
+    match answer {
+        Ok(reference::LogStep::Frame(reference::LogFrame { time, channel, class, start, length })) => {
+            raw::LogStepped { time, channel, frame_class: class, start, length, ..none }
+        }
+        Ok(reference::LogStep::End) => raw::LogStepped { end: 1, ..none },
+        Err(refusal) => raw::LogStepped { refusal, ..none },
+    }
+}
+
+pub fn raw_log_written(answer: Result<u64, u32>) -> raw::LogWritten {
+    raw::LogWritten { refusal: answer.err().unwrap_or(0), length: answer.unwrap_or(0) }
 }

@@ -4,7 +4,7 @@
 mod convert;
 
 use cases::Random;
-pub use convert::{raw_drawn, raw_reception, settings, to_raw};
+pub use convert::{raw_cursor, raw_drawn, raw_log_written, raw_opened, raw_reception, raw_stepped, settings, to_raw};
 use std::fmt::Debug;
 
 /// The same memory twice, for the library and for the reference, with a lent area inside: everything outside the area

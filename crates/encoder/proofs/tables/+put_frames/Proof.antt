@@ -5,7 +5,7 @@ use lib.ListN.{length, getD, take, drop, length-drop}
 use denote.Ref.{now}
 use Rattle.rtp.specs.Sizes.{rowWidth}
 use Rattle.rtp.specs.Areas.{over}
-use Rattle.rtp.proofs.AreaLaws.{part-length, part-to-end}
+use Rattle.rtp.proofs.AreaLaws.{fitted-in, part-length, part-to-end}
 use Rattle.plans.specs.declared.lists.RowWords.{RowWords}
 use Rattle.plans.specs.Lists.{rowsIn}
 use Rattle.encoder.specs.Bytes.{frames}
@@ -19,7 +19,7 @@ use Rattle.encoder.proofs.tables.put_frames.Reads as put-frames
 use Rattle.encoder.proofs.tables.put_frames.Kinds as put-frames-kinds
 use Rattle.encoder.proofs.tables.+put_frames.Lts-put_frames as put-frames-lts
 use Rattle.plans.proofs.lists.first_row.Reads as first-row-reads
-use Rattle.encoder.proofs.tables.copy_bytes.Reads as copy-bytes-reads
+use Rattle.rtp.proofs.bytes.put_bytes.Reads as put-bytes-reads
 use Rattle.encoder.proofs.tables.+put_frames.{statement}
 use Rattle.encoder.proofs.tables.+put_frames.Tie.{close}
 
@@ -36,7 +36,7 @@ put-frames-below t =
 
 -- what the callees ask and give
 abbrev callees : ℕ → put-frames-lts.Claims
-callees t = (first-row-reads.Asked, first-row-reads.Learnt, copy-bytes-reads.Asked, copy-bytes-reads.Learnt, put-frames-below t, put-frames.Post)
+callees t = (first-row-reads.Asked, first-row-reads.Learnt, put-bytes-reads.Asked, put-bytes-reads.Learnt, put-frames-below t, put-frames.Post)
 
 -- a need or a place at the measure t
 abbrev At : (put-frames-lts.Claims → In 3 put-frames-kinds.ps → Out 3 put-frames-kinds.ps put-frames-kinds.r → Type 0) → ℕ → Type 0
@@ -76,17 +76,17 @@ put-frames-cast-length t c = search needs
 put-frames-add-end : (t : ℕ) → At put-frames-lts.Need-add-end t
 put-frames-add-end t c = search needs
 
-put-frames-sub-copy-bytes : (t : ℕ) → At put-frames-lts.Need-sub-copy-bytes t
-put-frames-sub-copy-bytes t c = search needs
+put-frames-sub-put-bytes : (t : ℕ) → At put-frames-lts.Need-sub-put-bytes t
+put-frames-sub-put-bytes t c = search needs
 
-put-frames-part-copy-bytes-start : (t : ℕ) → At put-frames-lts.Need-part-copy-bytes-start t
-put-frames-part-copy-bytes-start t c = search needs
+put-frames-part-put-bytes-start : (t : ℕ) → At put-frames-lts.Need-part-put-bytes-start t
+put-frames-part-put-bytes-start t c = search needs
 
-put-frames-part-copy-bytes-end : (t : ℕ) → At put-frames-lts.Need-part-copy-bytes-end t
-put-frames-part-copy-bytes-end t c = omega (arith, inside-at t (c .before))
+put-frames-part-put-bytes-end : (t : ℕ) → At put-frames-lts.Need-part-put-bytes-end t
+put-frames-part-put-bytes-end t c = omega (arith, inside-at t (c .before))
 
-put-frames-copy-bytes-requires : (t : ℕ) → At put-frames-lts.Need-copy-bytes-requires t
-put-frames-copy-bytes-requires t c κs = rw (part-at t (c .before .before)) (room-at t (c .before .before))
+put-frames-put-bytes-requires : (t : ℕ) → At put-frames-lts.Need-put-bytes-requires t
+put-frames-put-bytes-requires t c κs = search needs
 
 put-frames-sub-put-frames : (t : ℕ) → At put-frames-lts.Need-sub-put-frames t
 put-frames-sub-put-frames t c = search needs
@@ -98,10 +98,10 @@ put-frames-part-put-frames-end : (t : ℕ) → At put-frames-lts.Need-part-put-f
 put-frames-part-put-frames-end t c = search needs
 
 put-frames-sub-put-frames-2 : (t : ℕ) → At put-frames-lts.Need-sub-put-frames-2 t
-put-frames-sub-put-frames-2 t c = omega (arith, room-at t (c .before .before .before .before .before .before), c .before .before .before .copy-bytes .kept .0)
+put-frames-sub-put-frames-2 t c = omega (arith, room-at t (c .before .before .before .before .before .before), c .before .before .before .put-bytes .kept .0)
 
 put-frames-part-put-frames-start-2 : (t : ℕ) → At put-frames-lts.Need-part-put-frames-start-2 t
-put-frames-part-put-frames-start-2 t c = omega (arith, room-at t (c .before .before .before .before .before .before), c .before .before .before .copy-bytes .kept .0)
+put-frames-part-put-frames-start-2 t c = omega (arith, room-at t (c .before .before .before .before .before .before), c .before .before .before .put-bytes .kept .0)
 
 put-frames-part-put-frames-end-2 : (t : ℕ) → At put-frames-lts.Need-part-put-frames-end-2 t
 put-frames-part-put-frames-end-2 t c = search needs
@@ -109,7 +109,7 @@ put-frames-part-put-frames-end-2 t c = search needs
 put-frames-put-frames-requires : (t : ℕ) → At put-frames-lts.Need-put-frames-requires t
 put-frames-put-frames-requires t c κs = let a = c .before .before .before .before .before .before .before .before .before .before .before .before .before .before .args in (
   rw (part-to-end rowWidth (now (a .rows)), length-drop) (omega (arith, c .before .before .before .before .before .before .before .before .before .before .before .before .before .before .pre .0, c .before .before .before .before .before .before .before .before .before .before .if1 .left)),
-  rw (part-length (c .before .before .before .before .copy-bytes .last .0) (now (a .out)) (c .before .before .before .before .before .before .before .before .before .first-row .result .length) (c .before .before .before .before .copy-bytes .kept .0), part-to-end rowWidth (now (a .rows))) (rest-at t (c .before .before .before .before .before .before .before)),
+  rw (part-length (c .before .before .before .before .put-bytes .last .0) (now (a .out)) (c .before .before .before .before .before .before .before .before .before .first-row .result .length) (c .before .before .before .before .put-bytes .kept .0), part-to-end rowWidth (now (a .rows))) (rest-at t (c .before .before .before .before .before .before .before)),
 )
 
 put-frames-same-length : (t : ℕ) → At put-frames-lts.Need-same-length t
@@ -117,8 +117,9 @@ put-frames-same-length t c = search needs
 
 put-frames-returns-2 : (t : ℕ) → At put-frames-lts.Need-returns-2 t
 put-frames-returns-2 t c = let a = c .before .before .before .before .before .before .before .before .before .before .before .before .before .before .before .before .before .args in
-    put-frame (now (a .bytes)) (now (a .rows)) (now (a .out)) (c .before .before .before .before .before .before .before .before .before .before .before .before .before .if1 .left) _ _ (start-is t (c .before .before .before .before .before .before .before .before .before .before)) (length-is t (c .before .before .before .before .before .before .before .before .before .before)) (length (now (a .out))) (c .before .before .before .before .before .before .before .before .before .before .before .before .before .before .before .before .before .pre .1) (c .before .before .before .before .before .before .before .copy-bytes .last .0) _ (c .before .before .before .before .before .before .before .copy-bytes .ensures)
-    (c .before .before .put-frames .ensures ∙ ap (λ (l : List ℕ). over (frames (now (a .bytes)) (rowsIn l)) (take (length (c .before .before .before .before .before .before .before .copy-bytes .last .0) - c .before .before .before .before .before .before .before .before .before .before .before .before .first-row .result .length) (drop (c .before .before .before .before .before .before .before .before .before .before .before .before .first-row .result .length) (c .before .before .before .before .before .before .before .copy-bytes .last .0)))) (part-to-end rowWidth (now (a .rows))))
+    put-frame (now (a .bytes)) (now (a .rows)) (now (a .out)) (c .before .before .before .before .before .before .before .before .before .before .before .before .before .if1 .left) _ _ (start-is t (c .before .before .before .before .before .before .before .before .before .before)) (length-is t (c .before .before .before .before .before .before .before .before .before .before)) (length (now (a .out))) (c .before .before .before .before .before .before .before .before .before .before .before .before .before .before .before .before .before .pre .1) (c .before .before .before .before .before .before .before .put-bytes .last .0) _
+    (c .before .before .before .before .before .before .before .put-bytes .ensures ∙ fitted-in _ _ (rw (part-at t (c .before .before .before .before .before .before .before .before .before .before)) (room-at t (c .before .before .before .before .before .before .before .before .before .before))))
+    (c .before .before .put-frames .ensures ∙ ap (λ (l : List ℕ). over (frames (now (a .bytes)) (rowsIn l)) (take (length (c .before .before .before .before .before .before .before .put-bytes .last .0) - c .before .before .before .before .before .before .before .before .before .before .before .before .first-row .result .length) (drop (c .before .before .before .before .before .before .before .before .before .before .before .before .first-row .result .length) (c .before .before .before .before .before .before .before .put-bytes .last .0)))) (part-to-end rowWidth (now (a .rows))))
 
 pub +put-frames-spec : {M : Type 1} → statement M
 +put-frames-spec = close μ-put-frames λ t. put-frames-lts.spec (callees t)
@@ -129,10 +130,10 @@ pub +put-frames-spec : {M : Type 1} → statement M
     (put-frames-cast-start t)
     (put-frames-cast-length t)
     (put-frames-add-end t)
-    (put-frames-sub-copy-bytes t)
-    (put-frames-part-copy-bytes-start t)
-    (put-frames-part-copy-bytes-end t)
-    (put-frames-copy-bytes-requires t)
+    (put-frames-sub-put-bytes t)
+    (put-frames-part-put-bytes-start t)
+    (put-frames-part-put-bytes-end t)
+    (put-frames-put-bytes-requires t)
     (put-frames-sub-put-frames t)
     (put-frames-part-put-frames-start t)
     (put-frames-part-put-frames-end t)

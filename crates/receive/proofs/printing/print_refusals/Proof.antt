@@ -7,10 +7,10 @@ use Rattle.receive.proofs.printing.print_refusals.Lts as lts
 use Rattle.receive.proofs.printing.print_refusal.Reads as print-refusal-reads
 
 abbrev Inv-loop : tie.InvT-loop
-Inv-loop totals i₀ i = Unit
+Inv-loop fd totals i₀ i = Unit
 
 abbrev μ-loop : tie.MeasureT-loop
-μ-loop totals i₀ i = 16 - i
+μ-loop fd totals i₀ i = 16 - i
 
 loop-holds : tie.Need-loop-holds Inv-loop μ-loop
 loop-holds c = search needs

@@ -1,0 +1,12 @@
+pub mod FieldLaws
+pub mod ContentLaws
+pub mod WalkLaws
+pub mod ReadingTheorem
+pub mod InsideTheorem
+pub mod BackLaws
+pub mod PutLaws
+pub mod PiecesBackTheorem
+pub mod RowLaws
+pub mod RoundTripTheorem
+pub mod PiecesTheorem
+pub mod MarkTheorems

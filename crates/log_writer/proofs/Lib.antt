@@ -1,0 +1,3 @@
+pub mod FieldBytesLaws
+pub mod RowsLaws
+pub mod WritingLaws
