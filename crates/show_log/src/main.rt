@@ -6,6 +6,7 @@ use console_text::lines;
 use libc::STDERR_FILENO;
 use libc::STDOUT_FILENO;
 use log_lines::printing;
+use log_lines::printing::Printed;
 
 // The bytes of the longest log: there is no heap, and the stack has 8 MiB.
 const LONGEST: usize = 1048576;
@@ -29,8 +30,9 @@ fn say_too_long() {
 // The log in the first n bytes of the area. n is never more than the area has.
 fn print_front(area: &[u8], n: usize) {
     if n <= area.len() {
-        if printing::print_log(&area[..n]) {
-            return;
+        match printing::print_log(&area[..n]) {
+            Printed::Frames(_) => return,
+            Printed::Failed => {}
         }
     }
     os::fail(b"show_log: standard output");
