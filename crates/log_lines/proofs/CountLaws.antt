@@ -1,8 +1,8 @@
 -- Laws of the count of frames: a step shows one more, or there is none left.
-use mathlib.Core.Path.{_≡_, refl, sym, ap, _∙_, subst}
+use mathlib.Core.Path.{_≡_, refl, sym, ap, _∙_}
 use mathlib.Core.List.{List}
 use mathlib.Core.Bool.{Bool, true, false, cond}
-use Prim.Native.Nat.{ℕ, zero, suc, _+_, _-_, _≤_}
+use Prim.Native.Nat.{ℕ, suc, _+_, _-_, _≤_}
 use native.Mathlib.Omega.{arith}
 use lib.ListN.{length}
 use lib.Dec.{eqb}
@@ -11,7 +11,7 @@ use Rattle.log.specs.declared.opening.Cursor.{Cursor}
 use Rattle.log.specs.declared.stepping.StepAnswer.{StepAnswer}
 use Rattle.log.specs.declared.opening.OpenAnswer.{OpenAnswer}
 use Rattle.log.specs.Opening.{OpenOutcome, openNumbers, openCall}
-use Rattle.log.specs.Stepping.{StepNumbers, StepOutcome, stepNumbers, stepCall}
+use Rattle.log.specs.Stepping.{StepOutcome, stepNumbers, stepCall}
 use Rattle.log_lines.specs.FrameCounts.{isShown, framesBy, framesFrom, framesOf}
 
 -- what is left of the steps that a log needs
@@ -24,15 +24,15 @@ isFrame (StepAnswer.Frame f) = true
 isFrame StepAnswer.End = false
 isFrame (StepAnswer.Refused f) = false
 
-shown-frame : (a : StepAnswer) → isShown (stepNumbers a) ≡ isFrame a
+pub shown-frame : (a : StepAnswer) → isShown (stepNumbers a) ≡ isFrame a
 shown-frame (StepAnswer.Frame f) = refl
 shown-frame StepAnswer.End = refl
 shown-frame (StepAnswer.Refused f) = rw (number-some (f .refusal))
 
-abbrev onward : Bool → ℕ → ℕ
+abbrev pub onward : Bool → ℕ → ℕ
 onward b n = cond b (suc n) 0
 
-by-step : (k : ℕ) (c d : Cursor) (log : List ℕ) (a : StepAnswer) → record { answer = stepNumbers a; cursor = d } ≡ stepCall c log
+pub by-step : (k : ℕ) (c d : Cursor) (log : List ℕ) (a : StepAnswer) → record { answer = stepNumbers a; cursor = d } ≡ stepCall c log
     → framesBy (suc k) c log ≡ onward (isFrame a) (framesBy k d log)
 unfolding framesBy
 by-step k c d log a e =

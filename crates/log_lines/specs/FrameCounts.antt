@@ -23,11 +23,16 @@ framesBy (suc k) c log = cond (isShown (stepCall c log .answer)) (suc (framesBy 
 unfoldable pub framesFrom : Cursor → List ℕ → ℕ
 framesFrom c log = framesBy (suc (length log)) c log
 
+-- .. so many steps are enough: where a step shows a frame, there is one more than from the record that it leaves
+abbrev pub StepsAreEnough : Type 0
+StepsAreEnough = (c : Cursor) (log : List ℕ) →
+    framesFrom c log ≡ cond (isShown (stepCall c log .answer)) (suc (framesFrom (stepCall c log .cursor) log)) 0
+
 -- of a whole log; one that is not opened shows none
 unfoldable pub framesOf : List ℕ → ℕ
 framesOf log = cond (eqb (openCall log .answer .refusal) 0) (framesFrom (openCall log .cursor) log) 0
 
 -- Whether standard output takes what is printed is the operating system's answer, and left open; but where all is printed, so are all n frames
-abbrev pub AllOf : Printed → ℕ → Type 0
-AllOf (Printed.Frames k) n = k ≡ n
-AllOf Printed.Failed n = Unit
+abbrev pub AllPrinted : Printed → ℕ → Type 0
+AllPrinted (Printed.Frames k) n = k ≡ n
+AllPrinted Printed.Failed n = Unit

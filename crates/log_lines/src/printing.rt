@@ -12,7 +12,7 @@ use log::stepping::StepAnswer;
 use rtp::refusal::Fault;
 use rtp::refusal::Refusal;
 use rtp::settings::Settings;
-ghost use Rattle.log_lines.specs.FrameCounts.{framesFrom, framesOf, AllOf};
+ghost use Rattle.log_lines.specs.FrameCounts.{framesFrom, framesOf, AllPrinted};
 
 // So many frames, and with them all that there is to print; or standard output did not take all.
 pub enum Printed {
@@ -40,7 +40,7 @@ fn print_shown(frame: Shown, log: &[u8]) -> bool {
 
 // The last line, behind so many frames.
 fn print_end(count: usize, frames: usize) -> Printed
-    ensures { λ r. ⌜ AllOf r frames ⌝ }
+    ensures { λ r. ⌜ AllPrinted r frames ⌝ }
 {
     let mut line = lines::blank();
     let at = words::put_end(&mut line, 0, count);
@@ -52,7 +52,7 @@ fn print_end(count: usize, frames: usize) -> Printed
 
 // .. of a log that is refused.
 fn print_fault(fault: Fault, frames: usize) -> Printed
-    ensures { λ r. ⌜ AllOf r frames ⌝ }
+    ensures { λ r. ⌜ AllPrinted r frames ⌝ }
 {
     let mut line = lines::blank();
     let at = words::put_fault(&mut line, 0, fault);
@@ -72,7 +72,7 @@ pub fn print_refusal(why: Refusal) {
 // The frames of a log from a record on, and its end or the refusal. A proved loop has to end, so this one counts its turns: a log has fewer
 // frames than bytes.
 pub fn print_from(cursor: Cursor, log: &[u8]) -> Printed
-    ensures { λ r. ⌜ AllOf r (framesFrom cursor (now (log .entry))) ⌝ }
+    ensures { λ r. ⌜ AllPrinted r (framesFrom cursor (now (log .entry))) ⌝ }
 {
     let mut reached = cursor;
     let mut frames = 0;
@@ -97,19 +97,19 @@ pub fn print_from(cursor: Cursor, log: &[u8]) -> Printed
 
 // A whole log: its settings, its frames, and its end or the refusal.
 pub fn print_log(log: &[u8]) -> Printed
-    ensures { λ r. ⌜ AllOf r (framesOf (now (log .entry))) ⌝ }
+    ensures { λ r. ⌜ AllPrinted r (framesOf (now (log .entry))) ⌝ }
 {
     let opened = opening::open(log);
     let cursor = opened.cursor;
     let answer = opened.answer;
     match answer {
-        OpenAnswer::Refused(why) => print_fault(
-            Fault {
+        OpenAnswer::Refused(why) => {
+            let fault = Fault {
                 refusal: why,
                 offset: 0,
-            },
-            0,
-        ),
+            };
+            print_fault(fault, 0)
+        }
         OpenAnswer::Opened(settings) => {
             if print_settings(settings) {
                 return print_from(cursor, log);

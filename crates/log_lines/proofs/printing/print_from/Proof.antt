@@ -4,7 +4,7 @@ use native.Mathlib.Omega.{arith}
 use denote.Ref.{now}
 use lib.ListN.{length}
 use borrow.Author.Needs.{needs}
-use Rattle.log_lines.specs.FrameCounts.{framesFrom, AllOf}
+use Rattle.log_lines.specs.FrameCounts.{framesFrom, AllPrinted}
 use Rattle.log_lines.proofs.CountLaws.{left, isFrame, counts-start, counts-frame, counts-none, counts-out}
 use Rattle.log_lines.proofs.printing.print_from.Statement.{statement}
 use Rattle.log_lines.proofs.printing.print_from.Tie as tie
@@ -35,7 +35,7 @@ returns c =
     let s = c .before .before .before .step in
     let log = now (a .log) in
     let none = counts-none (v .frames) (v .reached) (s .result .cursor) log (s .result .answer) (c .before .before .before .before .loop-test .taken) (s .ensures) (ap isFrame (c .before .enum-told .given .1)) in
-    subst (AllOf (c .print-end .result)) (none ∙ v .inv .1) (c .print-end .ensures)
+    subst (AllPrinted (c .print-end .result)) (none ∙ v .inv .1) (c .print-end .ensures)
 
 enum-known-answer : tie.Need-enum-known-answer Inv-loop μ-loop
 enum-known-answer c = search needs
@@ -50,7 +50,7 @@ returns-2 c =
     let s = c .before .before .before .before .step in
     let log = now (a .log) in
     let none = counts-none (v .frames) (v .reached) (s .result .cursor) log (s .result .answer) (c .before .before .before .before .before .loop-test .taken) (s .ensures) (ap isFrame (c .before .before .answer .given .1)) in
-    subst (AllOf (c .print-fault .result)) (none ∙ v .inv .1) (c .print-fault .ensures)
+    subst (AllPrinted (c .print-fault .result)) (none ∙ v .inv .1) (c .print-fault .ensures)
 
 enum-known-answer-2 : tie.Need-enum-known-answer-2 Inv-loop μ-loop
 enum-known-answer-2 c = search needs

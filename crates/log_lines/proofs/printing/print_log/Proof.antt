@@ -1,7 +1,7 @@
 use mathlib.Core.Path.{ap, subst}
 use mathlib.Core.Bool.{true, false}
 use denote.Ref.{now}
-use Rattle.log_lines.specs.FrameCounts.{AllOf}
+use Rattle.log_lines.specs.FrameCounts.{AllPrinted}
 use Rattle.log_lines.proofs.CountLaws.{isOpened, counts-open}
 use borrow.Author.Needs.{needs}
 use Rattle.log_lines.proofs.printing.print_log.Statement.{statement}
@@ -29,13 +29,13 @@ returns : tie.Need-returns
 returns c =
     let o = c .before .before .before .before .before .before .before .«open» in
     let e = counts-open (now (c .before .before .before .before .before .before .before .before .before .args .log)) (o .result .cursor) (o .result .answer) true (o .ensures) (ap isOpened (c .before .before .before .before .answer2 .given .1)) in
-    subst (AllOf (c .print-from .result)) e (c .print-from .ensures)
+    subst (AllPrinted (c .print-from .result)) e (c .print-from .ensures)
 
 returns-2 : tie.Need-returns-2
 returns-2 c =
     let o = c .before .before .before .before .before .«open» in
     let e = counts-open (now (c .before .before .before .before .before .before .before .args .log)) (o .result .cursor) (o .result .answer) false (o .ensures) (ap isOpened (c .before .before .answer .given .1)) in
-    subst (AllOf (c .print-fault .result)) e (c .print-fault .ensures)
+    subst (AllPrinted (c .print-fault .result)) e (c .print-fault .ensures)
 
 returns-3 : tie.Need-returns-3
 returns-3 c = search needs
