@@ -16,6 +16,7 @@ pub const ROOM: usize = 4096;
 
 pub const NUMBERS: usize = 64;
 
+// The greatest number of 32 bits.
 const GREATEST: u64 = 4294967295;
 
 // The value of a hexadecimal digit, 16 where a byte is none.
@@ -141,7 +142,8 @@ pub fn clear(bytes: &mut [u8; ROOM])
     *bytes = [0; ROOM];
 }
 
-// The bytes of the words from the k-th after the first on, each of two hexadecimal digits, laid at `at`; answers the place after them.
+// The bytes of the words from the k-th after the first on, each of two hexadecimal digits, laid from `at` on as far as there is room;
+// answers the place after them.
 pub fn put_bytes(line: &[u8; LINE], k: usize, area: &mut [u8; ROOM], at: usize) -> usize
     ensures { λ r. ⌜ r ≡ at + length (fitting byteRoom at (bytesOf (afterSpaces k (now (line .entry))))) ⌝ }
     ensures { λ _. ⌜ now (area .exit) ≡ sets (now (area .entry)) at (fitting byteRoom at (bytesOf (afterSpaces k (now (line .entry))))) ⌝ }
@@ -164,7 +166,7 @@ pub fn put_bytes(line: &[u8; LINE], k: usize, area: &mut [u8; ROOM], at: usize) 
     to
 }
 
-// The bytes of the line after the k-th space as they stand, laid at `at`; answers the place after them.
+// The same with the bytes of the line after the k-th space as they stand.
 pub fn put_text(line: &[u8; LINE], k: usize, area: &mut [u8; ROOM], at: usize) -> usize
     ensures { λ r. ⌜ r ≡ at + length (fitting byteRoom at (text (afterSpaces k (now (line .entry))))) ⌝ }
     ensures { λ _. ⌜ now (area .exit) ≡ sets (now (area .entry)) at (fitting byteRoom at (text (afterSpaces k (now (line .entry))))) ⌝ }
@@ -187,7 +189,7 @@ pub fn put_text(line: &[u8; LINE], k: usize, area: &mut [u8; ROOM], at: usize) -
     to
 }
 
-// The numbers of all words after the first, laid at `at`; answers the place after them.
+// The same with the numbers of all words after the first.
 pub fn put_numbers(line: &[u8; LINE], area: &mut [u32; NUMBERS], at: usize) -> usize
     ensures { λ r. ⌜ r ≡ at + length (fitting numberRoom at (numbersOf (now (line .entry)))) ⌝ }
     ensures { λ _. ⌜ now (area .exit) ≡ sets (now (area .entry)) at (fitting numberRoom at (numbersOf (now (line .entry)))) ⌝ }

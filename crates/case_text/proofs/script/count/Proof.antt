@@ -36,7 +36,7 @@ loop-again c =
     let l = c .before .before .before .loop in
     let s = now (c .before .before .before .before .before .args .line) in
     ⊎-elim
-    (λ w. (omega (arith, w .1), omega (arith, w .1, l .inv .1, spaces-space s (l .i) (omega arith) (w .0 .taken))))
+    (λ w. (omega (arith, w .1), omega (arith, w .1, l .inv .1, spaces-space s (l .i) (omega arith) (omega (arith, w .0 .taken)))))
     (λ w. (omega (arith, w .1), omega (arith, w .1, l .inv .1, spaces-other s (l .i) (omega arith) (w .0 .left))))
     (c .if1 .came)
 
