@@ -1,6 +1,9 @@
 // The lines of a text.
 use libc::STDIN_FILENO;
 use libc::STDOUT_FILENO;
+ghost use mathlib.Core.Path.{_≡_};
+ghost use lib.ListN.{getD, drop, replicate};
+ghost use Rattle.case_text.specs.Lines.{ended, isLine, isComment, spaces, afterSpaces, startsWith, hasFrom, hasExactly};
 
 // The room for a line. What is longer goes on as a line of its own.
 pub const LINE: usize = 512;
@@ -20,19 +23,23 @@ fn next_byte() -> u8 {
     one[0]
 }
 
-fn blank() -> [u8; LINE] {
+fn blank() -> [u8; LINE]
+    ensures { λ r. ⌜ r ≡ replicate 512 0 ⌝ }
+{
     [0; LINE]
 }
 
-// The next line with its end, and zeros; zeros alone at the end of the input.
-pub fn next() -> [u8; LINE] {
+// The next line with its end, and zeros; zeros alone at the end of the input. Which bytes it has is open.
+pub fn next() -> [u8; LINE]
+    ensures { λ r. ⌜ r ≡ ended r ⌝ }
+{
     let mut line = blank();
     let mut i = 0;
     while i < LINE {
         let byte = next_byte();
         line[i] = byte;
         if byte <= NEWLINE {
-            break;
+            return line;
         }
         i += 1;
     }
@@ -40,23 +47,34 @@ pub fn next() -> [u8; LINE] {
 }
 
 // The byte at a place, 0 past the room.
-pub(crate) fn byte(line: &[u8; LINE], i: usize) -> u8 {
-    if i < LINE { line[i] } else { 0 }
+pub(crate) fn byte(line: &[u8], i: usize) -> u8
+    ensures { λ r. ⌜ r ≡ getD (now (line .entry)) i 0 ⌝ }
+{
+    if i < line.len() { line[i] } else { 0 }
 }
 
 // Whether the input had a line.
-pub fn is_line(line: &[u8; LINE]) -> bool {
+pub fn is_line(line: &[u8; LINE]) -> bool
+    ensures { λ r. ⌜ r ≡ isLine (now (line .entry)) ⌝ }
+{
     0 < byte(line, 0)
 }
 
 // Whether a line is blank or a comment.
-pub fn is_comment(line: &[u8; LINE]) -> bool {
+pub fn is_comment(line: &[u8; LINE]) -> bool
+    ensures { λ r. ⌜ r ≡ isComment (now (line .entry)) ⌝ }
+{
     let first = byte(line, 0);
-    first <= NEWLINE || first == HASH
+    if first <= NEWLINE {
+        return true;
+    }
+    first == HASH
 }
 
 // Whether a line's first word is this one.
-fn first_is(line: &[u8; LINE], word: &[u8]) -> bool {
+fn first_is(line: &[u8], word: &[u8]) -> bool
+    ensures { λ r. ⌜ r ≡ startsWith (now (word .entry)) (now (line .entry)) ⌝ }
+{
     let mut i = 0;
     while i < word.len() {
         if byte(line, i) != word[i] {
@@ -68,12 +86,15 @@ fn first_is(line: &[u8; LINE], word: &[u8]) -> bool {
 }
 
 // How many words a line has after its first.
-pub fn count(line: &[u8; LINE]) -> usize {
+pub fn count(line: &[u8; LINE]) -> usize
+    ensures { λ r. ⌜ r ≡ spaces (now (line .entry)) ⌝ }
+{
+    let bytes: &[u8] = line;
     let mut n = 0;
     let mut i = 0;
-    while i < LINE {
-        if line[i] == SPACE {
-            n = std::num::wrapping_add_usize(n, 1);
+    while i < bytes.len() {
+        if bytes[i] == SPACE {
+            n += 1;
         }
         i += 1;
     }
@@ -81,7 +102,9 @@ pub fn count(line: &[u8; LINE]) -> usize {
 }
 
 // Whether a line's first word is this one, with so many after it or more.
-pub fn has_from(line: &[u8; LINE], word: &[u8], words: usize) -> bool {
+pub fn has_from(line: &[u8; LINE], word: &[u8], words: usize) -> bool
+    ensures { λ r. ⌜ r ≡ hasFrom (now (line .entry)) (now (word .entry)) words ⌝ }
+{
     if first_is(line, word) {
         return words <= count(line);
     }
@@ -89,7 +112,9 @@ pub fn has_from(line: &[u8; LINE], word: &[u8], words: usize) -> bool {
 }
 
 // Whether a line's first word is this one, with so many after it and no more.
-pub fn has(line: &[u8; LINE], word: &[u8], words: usize) -> bool {
+pub fn has(line: &[u8; LINE], word: &[u8], words: usize) -> bool
+    ensures { λ r. ⌜ r ≡ hasExactly (now (line .entry)) (now (word .entry)) words ⌝ }
+{
     if first_is(line, word) {
         return count(line) == words;
     }
@@ -97,12 +122,14 @@ pub fn has(line: &[u8; LINE], word: &[u8], words: usize) -> bool {
 }
 
 // Where the word after the k-th space starts; the end of the room if there are fewer.
-pub(crate) fn place(line: &[u8; LINE], k: usize) -> usize {
+pub(crate) fn place(line: &[u8], k: usize) -> usize
+    ensures { λ r. ⌜ drop r (now (line .entry)) ≡ afterSpaces k (now (line .entry)) ⌝ }
+{
     let mut left = k;
     let mut i = 0;
-    while i < LINE {
+    while i < line.len() {
         if left == 0 {
-            break;
+            return i;
         }
         if line[i] == SPACE {
             left -= 1;
@@ -117,11 +144,11 @@ fn print_byte(byte: u8) {
 }
 
 // Prints the words after the k-th space.
-fn print(line: &[u8; LINE], k: usize) {
+fn print(line: &[u8], k: usize) {
     let mut i = place(line, k);
-    while i < LINE {
+    while i < line.len() {
         if line[i] <= NEWLINE {
-            break;
+            return;
         }
         print_byte(line[i]);
         i += 1;

@@ -1,4 +1,4 @@
-// A program's arguments: four numbers, the settings, which a word may follow; or none.
+// A program's arguments: four numbers, the settings, which a word may follow.
 use console_text::lines;
 use console_text::numbers;
 use console_text::numbers::Number;
@@ -6,7 +6,9 @@ use libc::STDERR_FILENO;
 use libc::STDOUT_FILENO;
 use rtp::settings;
 use rtp::settings::Settings;
-ghost use Rattle.console.specs.Answers.{InRange};
+ghost use mathlib.Core.Path.{_≡_};
+ghost use mathlib.Core.Bool.{true};
+ghost use Rattle.console.specs.Answers.{InRange, WordSized};
 
 // The settings that are asked for; or nothing more to do, and what there was to say is said.
 pub enum Asked {
@@ -14,8 +16,11 @@ pub enum Asked {
     Nothing,
 }
 
+// The bytes of the longest argument that is read.
+const LONGEST: usize = 16;
+
 // How the program is called, with which arguments, and what it does.
-fn print_call(fd: i32, program: &[u8], arguments: &[u8], purpose: &[u8]) {
+pub fn print_call(fd: i32, program: &[u8], arguments: &[u8], purpose: &[u8]) {
     let mut line = lines::blank();
     let mut at = lines::put(&mut line, 0, b"usage: ");
     at = lines::put(&mut line, at, program);
@@ -52,7 +57,7 @@ fn print_usage(fd: i32, program: &[u8], purpose: &[u8]) {
 }
 
 // What is wrong with the arguments.
-fn say_fault(program: &[u8], subject: &[u8], fault: &[u8]) {
+pub fn say_fault(program: &[u8], subject: &[u8], fault: &[u8]) {
     let mut line = lines::blank();
     let mut at = lines::put(&mut line, 0, program);
     at = lines::put(&mut line, at, b": ");
@@ -70,7 +75,7 @@ fn complain(program: &[u8], purpose: &[u8], subject: &[u8], fault: &[u8]) {
 
 // Argument i; it says so if it is no number. A missing argument and one of more than 16 bytes come as an empty text, which is none.
 fn argument(program: &[u8], purpose: &[u8], i: usize, name: &[u8]) -> Number {
-    let mut text = [0u8; 16];
+    let mut text = [0u8; LONGEST];
     let n = os::arg(i, &mut text);
     let value = numbers::parse(&text[..n]);
     match value {
@@ -121,7 +126,9 @@ fn read_four(program: &[u8], purpose: &[u8]) -> Asked
 }
 
 // Whether two texts are the same.
-fn same(a: &[u8], b: &[u8]) -> bool {
+fn same(a: &[u8], b: &[u8]) -> bool
+    ensures { λ r. ⌜ (r ≡ true → now (a .entry) ≡ now (b .entry)) ⌝ }
+{
     if a.len() != b.len() {
         return false;
     }
@@ -135,9 +142,12 @@ fn same(a: &[u8], b: &[u8]) -> bool {
     true
 }
 
-// Whether argument i is this word, of 1 to 16 bytes.
-pub fn is_word(i: usize, word: &[u8]) -> bool {
-    let mut text = [0u8; 16];
+// Whether argument i is this word, of 1 to 16 bytes. What the arguments are is the operating system's answer, and the rules leave it open; but
+// other words are none.
+pub fn is_word(i: usize, word: &[u8]) -> bool
+    ensures { λ r. ⌜ WordSized r (now (word .entry)) ⌝ }
+{
+    let mut text = [0u8; LONGEST];
     let n = os::arg(i, &mut text);
     if n == 0 {
         return false;
@@ -186,19 +196,4 @@ pub fn read(program: &[u8], purpose: &[u8]) -> Asked
     ensures { λ r. ⌜ InRange r ⌝ }
 {
     read_with(program, purpose, b"")
-}
-
-// Whether a program that takes no arguments is to run: not with `--help`, and not with other arguments, to which it says so. The rules leave open
-// which it is.
-pub fn read_none(program: &[u8], arguments: &[u8], purpose: &[u8]) -> bool {
-    if asks_help() {
-        print_call(STDOUT_FILENO, program, arguments, purpose);
-        return false;
-    }
-    if os::arg_count() < 2 {
-        return true;
-    }
-    say_fault(program, b"it takes no arguments", b"");
-    print_call(STDERR_FILENO, program, arguments, purpose);
-    false
 }

@@ -6,6 +6,7 @@ use mathlib.Core.Bool.{cond}
 use lib.Dec.{ltb, eqb}
 use lib.ListN.{length, take}
 use Rattle.io.specs.Digits.{digits, glyph}
+use Rattle.console_text.specs.Ascii.{ascii}
 
 -- the bytes of a line's area
 abbrev pub lineSize : ℕ
@@ -37,14 +38,14 @@ hexadecimal (b ∷ bs) = glyph (b / 16) ∷ glyph (b % 16) ∷ hexadecimal bs
 abbrev pub bytesOf : ℕ → List ℕ
 bytesOf n = (n / 16777216 % 256) ∷ (n / 65536 % 256) ∷ (n / 256 % 256) ∷ (n % 256) ∷ []
 
--- a frame's class in a word: sound, sid, damaged-sound, damaged-sid; unknown
+-- a frame's class in a word
 unfoldable pub classWord : ℕ → List ℕ
 classWord class =
-    cond (eqb class 1) (115 ∷ 111 ∷ 117 ∷ 110 ∷ 100 ∷ [])
-    (cond (eqb class 2) (115 ∷ 105 ∷ 100 ∷ [])
-    (cond (eqb class 5) (100 ∷ 97 ∷ 109 ∷ 97 ∷ 103 ∷ 101 ∷ 100 ∷ 45 ∷ 115 ∷ 111 ∷ 117 ∷ 110 ∷ 100 ∷ [])
-    (cond (eqb class 6) (100 ∷ 97 ∷ 109 ∷ 97 ∷ 103 ∷ 101 ∷ 100 ∷ 45 ∷ 115 ∷ 105 ∷ 100 ∷ [])
-    (117 ∷ 110 ∷ 107 ∷ 110 ∷ 111 ∷ 119 ∷ 110 ∷ []))))
+    cond (eqb class 1) (ascii "sound")
+    (cond (eqb class 2) (ascii "sid")
+    (cond (eqb class 5) (ascii "damaged-sound")
+    (cond (eqb class 6) (ascii "damaged-sid")
+    (ascii "unknown"))))
 
 -- a frame: time, channel, class, length and bytes, a space between them
 unfoldable pub frameText : ℕ → ℕ → ℕ → List ℕ → List ℕ

@@ -22,3 +22,12 @@ withDigits n (c ∷ cs) = withDigits (withDigit n c) cs
 -- the number that a text is; an empty text is none
 unfoldable pub numberOf : List ℕ → Number
 numberOf text = cond (eqb (length text) 0) Number.NoNumber (withDigits (Number.Value 0) text)
+
+-- The answer in numbers: whether there is a number, 1 or 0, and the number, 0 where there is none
+pub record Parsed : Type 0 where
+  pub found : ℕ
+  pub value : ℕ
+
+abbrev pub parsed : Number → Parsed
+parsed Number.NoNumber = record { found = 0; value = 0 }
+parsed (Number.Value v) = record { found = 1; value = v }

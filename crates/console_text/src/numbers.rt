@@ -1,6 +1,6 @@
 // A number in an argument.
 ghost use mathlib.Core.Path.{_≡_};
-ghost use Rattle.console_text.specs.Numbers.{withDigit, numberOf};
+ghost use Rattle.console_text.specs.Numbers.{withDigit, numberOf, parsed};
 
 pub enum Number {
     Value(u8),
@@ -33,7 +33,7 @@ fn with_digit(number: Number, digit: u8) -> Number
 
 // The number from 0 to 255 that a text's decimal digits are.
 pub fn parse(text: &[u8]) -> Number
-    ensures { λ r. ⌜ r ≡ numberOf (now (text .entry)) ⌝ }
+    ensures { λ r. ⌜ parsed r ≡ parsed (numberOf (now (text .entry))) ⌝ }
 {
     if text.len() == 0 {
         return Number::NoNumber;

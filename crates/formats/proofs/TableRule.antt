@@ -4,7 +4,7 @@ use mathlib.Core.List.{List, [], _∷_}
 use mathlib.Core.Bool.{Bool, true, false}
 use Prim.Native.Nat.{ℕ, zero, suc, _+_, _<_}
 use native.Mathlib.Omega.{arith}
-use lib.Dec.{T, eqb}
+use lib.Dec.{T, ltb, eqb, ltb→lt}
 use lib.ListN.{getD}
 use borrow.Author.Tests.{eqb-true, eqb-false}
 use Rattle.rtp.proofs.TestLaws.{by-test}
@@ -46,3 +46,7 @@ entry-from rule i (suc n) (suc k) h = entry-from rule (suc i) n k (omega arith) 
 -- so a table that is computed to these entries keeps the rule at each of them
 pub entry : (rule : ℕ → ℕ) (n k : ℕ) → k < n → getD (entries rule 0 n) k 0 ≡ rule k
 entry rule n k h = entry-from rule 0 n k h ∙ ap rule (omega arith)
+
+-- and fits in 16 bits there where the rule does at each
+pub entry-fits : (rule : ℕ → ℕ) (n k : ℕ) → T (allBelow (λ i. ltb (rule i) 65536) n) → k < n → getD (entries rule 0 n) k 0 < 65536
+entry-fits rule n k t h = subst (λ (m : ℕ). m < 65536) (sym (entry rule n k h)) (ltb→lt (rule k) 65536 (at (λ i. ltb (rule i) 65536) n t k h))

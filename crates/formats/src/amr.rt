@@ -4,7 +4,7 @@ ghost use Prim.Native.Nat.{_<_};
 ghost use Rattle.formats.specs.Frames.{amrLength, amrWbLength};
 
 // AMR frame lengths in bytes by type.
-const AMR_LENGTHS: [usize; 16] = [
+const AMR_LENGTHS: [u16; 16] = [
     12,
     13,
     15,
@@ -24,7 +24,7 @@ const AMR_LENGTHS: [usize; 16] = [
 ];
 
 // .. of AMR-WB.
-const AMR_WB_LENGTHS: [usize; 16] = [
+const AMR_WB_LENGTHS: [u16; 16] = [
     17,
     23,
     32,
@@ -47,12 +47,12 @@ pub(crate) fn amr_length(kind: usize) -> usize
     requires { ⌜ kind < 16 ⌝ }
     ensures { λ r. ⌜ r ≡ amrLength kind ⌝ }
 {
-    AMR_LENGTHS[kind]
+    AMR_LENGTHS[kind] as usize
 }
 
 pub(crate) fn amr_wb_length(kind: usize) -> usize
     requires { ⌜ kind < 16 ⌝ }
     ensures { λ r. ⌜ r ≡ amrWbLength kind ⌝ }
 {
-    AMR_WB_LENGTHS[kind]
+    AMR_WB_LENGTHS[kind] as usize
 }

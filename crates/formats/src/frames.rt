@@ -25,7 +25,7 @@ pub const DAMAGED_SID: usize = DAMAGED + SID;
 const RESERVED: usize = 65535;
 
 // G.719 frame lengths in bytes by length code.
-const G719_LENGTHS: [usize; 32] = [
+const G719_LENGTHS: [u16; 32] = [
     0,
     65535,
     65535,
@@ -78,7 +78,7 @@ fn g719_length(code: usize) -> usize
     requires { ⌜ code < 32 ⌝ }
     ensures { λ r. ⌜ r ≡ g719Length code ⌝ }
 {
-    G719_LENGTHS[code]
+    G719_LENGTHS[code] as usize
 }
 
 fn gsm_hr_length(code: usize) -> usize

@@ -1,2 +1,3 @@
 pub mod LayingLaws
+pub mod NumberLaws
 pub mod TallyLaws

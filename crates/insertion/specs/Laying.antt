@@ -8,7 +8,7 @@ use lib.Seq.{paste}
 use lib.Dec.{ltb, leb}
 use Rattle.tags.specs.Tags.{tagMark, tagClass, tagChannel, joinedTag}
 use Rattle.playout.specs.declared.verdict.Verdict.{Verdict}
-use Rattle.playout.specs.declared.verdict.Verdict.the-variants.{Repeated, Better, NoRoom}
+use Rattle.playout.specs.declared.verdict.Verdict.the-variants.{Late, Far, Repeated, Better, NoRoom, Inserted}
 use Rattle.playout.specs.Sizes.{slots, slotSize, storeSize}
 use Rattle.playout.specs.Copies.{Copy, betterFrame}
 use Rattle.insertion.specs.declared.laying.FrameHead.{FrameHead}
@@ -27,6 +27,15 @@ markIn h = tagMark (h .tag)
 
 abbrev pub copyIn : FrameHead → List ℕ → Copy
 copyIn h frame = record { time = h .time; channel = channelIn h; class = classIn h; bytes = frame }
+
+-- the verdict in numbers: its place in document 01's order
+abbrev pub verdictNumber : Verdict → ℕ
+verdictNumber Late = 1
+verdictNumber Far = 2
+verdictNumber Repeated = 3
+verdictNumber Better = 4
+verdictNumber NoRoom = 5
+verdictNumber Inserted = 6
 
 -- Replacing
 
@@ -47,14 +56,14 @@ beats h frame tags lengths slots' at store =
     betterFrame (classIn h) frame (tagClass (getD tags at 0)) (take (getD lengths at 0) (drop (slotSize * getD slots' at 0) store))
 
 pub record Replaced (h : FrameHead) (frame tags tags' lengths lengths' slots' : List ℕ) (at : ℕ) (store store' : List ℕ) (v : Verdict) : Type 0 where
-  pub verdict : v ≡ cond (beats h frame tags lengths slots' at store) Better Repeated
+  pub verdict : verdictNumber v ≡ verdictNumber (cond (beats h frame tags lengths slots' at store) Better Repeated)
   pub tags-left : tags' ≡ set tags at (cond (beats h frame tags lengths slots' at store) (joinedTag (h .tag) (getD tags at 0)) (joinedTag (getD tags at 0) (h .tag)))
   pub lengths-left : lengths' ≡ cond (beats h frame tags lengths slots' at store) (set lengths at (length frame)) lengths
   pub store-left : store' ≡ cond (beats h frame tags lengths slots' at store) (paste store (slotSize * getD slots' at 0) frame (length frame)) store
 
 -- where it cannot, everything stays as it stood
 pub record NotReplaced (tags tags' lengths lengths' store store' : List ℕ) (v : Verdict) : Type 0 where
-  pub verdict : v ≡ NoRoom
+  pub verdict : verdictNumber v ≡ verdictNumber NoRoom
   pub tags-left : tags' ≡ tags
   pub lengths-left : lengths' ≡ lengths
   pub store-left : store' ≡ store

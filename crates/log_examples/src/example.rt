@@ -31,9 +31,7 @@ pub(crate) fn read_on(cursor: Cursor, bytes: &[u8], n: usize) {
 fn show(written: LogWritten, out: &[u8]) {
     match written {
         LogWritten::Bytes(n) => read(out, n),
-        LogWritten::Refused(why) => {
-            printing::print_refusal(why);
-        }
+        LogWritten::Refused(why) => printing::print_refusal(why),
     }
 }
 

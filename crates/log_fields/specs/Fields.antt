@@ -49,6 +49,18 @@ fieldOf s =
     (cond (ltb (length s) headSize) (Field.Cut (byteAt s 0))
     (cond (ltb (length s) (headSize + contentLength s)) (Field.Cut (byteAt s 0)) (Field.Whole (record { tag = byteAt s 0; length = contentLength s }))))
 
+-- The answer in numbers: how much of a field there is (0 nothing, 1 a part of it, 2 all of it), its tag, and the length of its content; zeros where a case
+-- has none
+pub record FieldNumbers : Type 0 where
+  pub there : ℕ
+  pub tag : ℕ
+  pub length : ℕ
+
+abbrev pub fieldNumbers : Field → FieldNumbers
+fieldNumbers Field.Stopped = record { there = 0; tag = 0; length = 0 }
+fieldNumbers (Field.Cut tag) = record { there = 1; tag = tag; length = 0 }
+fieldNumbers (Field.Whole h) = record { there = 2; tag = h .tag; length = h .length }
+
 -- the bytes of a whole field
 abbrev pub fieldSize : FieldHead → ℕ
 fieldSize h = headSize + h .length

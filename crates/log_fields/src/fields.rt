@@ -3,7 +3,7 @@ use codes::coding;
 use rtp::bytes;
 use rtp::settings::Settings;
 ghost use mathlib.Core.Path.{_≡_};
-ghost use Rattle.log_fields.specs.Fields.{fieldOf, frameFits};
+ghost use Rattle.log_fields.specs.Fields.{fieldOf, fieldNumbers, frameFits};
 
 // The tags of the settings, of a frame and of the end.
 pub const SETTINGS_TAG: u8 = 1;
@@ -37,7 +37,7 @@ pub enum Field {
 
 // The field at the front of s.
 pub fn field_of(s: &[u8]) -> Field
-    ensures { λ r. ⌜ r ≡ fieldOf (now (s .entry)) ⌝ }
+    ensures { λ r. ⌜ fieldNumbers r ≡ fieldNumbers (fieldOf (now (s .entry))) ⌝ }
 {
     if s.len() == 0 {
         return Field::Stopped;

@@ -1,7 +1,5 @@
-// The lines of a log. Each function answers whether standard output took all that it printed, which the rules leave open.
+// The lines of a log, printed. Whether standard output takes them the rules leave open.
 use crate::words;
-use console::frame_lines;
-use console::refusals;
 use console_text::lines;
 use console_text::lines::LINE;
 use libc::STDOUT_FILENO;
@@ -11,15 +9,18 @@ use log::opening::Cursor;
 use log::opening::OpenAnswer;
 use log::stepping;
 use log::stepping::StepAnswer;
-use rtp::refusal;
 use rtp::refusal::Fault;
 use rtp::refusal::Refusal;
 use rtp::settings::Settings;
+ghost use Rattle.log_lines.specs.FrameCounts.{framesFrom, framesOf, AllPrinted};
 
-// Refusals from this number on are of a field, and have its place in the log.
-const OF_A_FIELD: u32 = 17;
+// So many frames, and with them all that there is to print; or standard output did not take all.
+pub enum Printed {
+    Frames(usize),
+    Failed,
+}
 
-// The line's first `at` bytes and its end.
+// The line's first `at` bytes and its end; answers whether standard output took them.
 fn print(line: &mut [u8; LINE], at: usize) -> bool {
     let end = lines::put(line, at, b"\n");
     lines::write(STDOUT_FILENO, line, end)
@@ -31,96 +32,89 @@ fn print_settings(settings: Settings) -> bool {
     print(&mut line, at)
 }
 
-// A line: time, channel, class, length, and the bytes in hexadecimal.
-fn print_bytes(time: u32, channel: u32, class: u32, bytes: &[u8]) -> bool {
+fn print_shown(frame: Shown, log: &[u8]) -> bool {
     let mut line = lines::blank();
-    let at = frame_lines::put_frame(&mut line, 0, time, channel, class, bytes);
+    let at = words::put_shown(&mut line, 0, frame, log);
     print(&mut line, at)
 }
 
-// .. of a frame, which lies inside the log.
-fn print_frame(frame: Shown, log: &[u8]) -> bool {
-    let start = frame.start;
-    let n = frame.length;
-    if start <= log.len() {
-        if n <= log.len() - start {
-            let channel = frame.channel as u32;
-            let class = frame.class as u32;
-            return print_bytes(frame.time, channel, class, &log[start..start + n]);
-        }
+// The last line, behind so many frames.
+fn print_end(count: usize, frames: usize) -> Printed
+    ensures { λ r. ⌜ AllPrinted r frames ⌝ }
+{
+    let mut line = lines::blank();
+    let at = words::put_end(&mut line, 0, count);
+    if print(&mut line, at) {
+        return Printed::Frames(frames);
     }
-    false
+    Printed::Failed
 }
 
-// A line: how many frames there are before the end.
-fn print_end(count: usize) -> bool {
+// .. of a log that is refused.
+fn print_fault(fault: Fault, frames: usize) -> Printed
+    ensures { λ r. ⌜ AllPrinted r frames ⌝ }
+{
     let mut line = lines::blank();
-    let mut at = lines::put(&mut line, 0, b"end, ");
-    at = lines::put_count(&mut line, at, count as u64, b" frame", b" frames");
-    print(&mut line, at)
-}
-
-// A line: the refusal's number, the place in the log of the field at fault, and the reason.
-fn print_fault(fault: Fault) -> bool {
-    let why = fault.refusal;
-    let number = refusal::refusal_number(why);
-    if number < OF_A_FIELD {
-        return print_refusal(why);
+    let at = words::put_fault(&mut line, 0, fault);
+    if print(&mut line, at) {
+        return Printed::Frames(frames);
     }
-    let mut line = lines::blank();
-    let mut at = lines::put_number(&mut line, 0, b"refusal ", number as u64);
-    at = lines::put_number(&mut line, at, b" at byte ", fault.offset as u64);
-    at = lines::put(&mut line, at, b": ");
-    at = refusals::put_reason(&mut line, at, number);
-    print(&mut line, at)
+    Printed::Failed
 }
 
-// A line: the refusal's number and the reason.
-pub fn print_refusal(why: Refusal) -> bool {
-    let number = refusal::refusal_number(why);
+// A line: the refusal's number and the reason. Whether standard output takes it is not asked.
+pub fn print_refusal(why: Refusal) {
     let mut line = lines::blank();
-    let mut at = lines::put_number(&mut line, 0, b"refusal ", number as u64);
-    at = lines::put(&mut line, at, b": ");
-    at = refusals::put_reason(&mut line, at, number);
-    print(&mut line, at)
+    let at = words::put_refusal(&mut line, 0, why);
+    print(&mut line, at);
 }
 
 // The frames of a log from a record on, and its end or the refusal. A proved loop has to end, so this one counts its turns: a log has fewer
 // frames than bytes.
-pub fn print_from(cursor: Cursor, log: &[u8]) -> bool {
+pub fn print_from(cursor: Cursor, log: &[u8]) -> Printed
+    ensures { λ r. ⌜ AllPrinted r (framesFrom cursor (now (log .entry))) ⌝ }
+{
     let mut reached = cursor;
-    let mut turns = log.len();
-    loop {
+    let mut frames = 0;
+    while frames <= log.len() {
         let stepped = stepping::step(reached, log);
         let answer = stepped.answer;
         match answer {
-            StepAnswer::End => return print_end(reached.count),
-            StepAnswer::Refused(fault) => return print_fault(fault),
+            StepAnswer::End => return print_end(reached.count, frames),
+            StepAnswer::Refused(fault) => return print_fault(fault, frames),
             StepAnswer::Frame(frame) => {
-                if !print_frame(frame, log) {
-                    return false;
+                if !print_shown(frame, log) {
+                    return Printed::Failed;
                 }
                 let next = stepped.cursor;
                 reached = next;
             }
         }
-        if turns == 0 {
-            return false;
-        }
-        turns -= 1;
+        frames += 1;
     }
+    Printed::Frames(frames)
 }
 
 // A whole log: its settings, its frames, and its end or the refusal.
-pub fn print_log(log: &[u8]) -> bool {
+pub fn print_log(log: &[u8]) -> Printed
+    ensures { λ r. ⌜ AllPrinted r (framesOf (now (log .entry))) ⌝ }
+{
     let opened = opening::open(log);
     let cursor = opened.cursor;
     let answer = opened.answer;
     match answer {
-        OpenAnswer::Refused(why) => print_fault(Fault {
-            refusal: why,
-            offset: 0,
-        }),
-        OpenAnswer::Opened(settings) => print_settings(settings) && print_from(cursor, log),
+        OpenAnswer::Refused(why) => {
+            let fault = Fault {
+                refusal: why,
+                offset: 0,
+            };
+            print_fault(fault, 0)
+        }
+        OpenAnswer::Opened(settings) => {
+            if print_settings(settings) {
+                return print_from(cursor, log);
+            }
+            Printed::Failed
+        }
     }
 }

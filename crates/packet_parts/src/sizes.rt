@@ -13,7 +13,7 @@ ghost use mathlib.Core.Path.{_≡_};
 ghost use Prim.Native.Nat.{_+_, _*_, _^_, _≤_};
 ghost use lib.ListN.{length};
 ghost use Rattle.plans.specs.Lists.{rowsIn, firstTime};
-ghost use Rattle.payload_sizes.specs.Measures.{writtenNumbers, measured};
+ghost use Rattle.payload_sizes.specs.Measures.{writtenNumbers};
 ghost use Rattle.packet_parts.specs.Parts.{maxRedundant, total, countsFit, primaryTime};
 ghost use Rattle.packet_parts.specs.ListSizes.{firstWords, offsetOf, redundantNumbers, listsNumbers, withinNumbers, sizeNumbers};
 
@@ -99,16 +99,6 @@ pub fn primary_time(counts: &[u32], rows: &[u32]) -> u32
     }
     let n = first_words(counts, rows);
     primary_time(&counts[1..], &rows[n..])
-}
-
-// The bytes of a list's payload, 0 where it has none.
-pub fn list_size(asked: Settings, rows: &[u32]) -> usize
-    ensures { λ r. ⌜ r ≡ measured asked (now (rows .entry)) .count ⌝ }
-{
-    match measuring::measure_payload(asked, rows) {
-        Written::Bytes(size) => size,
-        Written::Refused(_) => 0,
-    }
 }
 
 // The bytes that a redundant list takes, its block header too.

@@ -16,7 +16,7 @@ use Rattle.playout.specs.Pairs.{order, sideOf}
 use Rattle.playout.specs.declared.order.Side.{Side}
 use Rattle.placing.specs.declared.columns.Place.{Place}
 use Rattle.placing.specs.declared.columns.Search.{Search}
-use Rattle.placing.specs.Places.{placeAt, placeFrom, Parted, middle, halfAt, halve, halving, mostCompared}
+use Rattle.placing.specs.Places.{placeAt, placeFrom, Parted, middle, halfAt, halve, halving, placeNumbers, searchNumbers, mostCompared}
 
 eq≢lt : Ordering·eq ≡ Ordering·lt → ⊥
 eq≢lt q = let z : _≡_ {A = ℕ} 0 1 = cc in omega arith
@@ -142,5 +142,6 @@ module _ (times tags : List ℕ) (t c : ℕ) where
 
   -- what an answer of the halving is
   pub answers : (n : ℕ) → n ≤ slots → (r : Search) → r ≡ halving times tags t c n
-      → (r ≡ halving times tags t c n) × (Parted times tags t c n → r .place ≡ placeFrom times tags t c n 0) × (r .compared ≤ mostCompared)
-  answers n few r e = (e, λ parted. ap (λ (s : Search). s .place) e ∙ halving-place n parted, subst (λ (s : Search). s .compared ≤ mostCompared) (sym e) (halving-few n few))
+      → (searchNumbers r ≡ searchNumbers (halving times tags t c n))
+      × (Parted times tags t c n → placeNumbers (r .place) ≡ placeNumbers (placeFrom times tags t c n 0)) × (r .compared ≤ mostCompared)
+  answers n few r e = (ap searchNumbers e, λ parted. ap (λ (s : Search). placeNumbers (s .place)) e ∙ ap placeNumbers (halving-place n parted), subst (λ (s : Search). s .compared ≤ mostCompared) (sym e) (halving-few n few))

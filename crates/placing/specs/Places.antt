@@ -51,6 +51,23 @@ halve times tags t c (suc fuel) low high k =
 abbrev pub halving : List ℕ → List ℕ → ℕ → ℕ → ℕ → Search
 halving times tags t c n = halve times tags t c n 0 n 0
 
+-- A place in numbers: 1 where the pair is held and 0 where it belongs, and the place
+pub record PlaceNumbers : Type 0 where
+  pub held : ℕ
+  pub at : ℕ
+
+abbrev pub placeNumbers : Place → PlaceNumbers
+placeNumbers (Place.FoundAt i) = record { held = 1; at = i }
+placeNumbers (Place.InsertAt i) = record { held = 0; at = i }
+
+-- The answer in numbers: the place, and how many entries were compared
+pub record SearchNumbers : Type 0 where
+  pub place : PlaceNumbers
+  pub compared : ℕ
+
+abbrev pub searchNumbers : Search → SearchNumbers
+searchNumbers s = record { place = placeNumbers (s .place); compared = s .compared }
+
 -- the most entries compared: a full buffer has under 2 ^ 8 entries, and each comparison halves the range
 abbrev pub mostCompared : ℕ
 mostCompared = 8

@@ -1,4 +1,5 @@
 // Bytes laid into areas.
+use rtp::bytes;
 ghost use mathlib.Core.Path.{_≡_};
 ghost use Rattle.placing.specs.Bounds.{laid};
 
@@ -9,12 +10,5 @@ pub fn copy_into(area: &mut [u8], at: usize, src: &[u8])
     if area.len() < at {
         return;
     }
-    if area.len() - at < src.len() {
-        return;
-    }
-    let mut i = 0;
-    while i < src.len() {
-        area[at + i] = src[i];
-        i += 1;
-    }
+    bytes::put_bytes(&mut area[at..], src);
 }

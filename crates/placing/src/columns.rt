@@ -8,7 +8,7 @@ ghost use Prim.Native.Nat.{_≤_};
 ghost use Rattle.playout.specs.Sizes.{slots};
 ghost use Rattle.layout.specs.Columns.{fitsFrom, withinFrom};
 ghost use Rattle.placing.specs.Bounds.{used as usedOf, insertion, removal};
-ghost use Rattle.placing.specs.Places.{placeFrom, Parted, halving, mostCompared};
+ghost use Rattle.placing.specs.Places.{placeFrom, Parted, halving, placeNumbers, searchNumbers, mostCompared};
 
 // Where a pair is held, or belongs.
 pub enum Place {
@@ -81,9 +81,9 @@ pub fn find_place(
     time: u32,
     channel: u32,
 ) -> Search
-    ensures { λ r. ⌜ (r ≡ halving (now (times .entry)) (now (tags .entry)) time channel (usedOf n))
+    ensures { λ r. ⌜ (searchNumbers r ≡ searchNumbers (halving (now (times .entry)) (now (tags .entry)) time channel (usedOf n)))
         × (Parted (now (times .entry)) (now (tags .entry)) time channel (usedOf n)
-        → r .place ≡ placeFrom (now (times .entry)) (now (tags .entry)) time channel (usedOf n) 0) × (r .compared ≤ mostCompared) ⌝ }
+        → placeNumbers (r .place) ≡ placeNumbers (placeFrom (now (times .entry)) (now (tags .entry)) time channel (usedOf n) 0)) × (r .compared ≤ mostCompared) ⌝ }
 {
     let mut low = 0;
     let mut high = used(n);

@@ -1,3 +1,4 @@
 pub mod ListLaws
+pub mod NumberLaws
 pub mod PlanLaws
 pub mod BlockLaws

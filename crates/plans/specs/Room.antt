@@ -5,6 +5,8 @@ use mathlib.Core.Bool.{cond}
 use lib.ListN.{length, getD}
 use lib.Dec.{leb}
 use Rattle.rtp.specs.Sizes.{maxRows, maxFrame}
+use Rattle.rtp.specs.Refusals.{number}
+use Rattle.rtp.specs.declared.refusal.Refusal.the-variants.{Unwritable}
 use Rattle.contents.specs.Contents.{Contents, refused, groups, entrySize, sizeIn, framesIn}
 use Rattle.formats.specs.Formats.{maxGap}
 use Rattle.frame_rows.specs.Rows.{Row}
@@ -85,7 +87,23 @@ pub record Attachable (format ch : ℕ) (r : Row) (rest : Planned) : Type 0 wher
   pub short : r .length ≤ maxFrame
   pub small : Small format ch maxRows rest
 
--- the plan of a whole list by the bytes of its table and of the payload
+-- The answer on a whole list in numbers: the refusal number or 0, and the bytes of the table and of the payload, zeros on refusal
+pub record ListNumbers : Type 0 where
+  pub refusal : ℕ
+  pub table : ℕ
+  pub payload : ℕ
+
+-- of the code's answer, case by case
+abbrev pub listPlanNumbers : ListPlan → ListNumbers
+listPlanNumbers ListPlan.Unwritable = record { refusal = number Unwritable; table = 0; payload = 0 }
+listPlanNumbers (ListPlan.Fits s) = record { refusal = 0; table = s .table; payload = s .payload }
+
+-- of the plan, which is refused for no other reason
+unfoldable pub listNumbers : ℕ → ℕ → Contents → ListNumbers
+listNumbers format ch (refused q) = record { refusal = number Unwritable; table = 0; payload = 0 }
+listNumbers format ch (groups gs) = record { refusal = 0; table = sizeIn format gs; payload = payloadSize format ch gs }
+
+-- the code's answer that has them
 unfoldable pub listAnswer : ℕ → ℕ → Contents → ListPlan
 listAnswer format ch (refused q) = ListPlan.Unwritable
 listAnswer format ch (groups gs) = ListPlan.Fits (record { table = sizeIn format gs; payload = payloadSize format ch gs })

@@ -19,7 +19,7 @@ ghost use Rattle.rtp.specs.Sizes.{rowWidth, maxRows};
 ghost use Rattle.formats.specs.Formats.{formatOf, stepOf, maxGap};
 ghost use Rattle.plans.specs.Lists.{rowsIn};
 ghost use Rattle.plans.specs.Plans.{ticksAfter, gapBetween, nextChannel, starts, continues, follows, joinsRun, planFrom, plan};
-ghost use Rattle.plans.specs.Room.{rowAs, planAnswer, attachPlan, Attachable, listAnswer};
+ghost use Rattle.plans.specs.Room.{rowAs, planAnswer, attachPlan, Attachable, listPlanNumbers, listNumbers};
 
 // A plan by its first run: class, length, the gap before it and its frame-blocks; and the bytes of the whole table and of all frames.
 pub struct Plan {
@@ -234,7 +234,7 @@ pub enum ListPlan {
 
 // The plan of a whole list, by its sizes.
 pub fn plan_list(format: u8, channels: u8, rows: &[u32]) -> ListPlan
-    ensures { λ r. ⌜ r ≡ listAnswer format channels (plan format channels (rowsIn (now (rows .entry)))) ⌝ }
+    ensures { λ r. ⌜ listPlanNumbers r ≡ listNumbers format channels (plan format channels (rowsIn (now (rows .entry)))) ⌝ }
 {
     if channels == 0 {
         return ListPlan::Unwritable;

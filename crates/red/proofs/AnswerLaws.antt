@@ -14,7 +14,7 @@ use Rattle.frame_rows.specs.Rows.{Row, words}
 use Rattle.payload.specs.Payloads.{Rows, noRows, rowsOf, payloadNumbers, rowsNumbers, rowsAnswer, rowsWords}
 use Rattle.frame_rows.proofs.RowLaws.{length-words, words-append}
 use Rattle.payload.proofs.PayloadLaws.{answer-none, words-none}
-use Rattle.payload.proofs.NumberLaws.{rows-is}
+use Rattle.payload.proofs.NumberLaws.{rows-is, rows-has}
 use Rattle.red.specs.Blocks.{prependRows, thenRows}
 use Rattle.red.specs.Room.{Taken}
 
@@ -153,6 +153,9 @@ Gives p l m x = (p ≡ rowsAnswer x) × (m ≡ over (rowsWords x) l)
 -- by the payload's numbers
 pub gives-read : (p : PayloadRead) (l m : List ℕ) (x : Rows) → (payloadNumbers p ≡ rowsNumbers x) × (m ≡ over (rowsWords x) l) → Gives p l m x
 gives-read p l m x g = (rows-is p x (g .0), g .1)
+
+pub gives-numbers : (p : PayloadRead) (l m : List ℕ) (x : Rows) → Gives p l m x → (payloadNumbers p ≡ rowsNumbers x) × (m ≡ over (rowsWords x) l)
+gives-numbers p l m x g = (rows-has p x (g .0), g .1)
 
 pub gives-none : (r : Fault) (l : List ℕ) (x : Rows) → x ≡ noRows r → Gives (PayloadRead.Refused r) l l x
 gives-none r l x h = (answer-none x r h, words-none x r l h)

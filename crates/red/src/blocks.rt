@@ -21,7 +21,7 @@ ghost use Rattle.rtp.specs.Sizes.{rowArea, maxPacket};
 ghost use Rattle.rtp.specs.Areas.{over};
 ghost use Rattle.rtp.specs.Ranges.{inRange};
 ghost use Rattle.tags.specs.Tags.{redundantMark};
-ghost use Rattle.payload.specs.Payloads.{rowsAnswer, rowsWords};
+ghost use Rattle.payload.specs.Payloads.{payloadNumbers, rowsNumbers, rowsAnswer, rowsWords};
 ghost use Rattle.red.specs.Blocks.{redundantRows, askedRedundant};
 ghost use Rattle.red.specs.Room.{askedBlock, blocksFrom, BlocksAsked, BlocksRoom};
 
@@ -212,7 +212,7 @@ pub fn read_redundant(
     s: &[u8],
     rows: &mut [u32],
 ) -> PayloadRead
-    ensures { λ r. ⌜ (r ≡ rowsAnswer (askedRedundant settings (length (now (rows .entry))) timestamp at (now (s .entry))))
+    ensures { λ r. ⌜ (payloadNumbers r ≡ rowsNumbers (askedRedundant settings (length (now (rows .entry))) timestamp at (now (s .entry))))
         × (now (rows .exit) ≡ over (rowsWords (askedRedundant settings (length (now (rows .entry))) timestamp at (now (s .entry)))) (now (rows .entry))) ⌝ }
 {
     if rtp::settings::in_range(settings) {

@@ -29,6 +29,7 @@ use Rattle.layout.specs.WellFormed.{wellFormed}
 use Rattle.layout.specs.Arrays.{Machine}
 use Rattle.insertion.specs.Laying.{classIn, channelIn, markIn, copyIn, canReplace, beats, Replaced, canInsert, Laid}
 use Rattle.insertion.proofs.LayingLaws.{can-replace, can-insert}
+use Rattle.insertion.proofs.NumberLaws.{same-verdict}
 use Rattle.reorder.specs.Judging.{JudgedAs}
 use Rattle.layout.proofs.ColumnLaws.{inserted}
 use Rattle.slot_marks.proofs.WordLaws.{slotOf, slotsOf, free-is}
@@ -242,7 +243,7 @@ module _ (b : Buffer) (m : Machine b) (w : wellFormed b ≡ true) (head : FrameH
             (λ t.
             let q = judge-found far true t in
             record {
-              verdict = r .verdict ∙ ap (λ (x : Bool). cond x Better Repeated) t ∙ sym (ap (λ (j : Judged). j .verdict) q);
+              verdict = same-verdict _ _ (r .verdict) ∙ ap (λ (x : Bool). cond x Better Repeated) t ∙ sym (ap (λ (j : Judged). j .verdict) q);
               buffer =
                   ap₂ (λ (x z : List ℕ). laid (b .times) x z (b .slots) (b .occupied)) (tags-by true t) (lengths-by true t)
                   ∙ sym (ap (λ (j : Judged). encode (b .settings) (j .held)) q ∙ buffer-better);
@@ -253,7 +254,7 @@ module _ (b : Buffer) (m : Machine b) (w : wellFormed b ≡ true) (head : FrameH
             (λ t.
             let q = judge-found far false t in
             record {
-              verdict = r .verdict ∙ ap (λ (x : Bool). cond x Better Repeated) t ∙ sym (ap (λ (j : Judged). j .verdict) q);
+              verdict = same-verdict _ _ (r .verdict) ∙ ap (λ (x : Bool). cond x Better Repeated) t ∙ sym (ap (λ (j : Judged). j .verdict) q);
               buffer =
                   ap₂ (λ (x z : List ℕ). laid (b .times) x z (b .slots) (b .occupied)) (tags-by false t) (lengths-by false t)
                   ∙ sym (ap (λ (j : Judged). encode (b .settings) (j .held)) q ∙ buffer-repeated);

@@ -1,3 +1,4 @@
+pub mod FromLaws
 pub mod ListBytesLaws
 pub mod PutLaws
 pub mod ListPartLaws

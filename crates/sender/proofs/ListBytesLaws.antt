@@ -6,35 +6,32 @@ use native.Mathlib.Omega.{arith}
 use lib.ListN.{length, getD, take, drop}
 use Rattle.rtp.specs.Sizes.{rowWidth}
 use Rattle.rtp.specs.declared.settings.Settings.{Settings}
-use Rattle.payload_sizes.specs.Measures.{measured}
-use Rattle.packet_parts.specs.Headings.{blockHeaderBytes}
-use Rattle.packet_parts.specs.ListSizes.{offsetOf}
-use Rattle.sender.specs.Room.{listsHeaders, HeaderFits, HeadersFit, listBytes, listsPayloads, listHeadersSize}
+use Rattle.sender.specs.Room.{listBytes, listsPayloads, listHeader, listsHeaders, listHeadersSize, HeaderFits, HeadersFit}
 
-module _ (st : Settings) (time : ℕ) where
+module _ (st : Settings) (request time : ℕ) (bytes : List ℕ) where
   -- The headers
 
-  pub headers-one : (counts ws : List ℕ) → length counts < 2 → listsHeaders st time counts ws ≡ st .«payload_type» ∷ []
+  pub headers-one : (counts ws : List ℕ) → length counts < 2 → listsHeaders st request time bytes counts ws ≡ st .«payload_type» ∷ []
   unfolding listsHeaders
   headers-one [] ws h = refl
   headers-one (n ∷ []) ws h = refl
   headers-one (n ∷ m ∷ ns) ws h = absurd (omega arith)
 
   pub headers-more : (counts ws : List ℕ) → 2 ≤ length counts → let n = rowWidth * getD counts 0 0 in
-      listsHeaders st time counts ws ≡ blockHeaderBytes (st .«payload_type») (offsetOf time (take n ws)) (measured st (take n ws) .count) ++ listsHeaders st time (drop 1 counts) (drop n ws)
+      listsHeaders st request time bytes counts ws ≡ listHeader st request time bytes (take n ws) ++ listsHeaders st request time bytes (drop 1 counts) (drop n ws)
   unfolding listsHeaders
   headers-more [] ws h = absurd (omega arith)
   headers-more (n ∷ []) ws h = absurd (omega arith)
   headers-more (n ∷ m ∷ ns) ws h = refl
 
-  pub length-headers : (counts ws : List ℕ) → length (listsHeaders st time counts ws) ≡ listHeadersSize (length counts)
+  pub length-headers : (counts ws : List ℕ) → length (listsHeaders st request time bytes counts ws) ≡ listHeadersSize (length counts)
   unfolding listsHeaders
   length-headers [] ws = refl
   length-headers (n ∷ []) ws = refl
   length-headers (n ∷ m ∷ ns) ws = omega (arith, length-headers (m ∷ ns) (drop (rowWidth * n) ws))
 
-  pub fit-more : (counts ws : List ℕ) → 2 ≤ length counts → HeadersFit st time counts ws
-      → let n = rowWidth * getD counts 0 0 in HeaderFits st time (take n ws) × HeadersFit st time (drop 1 counts) (drop n ws)
+  pub fit-more : (counts ws : List ℕ) → 2 ≤ length counts → HeadersFit st request time bytes counts ws
+      → let n = rowWidth * getD counts 0 0 in HeaderFits st request time bytes (take n ws) × HeadersFit st request time bytes (drop 1 counts) (drop n ws)
   fit-more [] ws h f = absurd (omega arith)
   fit-more (n ∷ []) ws h f = absurd (omega arith)
   fit-more (n ∷ m ∷ ns) ws h f = f

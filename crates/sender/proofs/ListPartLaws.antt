@@ -46,8 +46,8 @@ partsSize (b ∷ bs) p = 4 + length (b .bytes) + partsSize bs p
 -- the lists are these parts
 pub record Laid (st : Settings) (request : ℕ) (bytes : List ℕ) (time : ℕ) (counts ws : List ℕ) (bs : List Part) (p : List ℕ) : Type 0 where
   pub sizes : listsNumbers st time counts ws ≡ record { refusal = 0; count = partsSize bs p }
-  pub heads : listsHeaders st time counts ws ≡ headersBytes (st .«payload_type») bs
-  pub fit : HeadersFit st time counts ws
+  pub heads : listsHeaders st request time bytes counts ws ≡ headersBytes (st .«payload_type») bs
+  pub fit : HeadersFit st request time bytes counts ws
   pub payloads : listsPayloads st request bytes counts ws ≡ blocksBytes bs p
   pub many : length counts ≡ suc (length bs)
 
@@ -99,7 +99,7 @@ module _ (st : Settings) (request : ℕ) (bytes : List ℕ) (time : ℕ) (i : in
       go (noBytes q) e = ap (λ (m : Numbers). eqb (m .refusal) 0) (lists-one st time (n ∷ []) ws (omega arith) ∙ measured-is ws (noBytes q) o w e ∙ none-numbers q) ∙ number-some q
       go (bytesOf p) e = record {
         sizes = lists-one st time (n ∷ []) ws (omega arith) ∙ measured-is ws (bytesOf p) o w e ∙ bytes-numbers p;
-        heads = headers-one st time (n ∷ []) ws (omega arith) ∙ sym (no-headers (st .«payload_type»));
+        heads = headers-one st request time bytes (n ∷ []) ws (omega arith) ∙ sym (no-headers (st .«payload_type»));
         fit = tt;
         payloads = payloads-one st request bytes (n ∷ []) ws (omega arith) ∙ bytes-is ws p e ∙ sym (no-blocks p);
         many = refl;
@@ -124,10 +124,10 @@ module _ (st : Settings) (request : ℕ) (bytes : List ℕ) (time : ℕ) (i : in
       put noParts h = refused-of (listsNumbers st time (n ∷ m ∷ ns) ws) (add-rest (redundantNumbers st time front) (listsNumbers st time (m ∷ ns) others) h ∙ sym sum)
       put (partsOf cs d) h =
           let b : Part = record { offset = offsetOf time front; bytes = q } in
-          let k : measured st front .count ≡ length q = ap (λ (x : Numbers). x .count) z in
+          let k : length (listBytes st request bytes front) ≡ length q = ap (λ (l : List ℕ). length l) y in
           record {
             sizes = sum ∙ sym (add-both (redundantNumbers st time front) (listsNumbers st time (m ∷ ns) others) (4 + length q) (partsSize cs d) (sym (redundant-all st time front (length q) z short near)) (h .sizes));
-            heads = headers-more st time (n ∷ m ∷ ns) ws (omega arith) ∙ rw (k, h .heads) (sym (more-headers (st .«payload_type») b cs));
+            heads = headers-more st request time bytes (n ∷ m ∷ ns) ws (omega arith) ∙ rw (k, h .heads) (sym (more-headers (st .«payload_type») b cs));
             fit = (record { type = ranged st i .plain; near = near; short = omega (arith, k) }, h .fit);
             payloads = payloads-more st request bytes (n ∷ m ∷ ns) ws (omega arith) ∙ rw (y, h .payloads) (sym (more-blocks b cs d));
             many = ap suc (h .many);

@@ -3,17 +3,20 @@ use mathlib.Core.Path.{_≡_, refl, ap, sym, _∙_, subst}
 use mathlib.Core.List.{List, _++_}
 use Prim.Native.Nat.{ℕ, _+_, _-_, _*_, _%_, _≤_, _<_}
 use native.Mathlib.Omega.{arith}
-use lib.ListN.{length, getD, take, drop, length-append}
+use lib.ListN.{length, getD, take, drop, set, length-append, length-drop}
 use borrow.Author.Tests.{le-ltb, eq-eqb}
 use Rattle.rtp.specs.Sizes.{rowWidth}
+use Rattle.rtp.specs.Areas.{over}
 use Rattle.rtp.specs.declared.settings.Settings.{Settings}
 use Rattle.frame_rows.specs.Rows.{rowsIn}
 use Rattle.payload_sizes.specs.declared.measuring.Written.{Written}
 use Rattle.encoder.specs.Writings.{Encoded, noBytes, bytesOf, encoded, roomFor, writing, encodedNumbers, encodedBytes}
 use Rattle.payload_sizes.specs.Measures.{Numbers, writtenNumbers}
-use Rattle.sender.specs.Room.{listBytes, listsPayloads, ListRoom, PayloadsRoom}
+use Rattle.sender.specs.Room.{listBytes, listsPayloads, listHeader, listsHeaders, listHeadersSize, overFrom, HeaderFits, HeadersFit, ListRoom, PayloadsRoom, BlockRoom, BlocksRoom}
+use Rattle.rtp.proofs.AreaLaws.{over-one}
 use Rattle.packet_parts.proofs.WordLaws.{first-fits, counted-rest, inside-first, inside-rest, whole-first}
-use Rattle.sender.proofs.ListBytesLaws.{payloads-one, payloads-more}
+use Rattle.sender.proofs.FromLaws.{from-length}
+use Rattle.sender.proofs.ListBytesLaws.{headers-one, headers-more, fit-more, payloads-one, payloads-more}
 
 -- One list
 
@@ -72,3 +75,56 @@ module _ (st : Settings) (request : ℕ) (bytes counts ws : List ℕ) (area : �
       counted = counted-rest counts ws (omega arith) (r .counted) n e;
       room = omega (arith, split-length);
     }
+
+-- A first block and the others
+
+apart-rest : (c start k : ℕ) → 2 ≤ c → listHeadersSize c ≤ start → listHeadersSize (c - 1) ≤ start - 4 + k
+apart-rest c start k h a = omega arith
+
+inside-rest-of : (start area k : ℕ) → 4 ≤ start → start ≤ area → k ≤ area - start → start - 4 + k ≤ area - 4
+inside-rest-of start area k h i r = omega arith
+
+left-rest : (start area k : ℕ) → 4 ≤ start → area - start - k ≡ area - 4 - (start - 4 + k)
+left-rest start area k h = omega arith
+
+module _ (st : Settings) (request time : ℕ) (bytes counts ws : List ℕ) (start area : ℕ) (r : BlocksRoom st request time bytes counts ws start area) (h : 2 ≤ length counts) (n : ℕ) (e : n ≡ rowWidth * getD counts 0 0) where
+  fits : HeaderFits st request time bytes (take n ws) × HeadersFit st request time bytes (drop 1 counts) (drop n ws)
+  fits =
+      subst (λ (k : ℕ). HeaderFits st request time bytes (take k ws) × HeadersFit st request time bytes (drop 1 counts) (drop k ws)) (sym e)
+      (fit-more st request time bytes counts ws h (r .fit))
+
+  pub headers-split : listsHeaders st request time bytes counts ws ≡ listHeader st request time bytes (take n ws) ++ listsHeaders st request time bytes (drop 1 counts) (drop n ws)
+  headers-split =
+      subst (λ (k : ℕ). listsHeaders st request time bytes counts ws ≡ listHeader st request time bytes (take k ws) ++ listsHeaders st request time bytes (drop 1 counts) (drop k ws)) (sym e)
+      (headers-more st request time bytes counts ws h)
+
+  pub block-first : BlockRoom st request time bytes (take n ws) start area
+  block-first = record {
+    fits = fits .0;
+    apart = omega (arith, r .apart);
+    inside = r .inside;
+    list = room-first st request bytes counts ws (area - start) (r .payloads) h n e;
+  }
+
+  pub blocks-rest : (k : ℕ) → k ≡ length (listBytes st request bytes (take n ws)) → BlocksRoom st request time bytes (drop 1 counts) (drop n ws) (start - 4 + k) (area - 4)
+  blocks-rest k d =
+      let room = block-first .list .room in
+      let four = block-first .apart in
+      record {
+        fit = fits .1;
+        apart = rw length-drop (apart-rest (length counts) start k h (r .apart));
+        inside = inside-rest-of start area k four (r .inside) (subst (λ (j : ℕ). j ≤ area - start) (sym d) room);
+        payloads = subst (λ (a : ℕ). PayloadsRoom st request bytes (drop 1 counts) (drop n ws) a) (left-rest start area k four) (room-rest st request bytes counts ws (area - start) (r .payloads) h n e k d);
+      }
+
+-- the primary list alone
+pub blocks-one : (st : Settings) (request time : ℕ) (bytes counts ws : List ℕ) (start : ℕ) (l m : List ℕ) → BlocksRoom st request time bytes counts ws start (length l) → length counts < 2
+    → m ≡ overFrom start (listBytes st request bytes ws) l
+    → set m 0 (st .«payload_type») ≡ over (listsHeaders st request time bytes counts ws) (overFrom start (listsPayloads st request bytes counts ws) l)
+blocks-one st request time bytes counts ws start l m r h e =
+    let p = listBytes st request bytes ws in
+    let room : 1 ≤ length (overFrom start p l) = omega (arith, r .apart, from-length start p l (r .inside)) in
+    ap (λ (x : List ℕ). set x 0 (st .«payload_type»)) e
+    ∙ over-one (overFrom start p l) (st .«payload_type») room
+    ∙ ap (λ (x : List ℕ). over x (overFrom start p l)) (sym (headers-one st request time bytes counts ws h))
+    ∙ ap (λ (x : List ℕ). over (listsHeaders st request time bytes counts ws) (overFrom start x l)) (sym (payloads-one st request bytes counts ws h))

@@ -79,8 +79,8 @@ pub record Plain (st : Settings) (request : ℕ) (h : Heading) (time : ℕ) (byt
 pub record Redundant (st : Settings) (request : ℕ) (h : Heading) (time : ℕ) (bytes counts ws : List ℕ) (area : ℕ) (x : Encoded) : Type 0 where
   pub type : st .«redundancy_type» < 128
   pub room : minPacket ≤ area
-  pub blocks : BlocksRoom st request time bytes counts ws (area - minPacket)
-  pub packet : encodedBytes x ≡ headerBytes h (st .«redundancy_type») time ++ (listsHeaders st time counts ws ++ listsPayloads st request bytes counts ws)
+  pub blocks : BlocksRoom st request time bytes counts ws (listHeadersSize (length counts)) (area - minPacket)
+  pub packet : encodedBytes x ≡ headerBytes h (st .«redundancy_type») time ++ (listsHeaders st request time bytes counts ws ++ listsPayloads st request bytes counts ws)
 
 module _ (st : Settings) (request : ℕ) (h : Heading) (time : ℕ) (bytes counts ws : List ℕ) (area : ℕ) (r : PacketRoom st request h time bytes counts ws area) where
   it : Agrees st request bytes time counts ws (parts st request bytes time counts (rowsIn ws))
@@ -115,15 +115,17 @@ module _ (st : Settings) (request : ℕ) (h : Heading) (time : ℕ) (bytes count
       (λ a.
       let body = headersBytes (st .«payload_type») (c ∷ cs) ++ blocksBytes (c ∷ cs) p in
       let w = within-room (headerBytes h (st .«redundancy_type») time ++ body) area (rw a at b) in
-      let e : body ≡ listsHeaders st time counts ws ++ listsPayloads st request bytes counts ws = rw (d .heads, d .payloads) in
+      let e : body ≡ listsHeaders st request time bytes counts ws ++ listsPayloads st request bytes counts ws = rw (d .heads, d .payloads) in
       let l = ap (λ (s : List ℕ). length s) e in
-      let s = length-append (listsHeaders st time counts ws) (listsPayloads st request bytes counts ws) in
-      let k = length-headers st time counts ws in
+      let s = length-append (listsHeaders st request time bytes counts ws) (listsPayloads st request bytes counts ws) in
+      let k = length-headers st request time bytes counts ws in
       record {
         type = ranged st (asked st request (r .settings) .settings) .redundant a .0;
         room = omega (arith, w .1);
         blocks = record {
-          headers = record { counted = r .counted; some = r .some; fit = d .fit; room = omega (arith, w .1) };
+          fit = d .fit;
+          apart = omega arith;
+          inside = omega (arith, w .1);
           payloads = payloads-room (area - minPacket - listHeadersSize (length counts)) (omega (arith, w .1));
         };
         packet = rw a (all-bytes _ _ (w .0) ∙ ap (λ (s : List ℕ). headerBytes h (st .«redundancy_type») time ++ s) e);

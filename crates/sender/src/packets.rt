@@ -9,44 +9,14 @@ use rtp::refusal::Refusal;
 use rtp::settings::Settings;
 use rtp::sizes::MIN_PACKET;
 ghost use mathlib.Core.Path.{_≡_};
-ghost use Prim.Native.Nat.{_≤_};
-ghost use mathlib.Core.List.{_++_};
 ghost use lib.ListN.{length};
 ghost use Rattle.rtp.specs.Areas.{over};
 ghost use Rattle.plans.specs.Lists.{rowsIn};
 ghost use Rattle.encoder.specs.Writings.{encodedNumbers, encodedBytes};
-ghost use Rattle.payload_sizes.specs.Measures.{writtenNumbers, measured};
+ghost use Rattle.payload_sizes.specs.Measures.{writtenNumbers};
 ghost use Rattle.packet_parts.specs.Parts.{parts};
-ghost use Rattle.packet_parts.specs.Headings.{blockHeaderBytes};
-ghost use Rattle.packet_parts.specs.ListSizes.{offsetOf};
 ghost use Rattle.sender.specs.Packets.{assembledFrom, sending};
-ghost use Rattle.sender.specs.Room.{HeaderFits, listsHeaders, HeadersRoom, listBytes, ListRoom, listsPayloads, PayloadsRoom, BlocksRoom, PacketRoom};
-
-// The block header of a redundant list.
-fn put_list_header(asked: Settings, time: u32, rows: &[u32], out: &mut [u8])
-    requires { ⌜ HeaderFits asked time (now rows) × (4 ≤ length (now out)) ⌝ }
-    ensures { λ _. ⌜ now (out .exit) ≡
-        over (blockHeaderBytes (asked .«payload_type») (offsetOf time (now (rows .entry))) (measured asked (now (rows .entry)) .count))
-        (now (out .entry)) ⌝ }
-{
-    let offset = sizes::offset_of(time, rows);
-    let size = sizes::list_size(asked, rows);
-    headers::put_block_header(out, asked.payload_type, offset, size);
-}
-
-// The block headers of the lists, the primary one's last.
-fn put_headers(asked: Settings, time: u32, counts: &[u32], rows: &[u32], out: &mut [u8])
-    requires { ⌜ HeadersRoom asked time (now counts) (now rows) (length (now out)) ⌝ }
-    ensures { λ _. ⌜ now (out .exit) ≡ over (listsHeaders asked time (now (counts .entry)) (now (rows .entry))) (now (out .entry)) ⌝ }
-{
-    if counts.len() < 2 {
-        out[0] = asked.payload_type;
-        return;
-    }
-    let n = sizes::first_words(counts, rows);
-    put_list_header(asked, time, &rows[..n], out);
-    put_headers(asked, time, &counts[1..], &rows[n..], &mut out[4..]);
-}
+ghost use Rattle.sender.specs.Room.{listBytes, listsPayloads, listHeader, listsHeaders, overFrom, ListRoom, BlockRoom, BlocksRoom, PacketRoom};
 
 // A list's payload; answers its bytes.
 fn put_list(asked: Settings, mode_request: u8, rows: &[u32], bytes: &[u8], out: &mut [u8]) -> usize
@@ -60,35 +30,28 @@ fn put_list(asked: Settings, mode_request: u8, rows: &[u32], bytes: &[u8], out: 
     }
 }
 
-// The payloads of the lists, one after another.
-fn put_payloads(
+// A redundant list: its block header at the front of the area, its payload at `start`; answers the payload's bytes.
+fn put_block(
     asked: Settings,
     mode_request: u8,
-    counts: &[u32],
+    time: u32,
     rows: &[u32],
     bytes: &[u8],
+    start: usize,
     out: &mut [u8],
-)
-    requires { ⌜ PayloadsRoom asked «mode_request» (now bytes) (now counts) (now rows) (length (now out)) ⌝ }
-    ensures { λ _. ⌜ now (out .exit) ≡ over (listsPayloads asked «mode_request» (now (bytes .entry)) (now (counts .entry)) (now (rows .entry))) (now (out .entry)) ⌝ }
+) -> usize
+    requires { ⌜ BlockRoom asked «mode_request» time (now bytes) (now rows) start (length (now out)) ⌝ }
+    ensures { λ r. ⌜ (r ≡ length (listBytes asked «mode_request» (now (bytes .entry)) (now (rows .entry))))
+        × (now (out .exit) ≡ over (listHeader asked «mode_request» time (now (bytes .entry)) (now (rows .entry)))
+        (overFrom start (listBytes asked «mode_request» (now (bytes .entry)) (now (rows .entry))) (now (out .entry)))) ⌝ }
 {
-    if counts.len() < 2 {
-        put_list(asked, mode_request, rows, bytes, out);
-        return;
-    }
-    let n = sizes::first_words(counts, rows);
-    let size = put_list(asked, mode_request, &rows[..n], bytes, out);
-    put_payloads(
-        asked,
-        mode_request,
-        &counts[1..],
-        &rows[n..],
-        bytes,
-        &mut out[size..],
-    );
+    let size = put_list(asked, mode_request, rows, bytes, &mut out[start..]);
+    let offset = sizes::offset_of(time, rows);
+    headers::put_block_header(out, asked.payload_type, offset, size);
+    size
 }
 
-// The block headers of the lists, then their payloads.
+// The lists: their block headers at the front of the area, the primary one's last, and their payloads at `start`, one after another.
 fn put_blocks(
     asked: Settings,
     mode_request: u8,
@@ -96,16 +59,31 @@ fn put_blocks(
     counts: &[u32],
     rows: &[u32],
     bytes: &[u8],
+    start: usize,
     out: &mut [u8],
 )
-    requires { ⌜ BlocksRoom asked «mode_request» time (now bytes) (now counts) (now rows) (length (now out)) ⌝ }
+    requires { ⌜ BlocksRoom asked «mode_request» time (now bytes) (now counts) (now rows) start (length (now out)) ⌝ }
     ensures { λ _. ⌜ now (out .exit) ≡
-        over (listsHeaders asked time (now (counts .entry)) (now (rows .entry)) ++ listsPayloads asked «mode_request» (now (bytes .entry)) (now (counts .entry))
-        (now (rows .entry))) (now (out .entry)) ⌝ }
+        over (listsHeaders asked «mode_request» time (now (bytes .entry)) (now (counts .entry)) (now (rows .entry)))
+        (overFrom start (listsPayloads asked «mode_request» (now (bytes .entry)) (now (counts .entry)) (now (rows .entry))) (now (out .entry))) ⌝ }
 {
-    put_headers(asked, time, counts, rows, out);
-    let size = 1 + 4 * (counts.len() - 1);
-    put_payloads(asked, mode_request, counts, rows, bytes, &mut out[size..]);
+    if counts.len() < 2 {
+        put_list(asked, mode_request, rows, bytes, &mut out[start..]);
+        out[0] = asked.payload_type;
+        return;
+    }
+    let n = sizes::first_words(counts, rows);
+    let size = put_block(asked, mode_request, time, &rows[..n], bytes, start, out);
+    put_blocks(
+        asked,
+        mode_request,
+        time,
+        &counts[1..],
+        &rows[n..],
+        bytes,
+        start - 4 + size,
+        &mut out[4..],
+    );
 }
 
 // A packet of the lists, the last of which stands at `time`.
@@ -129,14 +107,7 @@ fn put_packet(
 {
     if counts.len() < 2 {
         headers::put_header(out, marker, sequence, source, asked.payload_type, time);
-        put_payloads(
-            asked,
-            mode_request,
-            counts,
-            rows,
-            bytes,
-            &mut out[MIN_PACKET..],
-        );
+        put_list(asked, mode_request, rows, bytes, &mut out[MIN_PACKET..]);
         return;
     }
     headers::put_header(out, marker, sequence, source, asked.redundancy_type, time);
@@ -147,6 +118,7 @@ fn put_packet(
         counts,
         rows,
         bytes,
+        1 + 4 * (counts.len() - 1),
         &mut out[MIN_PACKET..],
     );
 }

@@ -4,7 +4,9 @@ use console::standard_input;
 use console::standard_input::AllRead;
 use console_text::lines;
 use libc::STDERR_FILENO;
+use libc::STDOUT_FILENO;
 use log_lines::printing;
+use log_lines::printing::Printed;
 
 // The bytes of the longest log: there is no heap, and the stack has 8 MiB.
 const LONGEST: usize = 1048576;
@@ -28,8 +30,9 @@ fn say_too_long() {
 // The log in the first n bytes of the area. n is never more than the area has.
 fn print_front(area: &[u8], n: usize) {
     if n <= area.len() {
-        if printing::print_log(&area[..n]) {
-            return;
+        match printing::print_log(&area[..n]) {
+            Printed::Frames(_) => return,
+            Printed::Failed => {}
         }
     }
     os::fail(b"show_log: standard output");
@@ -44,12 +47,25 @@ fn show() {
     }
 }
 
-fn main() {
-    if arguments::read_none(
+// How the program is called.
+fn print_usage(fd: i32) {
+    arguments::print_call(
+        fd,
         b"show_log",
         b" < LOG\n",
         b"Prints the settings of a log, a line for each frame (time, channel, class, length, bytes), and the end, or why it is refused and at which byte.\n  LOG  as `receive` writes it with the argument `log`, at most 1,048,576 bytes\n",
-    ) {
-        show();
+    );
+}
+
+fn main() {
+    if arguments::is_word(1, b"--help") {
+        print_usage(STDOUT_FILENO);
+        return;
     }
+    if os::arg_count() < 2 {
+        show();
+        return;
+    }
+    arguments::say_fault(b"show_log", b"it takes no arguments", b"");
+    print_usage(STDERR_FILENO);
 }

@@ -10,8 +10,14 @@ slice-aggregate-print-log c = simp length-take (omega arith)
 print-log-requires : tie.Need-print-log-requires
 print-log-requires c κs = search needs
 
+enum-told : tie.Need-enum-told
+enum-told c = search needs
+
 returns : tie.Need-returns
 returns c = search needs
+
+enum-told-2 : tie.Need-enum-told-2
+enum-told-2 c = search needs
 
 slice-aggregate-fail : tie.Need-slice-aggregate-fail
 slice-aggregate-fail c = search needs
@@ -28,7 +34,9 @@ print-front-spec =
     (tie.spec
     slice-aggregate-print-log
     print-log-requires
+    enum-told
     returns
+    enum-told-2
     slice-aggregate-fail
     fail-requires
     returns-2)

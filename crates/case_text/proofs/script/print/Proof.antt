@@ -1,5 +1,6 @@
+use Prim.Native.Nat.{_-_}
+use lib.ListN.{length}
 use borrow.Author.Needs.{needs}
-use Prim.Native.Nat.{ℕ, _-_}
 use Rattle.case_text.proofs.script.print.Statement.{statement}
 use Rattle.case_text.proofs.script.print.Tie as tie
 
@@ -7,7 +8,7 @@ abbrev Inv-loop : tie.InvT-loop
 Inv-loop line k i₀ i = Unit
 
 abbrev μ-loop : tie.MeasureT-loop
-μ-loop line k i₀ i = 512 - i
+μ-loop line k i₀ i = length line - i
 
 place-requires : tie.Need-place-requires Inv-loop μ-loop
 place-requires c κs = search needs
@@ -15,11 +16,14 @@ place-requires c κs = search needs
 loop-holds : tie.Need-loop-holds Inv-loop μ-loop
 loop-holds c = search needs
 
-element-copy-out-if1 : tie.Need-element-copy-out-if1 Inv-loop μ-loop
-element-copy-out-if1 c = search needs
+shared-slice-read-if1 : tie.Need-shared-slice-read-if1 Inv-loop μ-loop
+shared-slice-read-if1 c = search needs
 
-element-copy-out-print-byte : tie.Need-element-copy-out-print-byte Inv-loop μ-loop
-element-copy-out-print-byte c = search needs
+returns : tie.Need-returns Inv-loop μ-loop
+returns c = search needs
+
+shared-slice-read-print-byte : tie.Need-shared-slice-read-print-byte Inv-loop μ-loop
+shared-slice-read-print-byte c = search needs
 
 print-byte-requires : tie.Need-print-byte-requires Inv-loop μ-loop
 print-byte-requires c κs = search needs
@@ -33,9 +37,6 @@ loop-less c = search needs
 loop-again : tie.Need-loop-again Inv-loop μ-loop
 loop-again c = search needs
 
-returns : tie.Need-returns Inv-loop μ-loop
-returns c = search needs
-
 returns-2 : tie.Need-returns-2 Inv-loop μ-loop
 returns-2 c = search needs
 
@@ -47,11 +48,11 @@ print-spec =
     μ-loop
     place-requires
     loop-holds
-    element-copy-out-if1
-    element-copy-out-print-byte
+    shared-slice-read-if1
+    returns
+    shared-slice-read-print-byte
     print-byte-requires
     add-i
     loop-less
     loop-again
-    returns
     returns-2)

@@ -7,7 +7,7 @@ use lib.ListN.{length, drop}
 use borrow.Author.Tests.{eq-eqb, ne-eqb}
 use denote.Ref.{now}
 use Rattle.console_text.specs.declared.numbers.Number.{Number}
-use Rattle.console_text.specs.Numbers.{withDigits, numberOf}
+use Rattle.console_text.specs.Numbers.{withDigits, numberOf, parsed}
 use Rattle.console_text.proofs.NumberLaws.{with-next, with-none}
 use Rattle.console_text.proofs.numbers.parse.Statement.{statement}
 use Rattle.console_text.proofs.numbers.parse.Tie as tie
@@ -50,7 +50,7 @@ loop-again c =
 
 returns-2 : tie.Need-returns-2 Inv-loop μ-loop
 returns-2 c =
-    sym (c .before .loop .inv ∙ with-none (c .before .loop .value) (now (c .before .before .before .before .args .text)) (c .before .loop .i) (omega arith))
+    ap parsed (sym (c .before .loop .inv ∙ with-none (c .before .loop .value) (now (c .before .before .before .before .args .text)) (c .before .loop .i) (omega arith)))
 
 pub parse-spec : {M : Type 1} → statement M
 parse-spec =

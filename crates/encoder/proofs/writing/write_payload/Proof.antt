@@ -6,6 +6,7 @@ use denote.Ref.{now}
 use Rattle.rtp.specs.Areas.{over}
 use Rattle.plans.specs.Lists.{rowsIn, outside}
 use Rattle.plans.specs.Plans.{plan}
+use Rattle.plans.proofs.NumberLaws.{list-is}
 use Rattle.encoder.specs.Writings.{Encoded, encodedBytes}
 use Rattle.payload_sizes.specs.Asking.{askable}
 use Rattle.payload_sizes.proofs.MeasureLaws.{Answered, answered, unanswered}
@@ -22,7 +23,7 @@ inside-at c = sym (c .before .any-outside .ensures) ∙ c .if2 .left
 
 -- the sizes of the plan that was made
 sizes-at : (c : tie.After-sizes) → let a = c .before .before .before .before .before .before .before .before .before .before .before .args in Answered (a .asked .format) (a .asked .channels) (plan (a .asked .format) (a .asked .channels) (rowsIn (now (a .rows)))) (c .sizes .given .0 .0)
-sizes-at c = let a = c .before .before .before .before .before .before .before .before .before .before .before .args in answered (a .asked .format) (a .asked .channels) (plan (a .asked .format) (a .asked .channels) (rowsIn (now (a .rows)))) (c .sizes .given .0 .0) (sym (c .sizes .given .1) ∙ c .before .before .plan-list .ensures)
+sizes-at c = let a = c .before .before .before .before .before .before .before .before .before .before .before .args in answered (a .asked .format) (a .asked .channels) (plan (a .asked .format) (a .asked .channels) (rowsIn (now (a .rows)))) (c .sizes .given .0 .0) (sym (c .sizes .given .1) ∙ list-is _ _ _ _ (c .before .before .plan-list .ensures))
 
 in-range-requires : tie.Need-in-range-requires
 in-range-requires c κs = search needs
@@ -52,7 +53,7 @@ put-payload-requires : tie.Need-put-payload-requires
 put-payload-requires c κs = let a = c .before .before .before .before .before .before .before .before .before .before .before .before .before .before .before .args in payload-room (a .asked) (a .mode-request) (now (a .rows)) (now (a .bytes)) (length (now (a .out))) (range-at (c .before .before .before .before .before .before .before .before .before .before)) (inside-at (c .before .before .before .before .before .before .before .before)) (c .before .before .before .before .before .before .before .if3 .taken) _ (sizes-at (c .before .before .before .before)) (omega arith) (c .before .before .if4 .left)
 
 returns-3 : tie.Need-returns-3
-returns-3 c = let a = c .before .before .before .before .before .before .before .before .before .before .before .args in refused-pair _ _ (now (a .out)) (writing-none (a .asked) (a .mode-request) (now (a .rows)) (now (a .bytes)) (length (now (a .out))) (range-at (c .before .before .before .before .before .before)) (inside-at (c .before .before .before .before)) (c .before .before .before .if3 .taken) (unanswered (a .asked .format) (a .asked .channels) (now (a .rows)) (sym (c .enum-told .given .1) ∙ c .before .before .plan-list .ensures)))
+returns-3 c = let a = c .before .before .before .before .before .before .before .before .before .before .before .args in refused-pair _ _ (now (a .out)) (writing-none (a .asked) (a .mode-request) (now (a .rows)) (now (a .bytes)) (length (now (a .out))) (range-at (c .before .before .before .before .before .before)) (inside-at (c .before .before .before .before)) (c .before .before .before .if3 .taken) (unanswered (a .asked .format) (a .asked .channels) (now (a .rows)) (sym (c .enum-told .given .1) ∙ list-is _ _ _ _ (c .before .before .plan-list .ensures))))
 
 same-length : tie.Need-same-length
 same-length c = search needs

@@ -1,7 +1,7 @@
 -- `amr_length` meets its contract: the table is computed from its rule, which so holds at each of its 16 entries.
-use borrow.Author.Needs.{needs}
+use borrow.Author.Needs.{needs, fits-under}
 use Rattle.formats.specs.Frames.{amrLength}
-use Rattle.formats.proofs.TableRule.{entry}
+use Rattle.formats.proofs.TableRule.{entry, entry-fits}
 use Rattle.formats.proofs.amr.amr_length.Statement.{statement}
 use Rattle.formats.proofs.amr.amr_length.Tie as tie
 
@@ -11,9 +11,13 @@ mul-result c = search needs
 array-read-result : tie.Need-array-read-result
 array-read-result c = search needs
 
+cast-result : tie.Need-cast-result
+unfolding amrLength
+cast-result c = fits-under _ _ 65536 (entry-fits amrLength 16 (c .args .kind) tt (search needs)) tt
+
 returns : tie.Need-returns
 unfolding amrLength
 returns c = entry amrLength 16 (c .args .kind) (search needs)
 
 pub amr-length-spec : {M : Type 1} → statement M
-amr-length-spec = tie.close (tie.spec mul-result array-read-result returns)
+amr-length-spec = tie.close (tie.spec mul-result array-read-result cast-result returns)

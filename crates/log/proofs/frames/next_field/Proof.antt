@@ -4,6 +4,7 @@ use borrow.Author.Tests.{eq-eqb, ne-eqb}
 use Rattle.log_fields.specs.declared.fields.Field.{Field}
 use Rattle.log_fields.specs.Fields.{fieldOf}
 use Rattle.log_fields.proofs.FieldLaws.{whole-inside}
+use Rattle.log_fields.proofs.NumberLaws.{same-field}
 use Rattle.log.proofs.FieldLaws.{next-by}
 use borrow.Author.Needs.{needs}
 use Rattle.log.proofs.frames.next_field.Statement.{statement}
@@ -11,10 +12,10 @@ use Rattle.log.proofs.frames.next_field.Tie as tie
 
 -- the field at the front, by its case
 cut : (c : tie.After-cut-tag) → fieldOf (now (c .before .before .before .before .args .s)) ≡ Field.Cut (c .cut-tag .given .0 .0)
-cut c = sym (c .before .before .field-of .ensures) ∙ c .cut-tag .given .1
+cut c = sym (same-field _ _ (c .before .before .field-of .ensures)) ∙ c .cut-tag .given .1
 
 whole : (c : tie.After-head) → fieldOf (now (c .before .before .before .before .args .s)) ≡ Field.Whole (c .head .given .0 .0)
-whole c = sym (c .before .before .field-of .ensures) ∙ c .head .given .1
+whole c = sym (same-field _ _ (c .before .before .field-of .ensures)) ∙ c .head .given .1
 
 field-of-requires : tie.Need-field-of-requires
 field-of-requires c κs = search needs
@@ -65,7 +66,7 @@ add-t17 : tie.Need-add-t17
 add-t17 c = search needs
 
 returns-5 : tie.Need-returns-5
-returns-5 c = c .refuse .ensures ∙ rw (next-by _ _ _ _ (sym (c .before .before .before .field-of .ensures) ∙ c .before .enum-told .given .1))
+returns-5 c = c .refuse .ensures ∙ rw (next-by _ _ _ _ (sym (same-field _ _ (c .before .before .before .field-of .ensures)) ∙ c .before .enum-told .given .1))
 
 returns-6 : tie.Need-returns-6
 returns-6 c = c .refuse3 .ensures ∙ rw (next-by _ _ _ _ (cut (c .before .before .before)), ne-eqb _ _ (c .before .if1 .left))

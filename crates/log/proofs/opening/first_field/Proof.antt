@@ -4,6 +4,7 @@ use borrow.Author.Tests.{eq-eqb, ne-eqb}
 use Rattle.log_fields.specs.declared.fields.Field.{Field}
 use Rattle.log_fields.specs.Fields.{fieldOf}
 use Rattle.log_fields.proofs.FieldLaws.{whole-inside}
+use Rattle.log_fields.proofs.NumberLaws.{same-field}
 use Rattle.log.proofs.FieldLaws.{opening-by}
 use borrow.Author.Needs.{needs}
 use Rattle.log.proofs.opening.first_field.Statement.{statement}
@@ -11,10 +12,10 @@ use Rattle.log.proofs.opening.first_field.Tie as tie
 
 -- the first field, by its case
 cut : (c : tie.After-tag) → fieldOf (now (c .before .before .before .before .args .s)) ≡ Field.Cut (c .tag .given .0 .0)
-cut c = sym (c .before .before .field-of .ensures) ∙ c .tag .given .1
+cut c = sym (same-field _ _ (c .before .before .field-of .ensures)) ∙ c .tag .given .1
 
 whole : (c : tie.After-head) → fieldOf (now (c .before .before .before .before .args .s)) ≡ Field.Whole (c .head .given .0 .0)
-whole c = sym (c .before .before .field-of .ensures) ∙ c .head .given .1
+whole c = sym (same-field _ _ (c .before .before .field-of .ensures)) ∙ c .head .given .1
 
 field-of-requires : tie.Need-field-of-requires
 field-of-requires c κs = search needs
@@ -38,7 +39,7 @@ returns-2 : tie.Need-returns-2
 returns-2 c = c .settings-field .ensures ∙ rw (opening-by _ _ (whole (c .before .before .before .before)), eq-eqb _ _ (c .before .if2 .taken))
 
 returns-3 : tie.Need-returns-3
-returns-3 c = rw (opening-by _ _ (sym (c .before .before .field-of .ensures) ∙ c .enum-told .given .1))
+returns-3 c = rw (opening-by _ _ (sym (same-field _ _ (c .before .before .field-of .ensures)) ∙ c .enum-told .given .1))
 
 returns-4 : tie.Need-returns-4
 returns-4 c = rw (opening-by _ _ (cut (c .before .before)), ne-eqb _ _ (c .if1 .left))

@@ -5,20 +5,20 @@ use denote.Ref.{now}
 use Rattle.rtp.specs.Numbers.{byteAt}
 use Rattle.rtp.proofs.ByteLaws.{read-two}
 use Rattle.log_fields.specs.declared.fields.Field.{Field}
-use Rattle.log_fields.specs.Fields.{contentLength}
+use Rattle.log_fields.specs.Fields.{contentLength, fieldNumbers}
 use Rattle.log_fields.proofs.FieldLaws.{field-stopped, field-cut-head, field-cut, field-whole}
 use borrow.Author.Needs.{needs}
 use Rattle.log_fields.proofs.fields.field_of.Statement.{statement}
 use Rattle.log_fields.proofs.fields.field_of.Tie as tie
 
 returns : tie.Need-returns
-returns c = sym (field-stopped _ (c .if1 .taken))
+returns c = ap fieldNumbers (sym (field-stopped _ (c .if1 .taken)))
 
 shared-slice-read-tag : tie.Need-shared-slice-read-tag
 shared-slice-read-tag c = search needs
 
 returns-2 : tie.Need-returns-2
-returns-2 c = sym (field-cut-head _ (c .before .before .if1 .left) (c .if2 .taken))
+returns-2 c = ap fieldNumbers (sym (field-cut-head _ (c .before .before .if1 .left) (c .if2 .taken)))
 
 read-u16-requires : tie.Need-read-u16-requires
 read-u16-requires c κs = search needs
@@ -34,13 +34,13 @@ read : (c : tie.After-read-u16) → c .read-u16 .result ≡ contentLength (now (
 read c = c .read-u16 .ensures ∙ read-two _ 1 (omega (arith, c .before .if2 .left))
 
 returns-3 : tie.Need-returns-3
-returns-3 c = sym (field-cut _ (c .before .before .if2 .left) (rw (read (c .before)) at (c .if3 .taken)))
+returns-3 c = ap fieldNumbers (sym (field-cut _ (c .before .before .if2 .left) (rw (read (c .before)) at (c .if3 .taken))))
 
 returns-4 : tie.Need-returns-4
 returns-4 c =
     let s = now (c .before .before .before .before .before .before .args .s) in
-    ap (λ (n : ℕ). Field.Whole (record { tag = byteAt s 0; length = n })) (read (c .before))
-    ∙ sym (field-whole s (rw (read (c .before)) at (c .if3 .left)))
+    ap (λ (n : ℕ). fieldNumbers (Field.Whole (record { tag = byteAt s 0; length = n }))) (read (c .before))
+    ∙ ap fieldNumbers (sym (field-whole s (rw (read (c .before)) at (c .if3 .left))))
 
 pub field-of-spec : {M : Type 1} → statement M
 field-of-spec =

@@ -49,7 +49,7 @@ same-length-2 c = search needs
 returns-2 : tie.Need-returns-2
 returns-2 c =
     let a = c .before .before .before .before .before .before .before .before .before .before .before .before .before .args in
-    gives-same _ (now (a .rows)) _ _ _ (typed-redundant (a .settings) (a .head) (now (a .packet)) (c .before .before .before .before .before .before .before .before .if1 .left) (c .before .before .before .before .before .before .before .before .before .before .before .before .before .pre .0) (length (now (a .rows))) (c .before .before .before .before .before .before .before .before .before .before .before .before .before .pre .1) (c .before .before .before .before .before .before .before .before .before .before .before .before .before .pre .2) (c .before .before .before .before .before .if2 .taken)) (c .before .before .read-redundant .ensures)
+    gives-same _ (now (a .rows)) _ _ _ (typed-redundant (a .settings) (a .head) (now (a .packet)) (c .before .before .before .before .before .before .before .before .if1 .left) (c .before .before .before .before .before .before .before .before .before .before .before .before .before .pre .0) (length (now (a .rows))) (c .before .before .before .before .before .before .before .before .before .before .before .before .before .pre .1) (c .before .before .before .before .before .before .before .before .before .before .before .before .before .pre .2) (c .before .before .before .before .before .if2 .taken)) (gives-read _ _ _ _ (c .before .before .read-redundant .ensures))
 
 returns-3 : tie.Need-returns-3
 returns-3 c = let a = c .before .before .before .before .before .before .before .before .args in gives-none _ (now (a .rows)) _ (typed-other (a .settings) (a .head) (now (a .packet)) (c .before .before .before .if1 .left) (c .if2 .left))

@@ -9,6 +9,7 @@ use Rattle.rtp.specs.Time.{difference}
 use Rattle.formats.specs.Formats.{formatOf}
 use Rattle.plans.specs.declared.lists.RowWords.{RowWords}
 use Rattle.plans.specs.declared.planning.Planned.{Planned}
+use Rattle.plans.specs.declared.planning.ListPlan.{ListPlan}
 use Rattle.plans.specs.Lists.{rowsIn}
 use Rattle.plans.specs.Plans.{maxPayload, planFrom, plan, stepBefore}
 use Rattle.plans.specs.declared.planning.Plan.{Plan}
@@ -16,6 +17,7 @@ use Rattle.plans.specs.Room.{rowAs, wordsAt, planAnswer, Small, listAnsw
 use Rattle.plans.proofs.ListLaws.{length-rows}
 use Rattle.plans.proofs.PlanLaws.{fittingPlan, no-channels-plan, list-none, list-many, list-answer, small-plan, small-weaker, plan-frames}
 use Rattle.plans.proofs.BlockLaws.{never-empty}
+use Rattle.plans.proofs.NumberLaws.{list-has}
 use borrow.Author.Needs.{needs}
 use Rattle.plans.proofs.planning.plan_list.Statement.{statement}
 use Rattle.plans.proofs.planning.plan_list.Tie as tie
@@ -42,13 +44,13 @@ answer-at : (c : tie.After-plan-from) → let a = c .before .before .before .bef
 answer-at c = let a = c .before .before .before .before .before .before .before .before .args in list-answer (a .format) (a .channels) (now (a .rows)) (c .before .before .before .before .before .if2 .left) (omega (arith, c .before .before .before .before .if3 .left)) (c .plan-from .result) (made-at c)
 
 returns : tie.Need-returns
-returns c = let a = c .before .before .args in sym (no-channels-plan (a .format) (a .channels) (rowsIn (now (a .rows))) (c .if1 .taken))
+returns c = let a = c .before .before .args in list-has _ _ _ _ (sym (no-channels-plan (a .format) (a .channels) (rowsIn (now (a .rows))) (c .if1 .taken)))
 
 returns-2 : tie.Need-returns-2
-returns-2 c = let a = c .before .before .before .args in sym (list-none (a .format) (a .channels) (now (a .rows)) (c .if2 .taken))
+returns-2 c = let a = c .before .before .before .args in list-has _ _ _ _ (sym (list-none (a .format) (a .channels) (now (a .rows)) (c .if2 .taken)))
 
 returns-3 : tie.Need-returns-3
-returns-3 c = let a = c .before .before .before .before .args in sym (list-many (a .format) (a .channels) (now (a .rows)) (c .before .if2 .left) (c .if3 .taken))
+returns-3 c = let a = c .before .before .before .before .args in list-has _ _ _ _ (sym (list-many (a .format) (a .channels) (now (a .rows)) (c .before .if2 .left) (c .if3 .taken)))
 
 first-row-requires : tie.Need-first-row-requires
 first-row-requires c κs = search needs
@@ -69,7 +71,7 @@ payload-size-requires : tie.Need-payload-size-requires
 payload-size-requires c κs = omega (arith, small-at (c .before .before .before) (c .before .plan .given .0 .0) (c .before .plan .given .1))
 
 returns-4 : tie.Need-returns-4
-returns-4 c = let f = c .before .before .before .before .before .before .before .before .before .before .before .before .before .args .format in sym (answer-at (c .before .before .before .before .before) ∙ ap (fittingPlan f) (c .before .before .before .plan .given .1) ∙ rw (lt-ltb maxPayload (formatOf f .header + c .before .before .before .plan .given .0 .0 .table + c .before .before .before .plan .given .0 .0 .frames) (omega (arith, c .if4 .taken, c .before .payload-size .ensures))))
+returns-4 c = let f = c .before .before .before .before .before .before .before .before .before .before .before .before .before .args .format in list-has _ _ ListPlan.Unwritable _ (sym (answer-at (c .before .before .before .before .before) ∙ ap (fittingPlan f) (c .before .before .before .plan .given .1) ∙ rw (lt-ltb maxPayload (formatOf f .header + c .before .before .before .plan .given .0 .0 .table + c .before .before .before .plan .given .0 .0 .frames) (omega (arith, c .if4 .taken, c .before .payload-size .ensures)))))
 
 enum-told : tie.Need-enum-told
 enum-told c = search needs
@@ -78,13 +80,13 @@ enum-told-2 : tie.Need-enum-told-2
 enum-told-2 c = search needs
 
 returns-5 : tie.Need-returns-5
-returns-5 c = let f = c .before .before .before .before .before .before .before .before .before .before .before .before .before .args .format in sym (answer-at (c .before .before .before .before .before) ∙ ap (fittingPlan f) (c .before .before .before .plan .given .1) ∙ rw (le-ltb maxPayload (formatOf f .header + c .before .before .before .plan .given .0 .0 .table + c .before .before .before .plan .given .0 .0 .frames) (omega (arith, c .if4 .left, c .before .payload-size .ensures)), c .before .payload-size .ensures))
+returns-5 c = let f = c .before .before .before .before .before .before .before .before .before .before .before .before .before .args .format in list-has _ _ (ListPlan.Fits (record { table = c .before .before .before .plan .given .0 .0 .table; payload = c .before .payload-size .result })) _ (sym (answer-at (c .before .before .before .before .before) ∙ ap (fittingPlan f) (c .before .before .before .plan .given .1) ∙ rw (le-ltb maxPayload (formatOf f .header + c .before .before .before .plan .given .0 .0 .table + c .before .before .before .plan .given .0 .0 .frames) (omega (arith, c .if4 .left, c .before .payload-size .ensures)), c .before .payload-size .ensures)))
 
 returns-6 : tie.Need-returns-6
 returns-6 c = let a = c .before .before .before .before .before .before .before .before .before .before .args in absurd (never-empty (a .format) (a .channels) _ (now (a .rows)) (omega (arith, c .before .before .before .before .before .before .before .before .if1 .left)) (c .before .before .before .before .before .before .before .if2 .left) (sym (made-at (c .before .before)) ∙ c .enum-told .given .1))
 
 returns-7 : tie.Need-returns-7
-returns-7 c = sym (answer-at (c .before .before) ∙ ap (fittingPlan (c .before .before .before .before .before .before .before .before .before .before .args .format)) (c .enum-told2 .given .1))
+returns-7 c = list-has _ _ _ _ (sym (answer-at (c .before .before) ∙ ap (fittingPlan (c .before .before .before .before .before .before .before .before .before .before .args .format)) (c .enum-told2 .given .1)))
 
 pub plan-list-spec : {M : Type 1} → statement M
 plan-list-spec =

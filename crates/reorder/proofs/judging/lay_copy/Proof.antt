@@ -13,6 +13,7 @@ use Rattle.insertion.specs.Laying.{classIn, channelIn, copyIn}
 use Rattle.reorder.specs.Judging.{Judgeable, Timely}
 use Rattle.codes.proofs.AllowedLaws.{allowed-frame}
 use Rattle.placing.proofs.BoundLaws.{used-is}
+use Rattle.placing.proofs.NumberLaws.{same-place}
 use Rattle.reorder.proofs.VerdictLaws.{held-at, step-found, free-at, step-full, step-new}
 use Rattle.reorder.proofs.PlaceSearchLaws.{parts}
 use borrow.Author.Needs.{needs}
@@ -48,7 +49,7 @@ found-at c g t =
     let a = s .args in
     let e = c .before .before .before .tag-channel .ensures .0 in
     let u = used-is (a .n) (s .pre .1) in
-    c .find-place .ensures .1 (subst₂ (Parted (now (a .times)) (now (a .tags)) (a .head .time)) (sym e) (sym u) (parted-at s g t))
+    same-place _ _ (c .find-place .ensures .1 (subst₂ (Parted (now (a .times)) (now (a .tags)) (a .head .time)) (sym e) (sym u) (parted-at s g t)))
     ∙ ap₂ (λ (d m : ℕ). placeFrom (now (a .times)) (now (a .tags)) (a .head .time) d m 0) e u
 
 tag-channel-requires : tie.Need-tag-channel-requires

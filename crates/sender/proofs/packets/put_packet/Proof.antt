@@ -1,4 +1,4 @@
-use Prim.Native.Nat.{ℕ}
+use Prim.Native.Nat.{ℕ, _-_}
 use mathlib.Core.Path.{refl, ap, sym, _∙_}
 use mathlib.Core.List.{List, _++_}
 use native.Mathlib.Omega.{arith}
@@ -11,10 +11,13 @@ use Rattle.frame_rows.specs.Rows.{rowsIn}
 use Rattle.packet_parts.specs.Parts.{parts}
 use Rattle.packet_parts.specs.Headings.{Heading, headerBytes}
 use Rattle.sender.specs.Packets.{assembledFrom}
-use Rattle.sender.specs.Room.{listsHeaders, listsPayloads}
+use Rattle.sender.specs.Room.{listsPayloads, listsHeaders, listHeadersSize}
 use Rattle.rtp.proofs.RangeLaws.{ranged}
 use Rattle.payload_sizes.proofs.RequestLaws.{asked}
 use Rattle.packet_parts.proofs.HeadingLaws.{header-in}
+use Rattle.sender.proofs.FromLaws.{from-front}
+use Rattle.sender.proofs.ListBytesLaws.{length-headers, payloads-one}
+use Rattle.sender.proofs.PutLaws.{room-one}
 use Rattle.sender.proofs.SendingLaws.{Plain, plain-packet, Redundant, redundant-packet}
 use borrow.Author.Needs.{needs}
 use Rattle.sender.proofs.packets.put_packet.Statement.{statement}
@@ -32,17 +35,20 @@ redundant-at c = let a = c .before .before .before .before .before .args in redu
 put-header-requires : tie.Need-put-header-requires
 put-header-requires c κs = search needs
 
-sub-put-payloads : tie.Need-sub-put-payloads
-sub-put-payloads c = omega (arith, plain-at (c .before .before .before .before) .room, c .before .before .put-header .kept .0)
+sub-put-list : tie.Need-sub-put-list
+sub-put-list c = omega (arith, plain-at (c .before .before .before .before) .room, c .before .before .put-header .kept .0)
 
-part-put-payloads-start : tie.Need-part-put-payloads-start
-part-put-payloads-start c = omega (arith, plain-at (c .before .before .before .before) .room, c .before .before .put-header .kept .0)
+part-put-list-start : tie.Need-part-put-list-start
+part-put-list-start c = omega (arith, plain-at (c .before .before .before .before) .room, c .before .before .put-header .kept .0)
 
-part-put-payloads-end : tie.Need-part-put-payloads-end
-part-put-payloads-end c = search needs
+part-put-list-end : tie.Need-part-put-list-end
+part-put-list-end c = search needs
 
-put-payloads-requires : tie.Need-put-payloads-requires
-put-payloads-requires c κs = rw (part-length (c .before .before .before .put-header .last .0) (now (c .before .before .before .before .before .before .before .before .before .before .args .out)) minPacket (c .before .before .before .put-header .kept .0)) (plain-at (c .before .before .before .before .before) .payloads)
+put-list-requires : tie.Need-put-list-requires
+put-list-requires c κs =
+    let a = c .before .before .before .before .before .before .before .before .before .before .args in
+    rw (part-length (c .before .before .before .put-header .last .0) (now (a .out)) minPacket (c .before .before .before .put-header .kept .0))
+    (room-one (a .asked) (a .mode-request) (now (a .bytes)) (now (a .counts)) (now (a .rows)) (length (now (a .out)) - minPacket) (plain-at (c .before .before .before .before .before) .payloads) (c .before .before .before .before .before .if1 .taken))
 
 same-length : tie.Need-same-length
 same-length c = search needs
@@ -51,14 +57,23 @@ returns : tie.Need-returns
 returns c = let a = c .before .before .before .before .before .before .before .before .before .before .before .before .before .args in
     over-part (headerBytes (heading (c .before .before .before .before .before .before .before .before .before .before .before .before .before)) (a .asked .«payload_type») (a .time)) (listsPayloads (a .asked) (a .mode-request) (now (a .bytes)) (now (a .counts)) (now (a .rows))) (now (a .out)) (c .before .before .before .before .before .before .put-header .last .0) _ minPacket refl
     (c .before .before .before .before .before .before .put-header .ensures ∙ header-in (heading (c .before .before .before .before .before .before .before .before .before .before .before .before .before)) (a .asked .«payload_type») (a .time) (now (a .out)) (ranged (a .asked) (asked (a .asked) (a .mode-request) (c .before .before .before .before .before .before .before .before .before .before .before .before .before .pre .settings) .settings) .plain) (plain-at (c .before .before .before .before .before .before .before .before) .room))
-    (c .before .before .put-payloads .ensures)
+    (c .before .before .put-list .ensures .1 ∙ rw (payloads-one (a .asked) (a .mode-request) (now (a .bytes)) (now (a .counts)) (now (a .rows)) (c .before .before .before .before .before .before .before .before .if1 .taken)))
     ∙ ap (λ (x : List ℕ). over x (now (a .out))) (sym (plain-at (c .before .before .before .before .before .before .before .before) .packet))
 
 put-header-requires-2 : tie.Need-put-header-requires-2
 put-header-requires-2 c κs = search needs
 
 sub-put-blocks : tie.Need-sub-put-blocks
-sub-put-blocks c = omega (arith, redundant-at (c .before .before .before .before) .room, c .before .before .put-header2 .kept .0)
+sub-put-blocks c = search needs
+
+mul-put-blocks : tie.Need-mul-put-blocks
+mul-put-blocks c = search needs
+
+add-put-blocks : tie.Need-add-put-blocks
+add-put-blocks c = search needs
+
+sub-put-blocks-2 : tie.Need-sub-put-blocks-2
+sub-put-blocks-2 c = omega (arith, redundant-at (c .before .before .before .before) .room, c .before .before .put-header2 .kept .0)
 
 part-put-blocks-start : tie.Need-part-put-blocks-start
 part-put-blocks-start c = omega (arith, redundant-at (c .before .before .before .before) .room, c .before .before .put-header2 .kept .0)
@@ -74,9 +89,12 @@ same-length-2 c = search needs
 
 returns-2 : tie.Need-returns-2
 returns-2 c = let a = c .before .before .before .before .before .before .before .before .before .before .before .before .before .args in
-    over-part (headerBytes (heading (c .before .before .before .before .before .before .before .before .before .before .before .before .before)) (a .asked .«redundancy_type») (a .time)) (listsHeaders (a .asked) (a .time) (now (a .counts)) (now (a .rows)) ++ listsPayloads (a .asked) (a .mode-request) (now (a .bytes)) (now (a .counts)) (now (a .rows))) (now (a .out)) (c .before .before .before .before .before .before .put-header2 .last .0) _ minPacket refl
+    over-part (headerBytes (heading (c .before .before .before .before .before .before .before .before .before .before .before .before .before)) (a .asked .«redundancy_type») (a .time)) (listsHeaders (a .asked) (a .mode-request) (a .time) (now (a .bytes)) (now (a .counts)) (now (a .rows)) ++ listsPayloads (a .asked) (a .mode-request) (now (a .bytes)) (now (a .counts)) (now (a .rows))) (now (a .out)) (c .before .before .before .before .before .before .put-header2 .last .0) _ minPacket refl
     (c .before .before .before .before .before .before .put-header2 .ensures ∙ header-in (heading (c .before .before .before .before .before .before .before .before .before .before .before .before .before)) (a .asked .«redundancy_type») (a .time) (now (a .out)) (redundant-at (c .before .before .before .before .before .before .before .before) .type) (redundant-at (c .before .before .before .before .before .before .before .before) .room))
-    (c .before .before .put-blocks .ensures)
+    (c .before .before .put-blocks .ensures
+    ∙ from-front (listsHeaders (a .asked) (a .mode-request) (a .time) (now (a .bytes)) (now (a .counts)) (now (a .rows))) (listsPayloads (a .asked) (a .mode-request) (now (a .bytes)) (now (a .counts)) (now (a .rows))) _
+    (listHeadersSize (length (now (a .counts)))) (length-headers (a .asked) (a .mode-request) (a .time) (now (a .bytes)) (now (a .counts)) (now (a .rows)))
+    (rw (part-length (c .before .before .before .before .before .before .put-header2 .last .0) (now (a .out)) minPacket (c .before .before .before .before .before .before .put-header2 .kept .0)) (redundant-at (c .before .before .before .before .before .before .before .before) .blocks .inside)))
     ∙ ap (λ (x : List ℕ). over x (now (a .out))) (sym (redundant-at (c .before .before .before .before .before .before .before .before) .packet))
 
 pub put-packet-spec : {M : Type 1} → statement M
@@ -84,14 +102,17 @@ put-packet-spec =
     tie.close
     (tie.spec
     put-header-requires
-    sub-put-payloads
-    part-put-payloads-start
-    part-put-payloads-end
-    put-payloads-requires
+    sub-put-list
+    part-put-list-start
+    part-put-list-end
+    put-list-requires
     same-length
     returns
     put-header-requires-2
     sub-put-blocks
+    mul-put-blocks
+    add-put-blocks
+    sub-put-blocks-2
     part-put-blocks-start
     part-put-blocks-end
     put-blocks-requires
