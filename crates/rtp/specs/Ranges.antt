@@ -26,7 +26,7 @@ noRedundancy = 128
 
 -- the most channels that any format has
 abbrev pub mostChannels : ℕ
-mostChannels = 2
+mostChannels = 6
 
 -- the most channels of a format: formats 3 to 5 have one; 0 where there is no such format
 unfoldable pub maxChannels : ℕ → ℕ

@@ -10,7 +10,7 @@ maxPacket = 2048
 
 -- the most rows of a packet
 abbrev pub maxRows : ℕ
-maxRows = 128
+maxRows = 384
 
 -- the words of a row, and of an area that rows are read into
 abbrev pub rowWidth : ℕ

@@ -14,7 +14,7 @@ pub const AMR: u8 = 4;
 pub const AMR_WB: u8 = 5;
 
 // The most channels that any format has.
-pub const MOST_CHANNELS: u8 = 2;
+pub const MOST_CHANNELS: u8 = 6;
 
 // The redundancy type that says: no redundancy.
 pub const NO_REDUNDANCY: u8 = 128;

@@ -5,7 +5,7 @@ pub const MIN_PACKET: usize = 12;
 pub const MAX_PACKET: usize = 2048;
 
 // The most rows of a packet, the words of a row, and of an area that rows are read into.
-pub const MAX_ROWS: usize = 128;
+pub const MAX_ROWS: usize = 384;
 
 pub const ROW_WIDTH: usize = 4;
 
