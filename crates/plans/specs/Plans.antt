@@ -1,5 +1,5 @@
 -- The table of contents that a frame list is written with: one entry for each longest run of frame-blocks of equal length (GSM-HR: one
--- entry a frame), or none. A plan is a table as reading has it: a list of groups.
+-- entry a frame), two where it is longer than an entry can count, or none. A plan is a table as reading has it: a list of groups.
 use Prim.Native.Nat.{ℕ, _+_, _-_, _/_, _%_}
 use mathlib.Core.List.{List, [], _∷_}
 use mathlib.Core.Bool.{Bool, false, cond}
@@ -14,6 +14,7 @@ use Rattle.formats.specs.Formats.{formatOf, stepOf, maxGap}
 use Rattle.contents.specs.Contents.{Group, Contents, refused, groups, sizeIn, framesIn}
 use Rattle.frame_rows.specs.Rows.{Row}
 use Rattle.codes.specs.Codes.{noCode, codeFor}
+use Rattle.plans.specs.Entries.{inEntries}
 
 -- the longest payload that is written alone: what a packet has room for after its header
 abbrev pub maxPayload : ℕ
@@ -73,7 +74,7 @@ attach format r gap (groups (g ∷ gs)) =
     cond (joins format r g) (groups (record { class = g .class; length = g .length; gaps = gap ∷ g .gaps } ∷ gs))
     (cond (leb (headGap g) (maxGap format)) (groups (single r gap ∷ g ∷ gs)) (refused unwritable))
 
--- the plan of the rows from channel c on, after the row p
+-- the runs of the rows from channel c on, after the row p
 unfoldable pub planFrom : ℕ → ℕ → ℕ → Row → List Row → Contents
 planFrom format ch c p [] = cond (eqb c 0) (groups []) (refused unwritable)
 planFrom format ch c p (r ∷ rs) =
@@ -99,4 +100,4 @@ unfoldable pub plan : ℕ → ℕ → List Row → Contents
 plan format ch [] = refused unwritable
 plan format ch (r ∷ rs) =
     cond (ltb maxRows (length (r ∷ rs))) (refused unwritable)
-    (fitting format ch (planFrom format ch 0 (stepBefore format r) (r ∷ rs)))
+    (fitting format ch (inEntries (planFrom format ch 0 (stepBefore format r) (r ∷ rs))))

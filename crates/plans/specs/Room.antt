@@ -15,6 +15,7 @@ use Rattle.plans.specs.declared.planning.Plan.{Plan}
 use Rattle.plans.specs.declared.planning.Planned.{Planned}
 use Rattle.plans.specs.declared.planning.ListPlan.{ListPlan}
 use Rattle.plans.specs.Lists.{rowOf}
+use Rattle.plans.specs.Entries.{maxBlocks, firstPart, entriesOf}
 use Rattle.plans.specs.Plans.{headGap, joinsRun, payloadSize}
 
 -- the words of the row at a word of the area, with 0 for one past the end
@@ -24,7 +25,11 @@ wordsAt ws at = record { time = getD ws at 0; tag = getD ws (at + 1) 0; start = 
 abbrev pub rowAs : RowWords → Row
 rowAs w = rowOf (w .time) (w .tag) (w .start) (w .length)
 
--- a plan by its first run
+-- the bytes of the entries of a run of n frame-blocks
+unfoldable pub runSize : ℕ → ℕ → ℕ
+runSize format n = cond (leb n maxBlocks) (entrySize format n) (entrySize format firstPart + entrySize format (n - firstPart))
+
+-- a plan by its first run; the bytes are those of its entries
 unfoldable pub planAnswer : ℕ → ℕ → Contents → Planned
 planAnswer format ch (refused q) = Planned.Unwritable
 planAnswer format ch (groups []) = Planned.Empty
@@ -33,7 +38,7 @@ planAnswer format ch (groups (g ∷ gs)) = Planned.Table (record {
   length = g .length;
   gap = headGap g;
   blocks = length (g .gaps);
-  table = sizeIn format (g ∷ gs);
+  table = sizeIn format (entriesOf (g ∷ gs));
   frames = framesIn ch (g ∷ gs);
 })
 
@@ -45,7 +50,7 @@ attachPlan format ch r gap Planned.Empty = Planned.Table (record {
   length = r .length;
   gap = gap;
   blocks = 1;
-  table = entrySize format 1;
+  table = runSize format 1;
   frames = ch * r .length;
 })
 attachPlan format ch r gap (Planned.Table p) =
@@ -55,7 +60,7 @@ attachPlan format ch r gap (Planned.Table p) =
       length = p .length;
       gap = gap;
       blocks = p .blocks + 1;
-      table = entrySize format (p .blocks + 1) + (p .table - entrySize format (p .blocks));
+      table = runSize format (p .blocks + 1) + (p .table - runSize format (p .blocks));
       frames = ch * r .length + p .frames;
     }))
     (cond (leb (p .gap) (maxGap format))
@@ -64,7 +69,7 @@ attachPlan format ch r gap (Planned.Table p) =
       length = r .length;
       gap = gap;
       blocks = 1;
-      table = entrySize format 1 + p .table;
+      table = runSize format 1 + p .table;
       frames = ch * r .length + p .frames;
     }))
     Planned.Unwritable)
@@ -72,7 +77,7 @@ attachPlan format ch r gap (Planned.Table p) =
 -- the numbers of a plan of at most n frame-blocks stay small
 pub record SmallPlan (format ch n : ℕ) (p : Plan) : Type 0 where
   pub few : p .blocks ≤ n
-  pub entry : entrySize format (p .blocks) ≤ p .table
+  pub run : runSize format (p .blocks) ≤ p .table
   pub tabled : p .table ≤ 3 * n
   pub framed : p .frames ≤ n * (ch * maxFrame)
 

@@ -1,5 +1,5 @@
 use mathlib.Core.Path.{_≡_, ap, subst, sym, _∙_}
-use Prim.Native.Nat.{ℕ, _+_, _≤_}
+use Prim.Native.Nat.{ℕ, _+_, _*_, _≤_}
 use lib.ListN.{length}
 use native.Mathlib.Omega.{arith}
 use denote.Ref.{now}
@@ -33,7 +33,7 @@ made-at c =
     ∙ ap (λ (w : RowWords). planAnswer (a .format) (a .channels) (planFrom (a .format) (a .channels) 0 (stepBefore (a .format) (rowAs w)) (rowsIn (now (a .rows))))) (c .before .before .before .first-row .ensures)
 
 -- its numbers are small
-small-at : (c : tie.After-plan-from) (p : Plan) → c .plan-from .result ≡ Planned.Table p → p .table + p .frames ≤ 20000000
+small-at : (c : tie.After-plan-from) (p : Plan) → c .plan-from .result ≡ Planned.Table p → p .table + p .frames ≤ maxRows * 90000
 small-at c p e =
     let a = c .before .before .before .before .before .before .before .before .args in
     let s = small-weaker (a .format) (a .channels) (length (rowsIn (now (a .rows)))) maxRows (Planned.Table p) (omega (arith, length-rows (now (a .rows)), c .before .before .before .before .if3 .left))
