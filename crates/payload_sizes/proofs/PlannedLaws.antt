@@ -10,6 +10,7 @@ use Rattle.rtp.proofs.TestLaws.{by-test}
 use Rattle.formats.specs.Formats.{maxGap}
 use Rattle.contents.specs.Contents.{Contents, refused, groups}
 use Rattle.frame_rows.specs.Rows.{Row}
+use Rattle.plans.specs.Entries.{entriesOf, inEntries}
 use Rattle.plans.specs.Plans.{maxPayload, unwritable, headGap, joins, attach, follows, nextChannel, planFrom, stepBefore, payloadSize, fitting, plan}
 
 -- Where there is no plan, the reason is 13
@@ -33,9 +34,9 @@ plain-from format ch c p (r ∷ rs) =
     (λ a. by-test (eqb c 0) (λ b. rw (a, b) (plain-attach format r _ (planFrom format ch (nextChannel ch c) r rs) i)) (λ b. rw (a, b) i))
     (λ a. rw a refl)
 
-plain-fitting : (format ch : ℕ) (x : Contents) → Plain x → Plain (fitting format ch x)
+plain-fitting : (format ch : ℕ) (x : Contents) → Plain x → Plain (fitting format ch (inEntries x))
 plain-fitting format ch (refused q) h = h
-plain-fitting format ch (groups gs) h = by-test (ltb maxPayload (payloadSize format ch gs)) (λ a. rw a refl) (λ a. rw a tt)
+plain-fitting format ch (groups gs) h = by-test (ltb maxPayload (payloadSize format ch (entriesOf gs))) (λ a. rw a refl) (λ a. rw a tt)
 
 plain-plan : (format ch : ℕ) (rs : List Row) → Plain (plan format ch rs)
 unfolding plan
