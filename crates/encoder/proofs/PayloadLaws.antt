@@ -18,13 +18,15 @@ use Rattle.formats.specs.Formats.{formatOf, stepOf}
 use Rattle.contents.specs.Contents.{Group, Contents, refused, groups, sizeIn, framesIn}
 use Rattle.frame_rows.specs.Rows.{Row}
 use Rattle.plans.specs.Lists.{rowsIn, outside}
+use Rattle.plans.specs.Entries.{entriesOf, inEntries}
 use Rattle.plans.specs.Plans.{maxPayload, gapBetween, planFrom, stepBefore, payloadSize, fitting, plan}
 use Rattle.payload_sizes.specs.Asking.{requestBytes}
 use Rattle.encoder.specs.Bytes.{tableBytes, frames}
 use Rattle.encoder.specs.Writings.{plannedBytes, encodedBytes}
-use Rattle.plans.specs.Room.{rowAs, wordsAt}
+use Rattle.plans.specs.Room.{rowAs, wordsAt, lengthsIn}
 use Rattle.encoder.specs.Room.{FramesRoom, timed, Near, PlanRoom, TableRoom, planBytes, WholePlan, ListRoom, PayloadRoom}
 use Rattle.plans.proofs.ListLaws.{rows-none, rows-more, length-rows}
+use Rattle.plans.proofs.EntriesLaws.{frames-entries}
 use Rattle.plans.proofs.BlockLaws.{no-plan, plan-time, frames-all}
 use Rattle.encoder.proofs.RunLaws.{first-gap}
 use Rattle.encoder.proofs.EntryLaws.{length-table}
@@ -36,7 +38,9 @@ use Rattle.payload_sizes.proofs.RequestLaws.{length-request, lay-request, four-
 pub record Listed (format ch : ℕ) (ws : List ℕ) (gs : List Group) : Type 0 where
   pub row : rowWidth ≤ length ws
   pub few : length ws < rowWidth * maxRows + rowWidth
-  pub planned : planFrom format ch 0 (stepBefore format (rowAs (wordsAt ws 0))) (rowsIn ws) ≡ groups gs
+  pub runs : List Group
+  pub planned : planFrom format ch 0 (stepBefore format (rowAs (wordsAt ws 0))) (rowsIn ws) ≡ groups runs
+  pub entries : gs ≡ entriesOf runs
   pub fits : payloadSize format ch gs ≤ maxPayload
 
 pub fitted : (format ch : ℕ) (x : Contents) (gs : List Group) → fitting format ch x ≡ groups gs → (x ≡ groups gs) × (payloadSize format ch gs ≤ maxPayload)
@@ -48,6 +52,16 @@ fitted format ch (groups hs) gs h =
     let e : groups hs ≡ groups gs = rw a at h in
     let s : hs ≡ gs = cc in
     (e, subst (λ (k : List Group). payloadSize format ch k ≤ maxPayload) s (ltb-false maxPayload (payloadSize format ch hs) a)))
+
+-- the runs of a table
+pub record InRuns (x : Contents) (gs : List Group) : Type 0 where
+  pub runs : List Group
+  pub planned : x ≡ groups runs
+  pub entries : gs ≡ entriesOf runs
+
+pub in-runs : (x : Contents) (gs : List Group) → inEntries x ≡ groups gs → InRuns x gs
+in-runs (refused q) gs h = absurd (no-plan h)
+in-runs (groups rs) gs h = let e : gs ≡ entriesOf rs = cc in record { runs = rs; planned = refl; entries = e }
 
 pub listed : (format ch : ℕ) (ws : List ℕ) (gs : List Group) → plan format ch (rowsIn ws) ≡ groups gs → Listed format ch ws gs
 unfolding plan
@@ -62,11 +76,15 @@ listed format ch ws gs h =
     by-test (ltb maxRows (length (rowAs (wordsAt ws 0) ∷ rowsIn (drop rowWidth ws))))
     (λ b. absurd (no-plan (rw (m, b) at h)))
     (λ b.
-    let f = fitted format ch (planFrom format ch 0 (stepBefore format (rowAs (wordsAt ws 0))) (rowAs (wordsAt ws 0) ∷ rowsIn (drop rowWidth ws))) gs (rw (m, b) at h) in
+    let x = planFrom format ch 0 (stepBefore format (rowAs (wordsAt ws 0))) (rowAs (wordsAt ws 0) ∷ rowsIn (drop rowWidth ws)) in
+    let f = fitted format ch (inEntries x) gs (rw (m, b) at h) in
+    let i = in-runs x gs (f .0) in
     record {
       row = l;
       few = omega (arith, ltb-false maxRows (length (rowAs (wordsAt ws 0) ∷ rowsIn (drop rowWidth ws))) b);
-      planned = ap (planFrom format ch 0 (stepBefore format (rowAs (wordsAt ws 0)))) m ∙ f .0;
+      runs = i .runs;
+      planned = ap (planFrom format ch 0 (stepBefore format (rowAs (wordsAt ws 0)))) m ∙ i .planned;
+      entries = i .entries;
       fits = f .1;
     }))
 
@@ -81,13 +99,18 @@ pub list-near : (format ch : ℕ) (ws : List ℕ) (gs : List Group) → 0 < ch �
 list-near format ch ws [] l h = tt
 list-near format ch ws (g ∷ gs) l h = omega (arith, first-gap format ch (stepBefore format (rowAs (wordsAt ws 0))) ws g gs l h ∙ gap-none (stepOf format) (getD ws 0 0))
 
+-- the frames are as long as the plan says
+list-frames : (format ch : ℕ) (ws : List ℕ) (gs : List Group) → 0 < ch → Listed format ch ws gs → lengthsIn (rowsIn ws) ≡ framesIn ch gs
+list-frames format ch ws gs l d =
+    frames-all format ch (stepBefore format (rowAs (wordsAt ws 0))) (rowsIn ws) (d .runs) l (d .planned) ∙ sym (frames-entries ch (d .runs)) ∙ ap (framesIn ch) (sym (d .entries))
+
 -- the bytes are as many as the plan says
 length-list : (format ch : ℕ) (ws bytes : List ℕ) (gs : List Group) → 0 < ch → outside (length bytes) (rowsIn ws) ≡ false → plan format ch (rowsIn ws) ≡ groups gs
     → length (tableBytes format gs ++ frames bytes (rowsIn ws)) ≡ sizeIn format gs + framesIn ch gs
 length-list format ch ws bytes gs l o h =
     length-append (tableBytes format gs) (frames bytes (rowsIn ws))
     ∙ ap (λ (n : ℕ). n + length (frames bytes (rowsIn ws))) (length-table format gs)
-    ∙ ap (λ (n : ℕ). sizeIn format gs + n) (length-frames bytes (rowsIn ws) o ∙ frames-all format ch (stepBefore format (rowAs (wordsAt ws 0))) (rowsIn ws) gs l (listed format ch ws gs h .planned))
+    ∙ ap (λ (n : ℕ). sizeIn format gs + n) (length-frames bytes (rowsIn ws) o ∙ list-frames format ch ws gs l (listed format ch ws gs h))
 
 pub length-bytes : (format request ch : ℕ) (ws bytes : List ℕ) (gs : List Group) → 0 < ch → outside (length bytes) (rowsIn ws) ≡ false → plan format ch (rowsIn ws) ≡ groups gs
     → length (requestBytes format request ++ (tableBytes format gs ++ frames bytes (rowsIn ws))) ≡ payloadSize format ch gs
@@ -120,7 +143,7 @@ module _ (format ch table : ℕ) (ws bytes : List ℕ) (area : ℕ) (r : ListRoo
   pub payload-table : table ≤ area
   payload-table = omega (arith, it .fits)
 
-  from-before : planFrom format ch 0 (timed (difference (getD ws 0 0) (stepOf format))) (rowsIn ws) ≡ groups (it .table-groups)
+  from-before : planFrom format ch 0 (timed (difference (getD ws 0 0) (stepOf format))) (rowsIn ws) ≡ groups (in-list .runs)
   from-before = plan-time format ch (timed (difference (getD ws 0 0) (stepOf format))) (stepBefore format (rowAs (wordsAt ws 0))) (rowsIn ws) refl ∙ in-list .planned
 
   pub table-room : TableRoom format ch (difference (getD ws 0 0) (stepOf format)) ws area
@@ -128,18 +151,18 @@ module _ (format ch table : ℕ) (ws bytes : List ℕ) (area : ℕ) (r : ListRoo
     some = r .some;
     channels = r .channels;
     few = in-list .few;
-    planned = subst (λ (x : Contents). PlanRoom format area x) (sym from-before) (list-near format ch ws (it .table-groups) (r .some) (in-list .planned), omega (arith, it .size, it .fits));
+    planned = subst (λ (x : Contents). PlanRoom format area x) (sym from-before) (list-near format ch ws (in-list .runs) (r .some) (in-list .planned), omega (arith, it .size, it .fits, ap (sizeIn format) (in-list .entries)));
   }
 
   pub frames-room : FramesRoom (length bytes) (rowsIn ws) (area - table)
-  frames-room = record { inside = r .inside; room = omega (arith, frames-all format ch (stepBefore format (rowAs (wordsAt ws 0))) (rowsIn ws) (it .table-groups) (r .some) (in-list .planned), it .fits) }
+  frames-room = record { inside = r .inside; room = omega (arith, list-frames format ch ws (it .table-groups) (r .some) in-list, it .fits) }
 
-  pub put-both : (l m z : List ℕ) → m ≡ over (planBytes format (planFrom format ch 0 (timed (difference (getD ws 0 0) (stepOf format))) (rowsIn ws))) l
+  pub put-both : (l m z : List ℕ) → m ≡ over (planBytes format (inEntries (planFrom format ch 0 (timed (difference (getD ws 0 0) (stepOf format))) (rowsIn ws)))) l
       → z ≡ over (frames bytes (rowsIn ws)) (take (length m - table) (drop table m))
       → putMid table (length m - table) m z ≡ over (planBytes format (plan format ch (rowsIn ws)) ++ frames bytes (rowsIn ws)) l
   unfolding planBytes
   put-both l m z p q =
-      over-part (tableBytes format (it .table-groups)) (frames bytes (rowsIn ws)) l m z table (length-table format (it .table-groups) ∙ sym (it .size)) (p ∙ ap (λ (x : Contents). over (planBytes format x) l) from-before) q
+      over-part (tableBytes format (it .table-groups)) (frames bytes (rowsIn ws)) l m z table (length-table format (it .table-groups) ∙ sym (it .size)) (p ∙ ap (λ (x : Contents). over (planBytes format x) l) (ap inEntries from-before ∙ ap groups (sym (in-list .entries)))) q
       ∙ ap (λ (x : Contents). over (planBytes format x ++ frames bytes (rowsIn ws)) l) (sym (it .planned))
 
 -- The mode request before them

@@ -10,6 +10,7 @@ use Rattle.formats.specs.Formats.{formatOf, stepOf, maxGap}
 use Rattle.frame_rows.specs.Rows.{Row}
 use Rattle.plans.specs.Lists.{rowsIn, outside}
 use Rattle.codes.specs.Codes.{noCode, codeFor}
+use Rattle.plans.specs.Entries.{entriesOf}
 use Rattle.plans.specs.Plans.{headGap, gapBetween, joins, planFrom, plan}
 use Rattle.plans.specs.Room.{wordsAt, rowAs, lengthsIn}
 use Rattle.encoder.specs.Bytes.{tableBytes}
@@ -86,9 +87,10 @@ abbrev pub Near : ℕ → List Group → Type 0
 Near format [] = Unit {0}
 Near format (g ∷ gs) = headGap g ≤ maxGap format
 
+-- the runs of rows, whose entries have room in an area
 abbrev pub PlanRoom : ℕ → ℕ → Contents → Type 0
 PlanRoom format area (refused q) = ⊥
-PlanRoom format area (groups gs) = Near format gs × (sizeIn format gs ≤ area)
+PlanRoom format area (groups gs) = Near format gs × (sizeIn format (entriesOf gs) ≤ area)
 
 pub record TableRoom (format ch previous : ℕ) (ws : List ℕ) (area : ℕ) : Type 0 where
   pub some : 0 < ch

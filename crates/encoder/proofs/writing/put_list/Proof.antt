@@ -8,6 +8,7 @@ use Rattle.rtp.specs.Areas.{over}
 use Rattle.rtp.proofs.AreaLaws.{part-length}
 use Rattle.formats.specs.Formats.{stepOf}
 use Rattle.plans.specs.Lists.{rowsIn}
+use Rattle.plans.specs.Entries.{inEntries}
 use Rattle.plans.specs.Plans.{planFrom}
 use Rattle.encoder.specs.Room.{timed, TableRoom, planBytes}
 use Rattle.encoder.proofs.PayloadLaws.{payload-row, payload-table, table-room, frames-room, put-both}
@@ -49,7 +50,7 @@ same-length c = search needs
 returns : tie.Need-returns
 returns c = let a = c .before .before .before .before .before .before .before .before .before .before .before .before .before .before .args in
     put-both (a .format) (a .channels) (a .table) (now (a .rows)) (now (a .bytes)) (length (now (a .out))) (c .before .before .before .before .before .before .before .before .before .before .before .before .before .before .pre) (now (a .out)) (c .before .before .before .before .before .before .put-table .last .1 .1 .1 .1 .0) _
-    (c .before .before .before .before .before .before .put-table .ensures ∙ ap (λ (n : ℕ). over (planBytes (a .format) (planFrom (a .format) (a .channels) 0 (timed n) (rowsIn (now (a .rows))))) (now (a .out))) (previous-is (c .before .before .before .before .before .before .before .before))) (c .before .before .put-frames .ensures)
+    (c .before .before .before .before .before .before .put-table .ensures ∙ ap (λ (n : ℕ). over (planBytes (a .format) (inEntries (planFrom (a .format) (a .channels) 0 (timed n) (rowsIn (now (a .rows)))))) (now (a .out))) (previous-is (c .before .before .before .before .before .before .before .before))) (c .before .before .put-frames .ensures)
 
 pub put-list-spec : {M : Type 1} → statement M
 put-list-spec =
