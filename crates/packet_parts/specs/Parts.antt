@@ -26,7 +26,7 @@ unfoldable pub total : List ℕ → ℕ
 total [] = 0
 total (n ∷ ns) = n + total ns
 
--- one to five counts, which make up the area, and at most 128 rows in all
+-- one to five counts, which make up the area, and at most 384 rows in all
 abbrev pub countsFit : List ℕ → List ℕ → Bool
 countsFit counts ws =
     cond (eqb (length counts) 0) false

@@ -36,7 +36,7 @@ fn total_of(counts: &[u32]) -> usize
     counts[0] as usize + rest
 }
 
-// One to five counts, which make up the area, and at most 128 rows in all.
+// One to five counts, which make up the area, and at most 384 rows in all.
 pub fn counts_fit(counts: &[u32], rows: &[u32]) -> bool
     ensures { λ r. ⌜ r ≡ countsFit (now (counts .entry)) (now (rows .entry)) ⌝ }
 {
