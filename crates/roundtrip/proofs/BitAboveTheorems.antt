@@ -20,7 +20,7 @@ use Rattle.payload.proofs.RowFactLaws.{AllRows, all-append}
 use Rattle.plans.specs.Lists.{whole}
 use Rattle.plans.specs.Plans.{planFrom, plan, stepBefore}
 use Rattle.encoder.specs.Writings.{noBytes, bytesOf, plannedBytes, encoded, roomFor, writing}
-use Rattle.encoder.proofs.PayloadLaws.{fitted}
+use Rattle.encoder.proofs.PayloadLaws.{fitted, in-runs}
 use Rattle.packet_parts.specs.Parts.{primaryTime, Part, Parts, noParts, partsOf, parts, countsFit}
 use Rattle.sender.specs.Packets.{assembledFrom, assembled, sending}
 use Rattle.packet_parts.specs.Headings.{Heading}
@@ -57,7 +57,8 @@ known-plan format ch [] gs h = tt
 known-plan format ch (r ∷ rs) gs h =
     let a = passed (ltb maxRows (length (r ∷ rs))) _ gs h in
     let f = fitted format ch _ gs (a .1) in
-    let b = begun format ch (stepBefore format r) r rs gs (f .0) in
+    let i = in-runs _ gs (f .0) in
+    let b = begun format ch (stepBefore format r) r rs (i .runs) (i .planned) in
     let s : Known r = code-small format (r .class) (r .length) (b .code) .classes in
     (s, known-from format ch (standing ch 1) r rs (b .table) s (b .rest))
 

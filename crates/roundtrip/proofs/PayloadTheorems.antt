@@ -71,7 +71,7 @@ module _ (st : Settings) (request : ℕ) (ws bytes : List ℕ) (words : Words ws
     written-bytes small bs =
         let v = plan-table (st .format) (st .channels) (rowsIn ws) gs (in-range-some st range) (times ws words) h in
         bytes-append (requestBytes (st .format) request) (tableBytes (st .format) gs ++ frames bytes (rowsIn ws)) (bytes-request (st .format) request small)
-        (bytes-append (tableBytes (st .format) gs) (frames bytes (rowsIn ws)) (bytes-table (st .format) (st .channels) gs (in-range-some st range) (v .runs) (v .few))
+        (bytes-append (tableBytes (st .format) gs) (frames bytes (rowsIn ws)) (bytes-table (st .format) gs (v .runs) (v .counts))
         (bytes-frames bytes (rowsIn ws) bs))
 
 -- Round trip
@@ -154,7 +154,7 @@ readable-plan st ws bytes p words range bs l r =
     let k = parsed (st .format) (st .channels) (firstTime (rowsIn ws)) p (r .rows) (r .read) in
     let q = body (st .format) p in
     let v = read-passed (st .format) (st .channels) 0 q (k .table) (bytes-drop (formatOf (st .format) .header) p bs) (k .is) in
-    table-plan (st .format) (st .channels) (0 + formatOf (st .format) .header + sizeIn (st .format) (k .table)) (rowsIn ws) (k .table) (in-range-some st range) (times ws words) (v .0) (v .1)
+    table-plan (st .format) (st .channels) (0 + formatOf (st .format) .header + sizeIn (st .format) (k .table)) (rowsIn ws) (k .table) (in-range-some st range) (times ws words) (v .0) (v .2) (v .1)
     (few-rows (st .format) (st .channels) q (k .table) (k .is))
     (omega (arith, k .size, some-table (st .format) (k .table) (v .1), length-drop (formatOf (st .format) .header) p)) (sym (same-plains p bytes (r .rows) (rowsIn ws) (r .same)) ∙ ap plains (sym (k .same)) ∙ plains-marked primaryMark _)
 

@@ -20,10 +20,11 @@ use Rattle.contents.proofs.EntryLaws.{past, same-entry, code-in, fair}
 use Rattle.contents.proofs.ContentsLaws.{contents-step, shorter, blocks-of}
 use Rattle.frame_rows.proofs.FirstLaws.{length-direct}
 use Rattle.codes.specs.Codes.{noCode, codeFor}
+use Rattle.plans.specs.Entries.{maxBlocks}
 use Rattle.plans.specs.Plans.{headGap}
 use Rattle.codes.proofs.CodeLaws.{code-some}
 use Rattle.roundtrip.proofs.EntryBackLaws.{Run}
-use Rattle.roundtrip.proofs.TableBackLaws.{Runs}
+use Rattle.roundtrip.proofs.TableBackLaws.{Runs, Counts}
 use Rattle.roundtrip.proofs.AttachLaws.{same-groups, firstGap}
 
 -- The gaps of an entry
@@ -75,6 +76,11 @@ read-run format s e h bs =
       alone = λ a. n ∙ t .blocks ∙ rw a;
     }
 
+read-few : (format : ℕ) (s : List ℕ) (e : Entry) → entryOf format s ≡ EntryRead.Entry e → Bytes s → length (meaning format s e .gaps) ≤ maxBlocks
+read-few format s e h bs =
+    let few : blocksIn format s ≤ maxBlocks = by-test (formatOf format .counted) (λ a. rw a (omega (arith, bs 1))) (λ a. rw a (omega arith)) in
+    omega (arith, blocks-of format s e, told format s e h .blocks, few)
+
 read-first : (format : ℕ) (s : List ℕ) (e : Entry) → Bytes s → headGap (meaning format s e) ≤ maxGap format
 unfolding meaning
 read-first format s e bs = gaps-near format s 0 (e .blocks) 0 bs
@@ -82,7 +88,7 @@ read-first format s e bs = gaps-near format s 0 (e .blocks) 0 bs
 -- A table
 
 abbrev Read : ℕ → List Group → Type 0
-Read format hs = Runs format hs × (1 ≤ length hs)
+Read format hs = Runs format hs × (1 ≤ length hs) × Counts hs
 
 read-step : (format ch rows : ℕ) (s : List ℕ) (hs : List Group) → Bytes s
     → ((n : ℕ) (e : Entry) → entryOf format s ≡ EntryRead.Entry e → (gs : List Group) → contents format ch n (drop (e .size) s) ≡ groups gs → Read format gs)
@@ -94,11 +100,11 @@ read-step format ch rows s hs bs ih (EntryRead.Entry e) h k =
     (λ a. let y = rw a at k in let z : _≡_ {A = ℕ} 0 1 = cc in absurd (omega arith))
     (λ a. by-test (e .more)
     (λ b. more (contents format ch (rows + e .blocks * ch) (drop (e .size) s)) refl (rw (a, b) at k))
-    (λ b. subst (Read format) (same-groups (meaning format s e ∷ []) hs (rw (a, b) at k)) ((read-run format s e h bs, read-first format s e bs, tt), omega arith)))
+    (λ b. subst (Read format) (same-groups (meaning format s e ∷ []) hs (rw (a, b) at k)) ((read-run format s e h bs, read-first format s e bs, tt), omega arith, (read-few format s e h bs, tt))))
   where
     more : (x : Contents) → contents format ch (rows + e .blocks * ch) (drop (e .size) s) ≡ x → prepend (e .size) (meaning format s e) x ≡ groups hs → Read format hs
     more (refused q) i j = let z : _≡_ {A = ℕ} 0 1 = cc in absurd (omega arith)
-    more (groups gs) i j = subst (Read format) (same-groups (meaning format s e ∷ gs) hs j) ((read-run format s e h bs, read-first format s e bs, ih (rows + e .blocks * ch) e h gs i .0), omega arith)
+    more (groups gs) i j = subst (Read format) (same-groups (meaning format s e ∷ gs) hs j) ((read-run format s e h bs, read-first format s e bs, ih (rows + e .blocks * ch) e h gs i .0), omega arith, (read-few format s e h bs, ih (rows + e .blocks * ch) e h gs i .2))
 
 read-by : (f format ch rows : ℕ) (s : List ℕ) (hs : List Group) → length s < f → Bytes s → contents format ch rows s ≡ groups hs → Read format hs
 read-by zero format ch rows s hs l bs h = absurd (omega arith)
@@ -133,7 +139,7 @@ read-passed format ch rows s hs bs h = go (contents format ch rows s) refl h
     go (groups []) e k = let r = read-runs format ch rows s [] bs e in absurd (omega (arith, r .1))
     go (groups (g ∷ gs)) e k =
         let r = read-runs format ch rows s (g ∷ gs) bs e in
-        subst (Read format) (same-groups _ hs k) ((run-direct format g (r .0 .0), omega (arith, direct-first (g .gaps)), r .0 .2), omega arith)
+        subst (Read format) (same-groups _ hs k) ((run-direct format g (r .0 .0), omega (arith, direct-first (g .gaps)), r .0 .2), omega arith, (omega (arith, length-direct (g .gaps), r .2 .0), r .2 .1))
 
 -- where nothing stands before the first frame-block, nothing is passed over
 pub pass-none : (gs : List Group) → firstGap gs ≡ 0 → passFirst (groups gs) ≡ groups gs

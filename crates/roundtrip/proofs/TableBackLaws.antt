@@ -10,6 +10,7 @@ use Rattle.rtp.specs.Sizes.{maxRows}
 use Rattle.formats.specs.Formats.{maxGap}
 use Rattle.contents.specs.Contents.{Group, groups, meaning, prepend, contents, rowCount}
 use Rattle.contents.proofs.ContentsLaws.{contents-last, contents-more}
+use Rattle.plans.specs.Entries.{maxBlocks}
 use Rattle.plans.specs.Plans.{headGap}
 use Rattle.encoder.specs.Bytes.{entryBytes, tableBytes}
 use Rattle.encoder.proofs.EntryLaws.{length-entry}
@@ -19,6 +20,11 @@ use Rattle.roundtrip.proofs.EntryBackLaws.{Run, entryFor, entry-back, m
 abbrev pub Runs : ℕ → List Group → Type 0
 Runs format [] = Unit {0}
 Runs format (g ∷ gs) = Run format g × (headGap g ≤ maxGap format) × Runs format gs
+
+-- each counted in one byte
+abbrev pub Counts : List Group → Type 0
+Counts [] = Unit {0}
+Counts (g ∷ gs) = (length (g .gaps) ≤ maxBlocks) × Counts gs
 
 pub table-back : (format ch rows : ℕ) (g : Group) (gs : List Group) (rest : List ℕ) → Runs format (g ∷ gs) → rows + rowCount ch (g ∷ gs) ≤ maxRows
     → contents format ch rows (tableBytes format (g ∷ gs) ++ rest) ≡ groups (g ∷ gs)

@@ -32,7 +32,7 @@ pub record ReadsBack (st : Settings) (request : ℕ) (h : Heading) (counts ws by
   pub timestamp : head .timestamp ≡ primaryTime counts (rowsIn ws)
   pub source : head .source ≡ h .source
 
--- Round trip of packets, under the same settings, into any row area of 512 words or more
+-- Round trip of packets, under the same settings, into any row area of 1,536 words or more
 abbrev pub PacketRoundTrip : Type 0
 PacketRoundTrip = (st : Settings) (request : ℕ) (h : Heading) (counts ws bytes : List ℕ) (area rows : ℕ) (p : List ℕ)
     → Words ws → h .sequence < 2 ^ 16 → h .source < 2 ^ 32 → rowArea ≤ rows
