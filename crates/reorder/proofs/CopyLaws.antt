@@ -7,7 +7,7 @@ use native.Mathlib.Omega.{arith}
 use lib.ListN.{length}
 use lib.Dec.{eqb}
 use borrow.Author.Tests.{lt-ltb, eqb-false, ne-eqb}
-use Rattle.rtp.specs.Ranges.{inRange}
+use Rattle.rtp.specs.Ranges.{mostChannels, inRange}
 use Rattle.rtp.specs.declared.settings.Settings.{Settings}
 use Rattle.rtp.proofs.TestLaws.{by-test}
 use Rattle.rtp.proofs.RangeLaws.{few-channels}
@@ -26,7 +26,7 @@ use Rattle.reorder.proofs.StateLaws.{Fit, Fits, fit-frame}
 use Rattle.reorder.proofs.RowStepLaws.{frame-size}
 use Rattle.reorder.specs.ModelCalls.{readReceived}
 
-module _ (st : Settings) (few : st .channels ≤ 2) (packet : List ℕ) where
+module _ (st : Settings) (few : st .channels ≤ mostChannels) (packet : List ℕ) where
   row-allowed : (r : Row) → RowFine (st .format) (st .channels) (length packet) r → RowAllowed st (length packet) r
   row-allowed r f n = (rw (ne-eqb (r .class) noData n) (lt-ltb _ _ (f .coded)), f .channel, f .inside)
 

@@ -7,7 +7,7 @@ use native.Mathlib.Omega.{arith}
 use lib.ListN.{length, take, drop}
 use lib.Seq.{take-append-seam}
 use Rattle.rtp.specs.Sizes.{rowWidth, rowArea, maxRows}
-use Rattle.rtp.specs.Ranges.{inRange}
+use Rattle.rtp.specs.Ranges.{mostChannels, inRange}
 use Rattle.rtp.specs.Refusals.{number}
 use Rattle.rtp.specs.Areas.{over}
 use Rattle.rtp.specs.declared.refusal.Fault.{Fault}
@@ -78,7 +78,7 @@ rows-offer at occupied sum e b' packet rs t store store' k =
     record { answer = ap countNumbers (j .counts); buffer = j .buffer; store-left = j .store-left }
 
 -- the tags of rows that were read hold all of their parts
-tags-fit : (format ch n : ℕ) (rs : List Row) → ch ≤ 2 → AllRows (RowFine format ch n) rs → TagsFit rs
+tags-fit : (format ch n : ℕ) (rs : List Row) → ch ≤ mostChannels → AllRows (RowFine format ch n) rs → TagsFit rs
 tags-fit format ch n [] few f = tt
 tags-fit format ch n (r ∷ rs) few f = (
   record {
