@@ -57,7 +57,7 @@ pub record CheckedPlaces : Type 0 where
   pub cut-short : RefusedAt g719 (withPadding plainType (0xA0 ∷ 0x01 ∷ 0x20 ∷ [])) 14 ContentsTruncated
   pub reserved : RefusedAt g719 (withExtension plainType (0xA0 ∷ 0x01 ∷ 0x1C ∷ 0x01 ∷ [])) 22 ReservedCode
   pub no-blocks : RefusedAt g719 (withSource plainType (0xA0 ∷ 0x01 ∷ 0x20 ∷ 0x00 ∷ [])) 18 NoFrameBlocks
-  pub too-many : RefusedAt g719 (withSource plainType (0x80 ∷ 0x40 ∷ 0x80 ∷ 0x41 ∷ 0x00 ∷ 0x01 ∷ [])) 18 TooManyRows
+  pub too-many : RefusedAt g719 (withSource plainType (0x80 ∷ 0xFF ∷ 0x80 ∷ 0x82 ∷ 0x00 ∷ 0x01 ∷ [])) 18 TooManyRows
   -- 10 is the first byte after the table
   pub mismatch : RefusedAt g719 (withPadding plainType (0x20 ∷ 0x01 ∷ filler 79)) 14 LengthMismatch × RefusedAt g719 (withSource plainType (0x20 ∷ 0x01 ∷ filler 81)) 18 LengthMismatch
   pub mismatch-amr : RefusedAt amr (withSource plainType (0xF0 ∷ 0x3C ∷ filler 30)) 18 LengthMismatch
