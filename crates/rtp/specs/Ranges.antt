@@ -1,4 +1,4 @@
--- Document 01, "Settings", and document 02, P1: their ranges. The format is document 01's kind, payload_type its plain payload type.
+-- Document 01, "Settings", and document 02, P1 and P12: their ranges. The format is document 01's kind, payload_type its plain payload type.
 use Prim.Native.Nat.{ℕ}
 use mathlib.Core.Bool.{Bool, true, false, cond}
 use lib.Dec.{ltb, leb, eqb}

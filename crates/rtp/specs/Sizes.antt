@@ -1,4 +1,4 @@
--- Document 01, "Sizes": each figure is named here and used by name.
+-- Document 01, "Sizes", and document 02, P12, of rows: each figure is named here and used by name.
 use Prim.Native.Nat.{ℕ, _*_}
 
 -- the shortest packet, which is the fixed header alone, and the longest

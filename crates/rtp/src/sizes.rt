@@ -1,4 +1,4 @@
-// The paper's figures for packets, rows and frames (document 01, "Sizes"): each is named here and used by name.
+// The papers' figures for packets, rows and frames (document 01, "Sizes"; of rows document 02, P12): each is named here and used by name.
 // The shortest packet, which is the fixed header alone, and the longest, in bytes.
 pub const MIN_PACKET: usize = 12;
 
