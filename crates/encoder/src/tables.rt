@@ -11,6 +11,7 @@ use tags::tagging;
 ghost use mathlib.Core.Path.{_≡_};
 ghost use Prim.Native.Nat.{_<_};
 ghost use lib.ListN.{length};
+ghost use Rattle.rtp.specs.Editions.{current};
 ghost use Rattle.rtp.specs.Areas.{over};
 ghost use Rattle.formats.specs.Formats.{stepOf};
 ghost use Rattle.plans.specs.Lists.{rowsIn};
@@ -139,7 +140,7 @@ fn put_entry(
 
 // The table of the rows, entry by entry, after a frame-block at `previous`.
 pub(crate) fn put_table(format: u8, channels: usize, previous: u32, rows: &[u32], out: &mut [u8])
-    requires { ⌜ TableRoom format channels previous (now rows) (length (now out)) ⌝ }
+    requires { ⌜ TableRoom current format channels previous (now rows) (length (now out)) ⌝ }
     ensures { λ _. ⌜ now (out .exit) ≡ over (planBytes format (inEntries (planFrom format channels 0 (timed previous) (rowsIn (now (rows .entry)))))) (now (out .entry)) ⌝ }
 {
     if rows.len() < ROW_WIDTH {

@@ -9,6 +9,7 @@ use lib.ListN.{length, getD, drop}
 use lib.Dec.{ltb, leb, eqb}
 use native.Mathlib.Numerals.{add-one}
 use borrow.Author.Tests.{lt-ltb, le-ltb, ltb-true, leb-true, eqb-true, eqb-false, eq-eqb, ne-eqb}
+use Rattle.rtp.specs.Editions.{Edition, current}
 use Rattle.rtp.specs.Sizes.{maxRows, maxFrame, rowWidth}
 use Rattle.rtp.proofs.TestLaws.{by-test, not-both, both}
 use Rattle.contents.specs.Contents.{Group, Contents, refused, groups, sizeIn, framesIn}
@@ -31,7 +32,7 @@ use Rattle.plans.specs.Room.{rowAs, wordsAt, runSize, planAnswer, attach
 pub block-frames : (ch n : ℕ) → ch < 256 → n ≤ maxFrame → ch * n ≤ 81600
 block-frames ch n c s = let h : ch ≤ 255 = omega arith in omega (arith, mul-le-mul-left ch s, mul-le-mul-right {m = ch} {n = 255} maxFrame h)
 
-pub plan-frames : (format ch : ℕ) (p : Plan) → SmallPlan format ch maxRows p → ch < 256 → p .frames ≤ maxRows * 81600
+pub plan-frames : (format ch : ℕ) (p : Plan) → SmallPlan format ch (maxRows current) p → ch < 256 → p .frames ≤ maxRows current * 81600
 plan-frames format ch p s c = omega (arith, block-frames ch maxFrame c (omega arith), s .framed)
 
 -- a frame-block before a plan, in the plan's numbers
@@ -188,30 +189,30 @@ first-channel format p r rs =
     (λ a. rw a (answer-attach format 0 r _ (planFrom format 0 1 r rs) ∙ ap (attachPlan format 0 r _) (no-channels format 1 r rs (λ x. omega arith))))
     (λ a. rw a (unfold planAnswer in refl))
 
-pub no-channels-plan : (format ch : ℕ) (rs : List Row) → ch ≡ 0 → listAnswer format ch (plan format ch rs) ≡ ListPlan.Unwritable
+pub no-channels-plan : (ed : Edition) (format ch : ℕ) (rs : List Row) → ch ≡ 0 → listAnswer format ch (plan ed format ch rs) ≡ ListPlan.Unwritable
 unfolding plan
-no-channels-plan format ch [] z = unfold listAnswer in refl
-no-channels-plan format ch (r ∷ rs) z =
-    by-test (ltb maxRows (length (r ∷ rs)))
+no-channels-plan ed format ch [] z = unfold listAnswer in refl
+no-channels-plan ed format ch (r ∷ rs) z =
+    by-test (ltb (maxRows ed) (length (r ∷ rs)))
     (λ a. rw a (unfold listAnswer in refl))
     (λ a. rw (z, a) (answer-fitting format 0 (planFrom format 0 0 (stepBefore format r) (r ∷ rs)) ∙ ap (fittingPlan format) (first-channel format (stepBefore format r) r rs)))
 
-module _ (format ch : ℕ) (ws : List ℕ) where
-  pub list-none : length ws < rowWidth → listAnswer format ch (plan format ch (rowsIn ws)) ≡ ListPlan.Unwritable
+module _ (ed : Edition) (format ch : ℕ) (ws : List ℕ) where
+  pub list-none : length ws < rowWidth → listAnswer format ch (plan ed format ch (rowsIn ws)) ≡ ListPlan.Unwritable
   unfolding plan listAnswer
   list-none h = rw (rows-none ws h)
 
   module _ (h : rowWidth ≤ length ws) where
-    pub list-many : maxRows < length ws / rowWidth → listAnswer format ch (plan format ch (rowsIn ws)) ≡ ListPlan.Unwritable
+    pub list-many : maxRows ed < length ws / rowWidth → listAnswer format ch (plan ed format ch (rowsIn ws)) ≡ ListPlan.Unwritable
     unfolding plan listAnswer
-    list-many m = rw (rows-more ws h, lt-ltb maxRows (length (rowAs (wordsAt ws 0) ∷ rowsIn (drop rowWidth ws))) (omega (arith, length-rows ws, ap (λ (l : List Row). length l) (rows-more ws h))))
+    list-many m = rw (rows-more ws h, lt-ltb (maxRows ed) (length (rowAs (wordsAt ws 0) ∷ rowsIn (drop rowWidth ws))) (omega (arith, length-rows ws, ap (λ (l : List Row). length l) (rows-more ws h))))
 
-    pub list-plan : length ws / rowWidth ≤ maxRows → plan format ch (rowsIn ws) ≡ fitting format ch (inEntries (planFrom format ch 0 (stepBefore format (rowAs (wordsAt ws 0))) (rowsIn ws)))
+    pub list-plan : length ws / rowWidth ≤ maxRows ed → plan ed format ch (rowsIn ws) ≡ fitting format ch (inEntries (planFrom format ch 0 (stepBefore format (rowAs (wordsAt ws 0))) (rowsIn ws)))
     unfolding plan
     list-plan m =
-        let l : length (rowAs (wordsAt ws 0) ∷ rowsIn (drop rowWidth ws)) ≤ maxRows = omega (arith, length-rows ws, ap (λ (l : List Row). length l) (rows-more ws h)) in
-        rw (rows-more ws h, le-ltb maxRows (length (rowAs (wordsAt ws 0) ∷ rowsIn (drop rowWidth ws))) l)
+        let l : length (rowAs (wordsAt ws 0) ∷ rowsIn (drop rowWidth ws)) ≤ maxRows ed = omega (arith, length-rows ws, ap (λ (l : List Row). length l) (rows-more ws h)) in
+        rw (rows-more ws h, le-ltb (maxRows ed) (length (rowAs (wordsAt ws 0) ∷ rowsIn (drop rowWidth ws))) l)
 
-    pub list-answer : length ws / rowWidth ≤ maxRows → (x : Planned) → x ≡ planAnswer format ch (planFrom format ch 0 (stepBefore format (rowAs (wordsAt ws 0))) (rowsIn ws))
-        → listAnswer format ch (plan format ch (rowsIn ws)) ≡ fittingPlan format x
+    pub list-answer : length ws / rowWidth ≤ maxRows ed → (x : Planned) → x ≡ planAnswer format ch (planFrom format ch 0 (stepBefore format (rowAs (wordsAt ws 0))) (rowsIn ws))
+        → listAnswer format ch (plan ed format ch (rowsIn ws)) ≡ fittingPlan format x
     list-answer m x e = ap (listAnswer format ch) (list-plan m) ∙ answer-fitting format ch (planFrom format ch 0 (stepBefore format (rowAs (wordsAt ws 0))) (rowsIn ws)) ∙ ap (fittingPlan format) (sym e)

@@ -5,6 +5,7 @@ use mathlib.Core.List.{List, [], _∷_}
 use mathlib.Core.Bool.{Bool, false, cond}
 use lib.ListN.{length, getD}
 use lib.Dec.{ltb, leb, eqb}
+use Rattle.rtp.specs.Editions.{Edition}
 use Rattle.rtp.specs.Sizes.{maxRows, minPacket, maxPacket}
 use Rattle.rtp.specs.Time.{difference}
 use Rattle.rtp.specs.Faults.{fault}
@@ -96,8 +97,8 @@ fitting format ch (refused q) = refused q
 fitting format ch (groups gs) = cond (ltb maxPayload (payloadSize format ch gs)) (refused unwritable) (groups gs)
 
 -- the plan of a whole list: an empty one has none, nor has one of too many rows
-unfoldable pub plan : ℕ → ℕ → List Row → Contents
-plan format ch [] = refused unwritable
-plan format ch (r ∷ rs) =
-    cond (ltb maxRows (length (r ∷ rs))) (refused unwritable)
+unfoldable pub plan : Edition → ℕ → ℕ → List Row → Contents
+plan ed format ch [] = refused unwritable
+plan ed format ch (r ∷ rs) =
+    cond (ltb (maxRows ed) (length (r ∷ rs))) (refused unwritable)
     (fitting format ch (inEntries (planFrom format ch 0 (stepBefore format r) (r ∷ rs))))

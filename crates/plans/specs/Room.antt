@@ -4,6 +4,7 @@ use mathlib.Core.List.{List, [], _∷_}
 use mathlib.Core.Bool.{cond}
 use lib.ListN.{length, getD}
 use lib.Dec.{leb}
+use Rattle.rtp.specs.Editions.{Edition}
 use Rattle.rtp.specs.Sizes.{maxRows, maxFrame}
 use Rattle.rtp.specs.Refusals.{number}
 use Rattle.rtp.specs.declared.refusal.Refusal.the-variants.{Unwritable}
@@ -87,10 +88,10 @@ Small format ch n Planned.Empty = Unit {0}
 Small format ch n Planned.Unwritable = Unit {0}
 
 -- a frame-block of a frame that the format has, before a plan of at most as many frame-blocks as a packet has rows
-pub record Attachable (format ch : ℕ) (r : Row) (rest : Planned) : Type 0 where
+pub record Attachable (ed : Edition) (format ch : ℕ) (r : Row) (rest : Planned) : Type 0 where
   pub channels : ch < 256
   pub short : r .length ≤ maxFrame
-  pub small : Small format ch maxRows rest
+  pub small : Small format ch (maxRows ed) rest
 
 -- The answer on a whole list in numbers: the refusal number or 0, and the bytes of the table and of the payload, zeros on refusal
 pub record ListNumbers : Type 0 where

@@ -15,6 +15,7 @@ ghost use mathlib.Core.Path.{_≡_};
 ghost use Prim.Native.Nat.{_+_, _*_, _/_, _%_, _^_, _<_};
 ghost use lib.Dec.{eqb};
 ghost use lib.ListN.{length};
+ghost use Rattle.rtp.specs.Editions.{current};
 ghost use Rattle.rtp.specs.Sizes.{rowWidth, maxRows};
 ghost use Rattle.formats.specs.Formats.{formatOf, stepOf, maxGap};
 ghost use Rattle.plans.specs.Entries.{firstBlocks};
@@ -164,7 +165,7 @@ fn run_size(format: u8, blocks: usize) -> usize
 
 // A frame-block before a plan.
 fn attach_block(format: u8, channels: u32, row: RowWords, gap: u32, rest: Planned) -> Planned
-    requires { ⌜ Attachable format channels (rowAs row) rest ⌝ }
+    requires { ⌜ Attachable current format channels (rowAs row) rest ⌝ }
     ensures { λ r. ⌜ r ≡ attachPlan format channels (rowAs row) gap rest ⌝ }
 {
     let class = tagging::tag_class(row.tag);
@@ -210,7 +211,7 @@ fn attach_block(format: u8, channels: u32, row: RowWords, gap: u32, rest: Planne
 
 // The plan of the rows from channel c on, after a row.
 fn plan_from(format: u8, channels: u32, c: u32, previous: RowWords, rows: &[u32]) -> Planned
-    requires { ⌜ (channels < 256) × (c < channels) × (length (now rows) < rowWidth * maxRows + rowWidth) ⌝ }
+    requires { ⌜ (channels < 256) × (c < channels) × (length (now rows) < rowWidth * maxRows current + rowWidth) ⌝ }
     ensures { λ r. ⌜ r ≡ planAnswer format channels (planFrom format channels c (rowAs previous) (rowsIn (now (rows .entry)))) ⌝ }
 {
     if rows.len() < ROW_WIDTH {
@@ -262,7 +263,7 @@ pub enum ListPlan {
 
 // The plan of a whole list, by its sizes.
 pub fn plan_list(format: u8, channels: u8, rows: &[u32]) -> ListPlan
-    ensures { λ r. ⌜ listPlanNumbers r ≡ listNumbers format channels (plan format channels (rowsIn (now (rows .entry)))) ⌝ }
+    ensures { λ r. ⌜ listPlanNumbers r ≡ listNumbers format channels (plan current format channels (rowsIn (now (rows .entry)))) ⌝ }
 {
     if channels == 0 {
         return ListPlan::Unwritable;

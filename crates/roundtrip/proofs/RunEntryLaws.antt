@@ -8,6 +8,7 @@ use lib.ListN.{length, getD, take, drop, length-drop}
 use lib.Seq.{length-take-le, getD-drop}
 use lib.Dec.{leb}
 use borrow.Author.Tests.{leb-true, leb-false}
+use Rattle.rtp.specs.Editions.{Edition}
 use Rattle.rtp.specs.Sizes.{maxRows}
 use Rattle.rtp.proofs.TestLaws.{by-test}
 use Rattle.formats.specs.Formats.{maxGap}
@@ -92,11 +93,11 @@ runs-entries format (g ∷ gs) v =
 
 -- Counts in one byte: a packet's rows are so few that the rest of a run is one entry
 
-pub counts-entries : (ch : ℕ) (gs : List Group) → 1 ≤ ch → rowCount ch gs ≤ maxRows → Counts (entriesOf gs)
+pub counts-entries : (ed : Edition) (ch : ℕ) (gs : List Group) → 1 ≤ ch → rowCount ch gs ≤ maxRows ed → Counts (entriesOf gs)
 unfolding rowCount
-counts-entries ch [] some few = unfold entriesOf in tt
-counts-entries ch (g ∷ gs) some few =
-    let i = counts-entries ch gs some (omega arith) in
+counts-entries ed ch [] some few = unfold entriesOf in tt
+counts-entries ed ch (g ∷ gs) some few =
+    let i = counts-entries ed ch gs some (omega arith) in
     let n = le-mul-of-pos-right (length (g .gaps)) some in
     by-test (leb (length (g .gaps)) maxBlocks)
     (λ a. let m = leb-true (length (g .gaps)) maxBlocks a in subst Counts (sym (entries-one g gs m)) (m, i))

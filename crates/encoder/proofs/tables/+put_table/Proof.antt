@@ -5,6 +5,7 @@ use native.Mathlib.Nat.{mul-le-mul-left}
 use native.Mathlib.Numerals.{add-one}
 use lib.ListN.{length, getD, take, drop, length-drop}
 use denote.Ref.{now}
+use Rattle.rtp.specs.Editions.{current}
 use Rattle.rtp.specs.Sizes.{rowWidth}
 use Rattle.rtp.specs.Areas.{over}
 use Rattle.rtp.proofs.AreaLaws.{part-length, part-to-end}
@@ -49,7 +50,7 @@ abbrev At : (put-table-lts.Claims → In 2 put-table-kinds.ps → Out 2 put-tabl
 At P t = P (callees t) (put-table-at t) put-table.Post
 
 words-at : (t : ℕ) (c : At put-table-lts.Else1 t) → rowWidth * c .before .before .before .args .channels ≤ length (now (c .before .before .before .args .rows))
-words-at t c = let a = c .before .before .before .args in first-words (a .format) (a .channels) (a .previous) (now (a .rows)) (length (now (a .out))) (c .before .before .before .pre .1) (c .if1 .left)
+words-at t c = let a = c .before .before .before .args in first-words current (a .format) (a .channels) (a .previous) (now (a .rows)) (length (now (a .out))) (c .before .before .before .pre .1) (c .if1 .left)
 
 -- the frame-blocks of the first run, as the list has them
 blocks-at : (t : ℕ) (c : At put-table-lts.After-joined-blocks t) → let a = c .before .before .before .before .before .before .args in let ws = now (a .rows) in
@@ -62,12 +63,12 @@ blocks-at t c =
 
 -- the first entry
 entered-at : (t : ℕ) (c : At put-table-lts.After-first-blocks t) → let a = c .before .before .before .before .before .before .before .args in
-    Entered (a .format) (a .channels) (a .previous) (now (a .rows)) (length (now (a .out))) (c .first-blocks .result)
+    Entered current (a .format) (a .channels) (a .previous) (now (a .rows)) (length (now (a .out))) (c .first-blocks .result)
 entered-at t c =
     let a = c .before .before .before .before .before .before .before .args in
     let b = c .before in
-    subst (λ (n : ℕ). Entered (a .format) (a .channels) (a .previous) (now (a .rows)) (length (now (a .out))) n) (sym (c .first-blocks .ensures))
-    (entered (a .format) (a .channels) (a .previous) (now (a .rows)) (length (now (a .out))) (c .before .before .before .before .before .before .before .pre .1) (c .before .before .before .before .if1 .left) (b .joined-blocks .result + 1) (blocks-at t b))
+    subst (λ (n : ℕ). Entered current (a .format) (a .channels) (a .previous) (now (a .rows)) (length (now (a .out))) n) (sym (c .first-blocks .ensures))
+    (entered current (a .format) (a .channels) (a .previous) (now (a .rows)) (length (now (a .out))) (c .before .before .before .before .before .before .before .pre .1) (c .before .before .before .before .if1 .left) (b .joined-blocks .result + 1) (blocks-at t b))
 
 -- where its frame-blocks end
 end-at : (t : ℕ) (c : At put-table-lts.After-first-blocks t) → let a = c .before .before .before .before .before .before .before .args in let w = rowWidth * a .channels in
@@ -77,7 +78,7 @@ end-at t c =
     (omega (arith, mul-le-mul-left (rowWidth * a .channels) (entered-at t c .some)), entered-at t c .entry .words)
 
 put-table-returns : (t : ℕ) → At put-table-lts.Need-returns t
-put-table-returns t c = let a = c .before .before .before .args in put-no-run (a .format) (a .channels) (a .previous) (now (a .rows)) (now (a .out)) (c .if1 .taken)
+put-table-returns t c = let a = c .before .before .before .args in put-no-run current (a .format) (a .channels) (a .previous) (now (a .rows)) (now (a .out)) (c .if1 .taken)
 
 put-table-mul-width : (t : ℕ) → At put-table-lts.Need-mul-width t
 put-table-mul-width t c = omega (arith, c .before .before .before .pre .1 .channels)
@@ -100,11 +101,11 @@ put-table-part-joined-blocks-end t c = search needs
 put-table-joined-blocks-requires : (t : ℕ) → At put-table-lts.Need-joined-blocks-requires t
 put-table-joined-blocks-requires t c κs = let a = c .before .before .before .before .before .args in
     rw (part-to-end (rowWidth * a .channels) (now (a .rows))) (subst (λ (w : RowWords). RunRoom (a .format) (a .channels) (rowAs w) (drop (rowWidth * a .channels) (now (a .rows)))) (sym (c .before .first-row .ensures))
-    (first-run (a .format) (a .channels) (a .previous) (now (a .rows)) (length (now (a .out))) (c .before .before .before .before .before .pre .1) (c .before .before .if1 .left)))
+    (first-run current (a .format) (a .channels) (a .previous) (now (a .rows)) (length (now (a .out))) (c .before .before .before .before .before .pre .1) (c .before .before .if1 .left)))
 
 put-table-add-run : (t : ℕ) → At put-table-lts.Need-add-run t
 put-table-add-run t c = let a = c .before .before .before .before .before .before .args in
-    omega (arith, few-blocks (a .format) (a .channels) (a .previous) (now (a .rows)) (length (now (a .out))) (c .before .before .before .before .before .before .pre .1) (c .before .before .before .if1 .left) (c .joined-blocks .result + 1) (blocks-at t c))
+    omega (arith, few-blocks current (a .format) (a .channels) (a .previous) (now (a .rows)) (length (now (a .out))) (c .before .before .before .before .before .before .pre .1) (c .before .before .before .if1 .left) (c .joined-blocks .result + 1) (blocks-at t c))
 
 put-table-first-blocks-requires : (t : ℕ) → At put-table-lts.Need-first-blocks-requires t
 put-table-first-blocks-requires t c κs = search needs
@@ -166,7 +167,7 @@ put-table-returns-2 t c = let a = c .before .before .before .before .before .bef
     let n = c .before .before .before .before .before .before .before .before .before .before .before .first-blocks .result in
     let m = c .before .before .before .before .before .before .before .before .before .put-entry .last .1 .1 .1 .1 .1 .1 .0 in
     let s = c .before .before .before .before .before .before .entry-size .result in
-    put-run (a .format) (a .channels) (a .previous) (now (a .rows)) (now (a .out)) n (length (now (a .out))) (entered-at t (c .before .before .before .before .before .before .before .before .before .before .before)) (c .before .before .before .before .before .before .before .before .before .before .before .before .before .before .before .before .before .before .pre .1 .some) m (c .before .before .before .before .before .before .before .before .before .put-entry .ensures) s (c .before .before .before .before .before .before .entry-size .ensures) _
+    put-run current (a .format) (a .channels) (a .previous) (now (a .rows)) (now (a .out)) n (length (now (a .out))) (entered-at t (c .before .before .before .before .before .before .before .before .before .before .before)) (c .before .before .before .before .before .before .before .before .before .before .before .before .before .before .before .before .before .before .pre .1 .some) m (c .before .before .before .before .before .before .before .before .before .put-entry .ensures) s (c .before .before .before .before .before .before .entry-size .ensures) _
     (c .before .before .put-table .ensures ∙ ap (λ (l : List ℕ). over (planBytes (a .format) (inEntries (planFrom (a .format) (a .channels) 0 (timed (getD (now (a .rows)) (rowWidth * a .channels * n - rowWidth * a .channels) 0)) (rowsIn l)))) (take (length m - s) (drop s m))) (part-to-end (rowWidth * a .channels * n) (now (a .rows))))
 
 pub +put-table-spec : {M : Type 1} → statement M

@@ -1,6 +1,7 @@
 use mathlib.Core.Path.{subst}
 use Prim.Native.Nat.{_+_, _*_, _≤_, _<_}
 use native.Mathlib.Omega.{arith}
+use Rattle.rtp.specs.Editions.{current}
 use Rattle.rtp.specs.Sizes.{maxRows}
 use Rattle.plans.specs.declared.planning.Planned.{Planned}
 use Rattle.plans.specs.Room.{SmallPlan, Small}
@@ -16,8 +17,8 @@ use Rattle.plans.proofs.planning.attach_block.Tie as tie
 here-at : (c : tie.Start) → c .args .channels * c .args .row .length ≤ 81600
 here-at c = block-frames (c .args .channels) (c .args .row .length) (c .pre .channels) (c .pre .short)
 
-small-at : (c : tie.After-rest) → SmallPlan (c .before .before .before .args .format) (c .before .before .before .args .channels) maxRows (c .rest .given .0 .0)
-small-at c = subst (λ (x : Planned). Small (c .before .before .before .args .format) (c .before .before .before .args .channels) maxRows x) (c .rest .given .1) (c .before .before .before .pre .small)
+small-at : (c : tie.After-rest) → SmallPlan (c .before .before .before .args .format) (c .before .before .before .args .channels) (maxRows current) (c .rest .given .0 .0)
+small-at c = subst (λ (x : Planned). Small (c .before .before .before .args .format) (c .before .before .before .args .channels) (maxRows current) x) (c .rest .given .1) (c .before .before .before .pre .small)
 
 tag-class-requires : tie.Need-tag-class-requires
 tag-class-requires c κs = search needs
