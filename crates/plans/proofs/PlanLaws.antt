@@ -21,7 +21,7 @@ use Rattle.formats.specs.Formats.{formatOf, stepOf, maxGap}
 use Rattle.codes.specs.Codes.{noCode, codeFor}
 use Rattle.formats.proofs.FormatLaws.{header-small}
 use Rattle.codes.proofs.CodeLaws.{code-small}
-use Rattle.plans.specs.Plans.{maxPayload, gapBetween, starts, headGap, single, joinsRun, joins, attach, follows, planFrom, plan, nextChannel, stepBefore, payloadSize, fitting}
+use Rattle.plans.specs.Plans.{maxPayload, gapBetween, starts, headGap, single, joinsRun, joins, attach, follows, planFrom, plan, nextChannel, stepBefore, fitting}
 use Rattle.plans.specs.Entries.{entriesOf, inEntries}
 use Rattle.plans.specs.Lists.{rowsIn}
 use Rattle.plans.proofs.ListLaws.{rows-none, rows-more, length-rows}
