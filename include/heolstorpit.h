@@ -57,9 +57,9 @@
  *       payload and of the last block of a redundancy payload, 0 in those of redundant blocks, and ignored in rows to be written
  *    2  start: the place of the frame's first byte, in the packet (reading) or in `bytes` (writing)
  *    3  length of the frame in bytes
- * A frame-block has a row for each channel, channel 0 first. A row of no data has length 0; reading gives it as start the place
- * where its bytes would lie. A frame of formats 4 and 5 is
- * its bytes whole, the unused bits at its end included.
+ * A frame-block has a row for each channel, channel 0 first. A row of no data has length 0; reading gives it as start
+ * the place where its bytes would lie. A frame of formats 4 and 5 is its bytes whole, the unused bits at its end
+ * included.
  *
  * LOGS. A log keeps frames: fields, one after another, each of a tag (1 byte), the length of its content (2 bytes) and the
  * content. Numbers are big-endian.

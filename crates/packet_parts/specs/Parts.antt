@@ -27,7 +27,7 @@ unfoldable pub total : List ℕ → ℕ
 total [] = 0
 total (n ∷ ns) = n + total ns
 
--- one to five counts, which make up the area, and at most 384 rows in all
+-- one to five counts, which make up the area, and no more rows in all than the edition has
 abbrev pub countsFit : Edition → List ℕ → List ℕ → Bool
 countsFit ed counts ws =
     cond (eqb (length counts) 0) false

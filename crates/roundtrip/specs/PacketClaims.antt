@@ -33,7 +33,7 @@ pub record ReadsBack (ed : Edition) (st : Settings) (request : ℕ) (h : Heading
   pub timestamp : head .timestamp ≡ primaryTime counts (rowsIn ws)
   pub source : head .source ≡ h .source
 
--- Round trip of packets, under the same settings, into any row area of 1,536 words or more
+-- Round trip of packets, under the same settings, into any row area of the edition's size or more
 abbrev pub PacketRoundTrip : Edition → Type 0
 PacketRoundTrip ed = (st : Settings) (request : ℕ) (h : Heading) (counts ws bytes : List ℕ) (area rows : ℕ) (p : List ℕ)
     → Words ws → h .sequence < 2 ^ 16 → h .source < 2 ^ 32 → rowArea ed ≤ rows
