@@ -1,14 +1,13 @@
 -- Logs and readers of different editions: they differ in the channels that they allow alone.
 use mathlib.Core.Path.{_≡_, refl, sym, ap, subst, _∙_}
 use mathlib.Core.List.{List}
-use mathlib.Core.Bool.{Bool, true, false, cond}
+use mathlib.Core.Bool.{true, cond}
 use Prim.Native.Nat.{ℕ, zero, suc, _<_, _≤_}
 use native.Mathlib.Omega.{arith}
 use lib.ListN.{length}
 use lib.Dec.{eqb}
 use Rattle.rtp.specs.Editions.{Edition, firstEdition, current}
 use Rattle.rtp.specs.Ranges.{mostChannels, inRange}
-use Rattle.rtp.specs.Refusals.{number}
 use Rattle.rtp.specs.declared.settings.Settings.{Settings}
 use Rattle.rtp.specs.declared.refusal.Refusal.the-variants.{NotAllowed}
 use Rattle.rtp.proofs.TestLaws.{by-test}
@@ -22,7 +21,7 @@ use Rattle.log.specs.Opening.{settingsField, openedBy, opening, openedCursor}
 use Rattle.log.specs.Stepping.{step, cursorAfter}
 use Rattle.log_claims.specs.Logs.{shows, opened, unopened, readLog}
 use Rattle.log_claims.specs.Claims.{partOf, stepped, stepsBy, walked}
-use Rattle.log_claims.specs.EditionClaims.{OpensAlike, StepsAlike, RefusesMore, ShowsNone, FirstRefuses}
+use Rattle.log_claims.specs.EditionClaims.{OpensAlike, StepsAlike, RefusesMore, ShowsNone, RefusesWritten, FirstRefuses}
 use Rattle.log_claims.proofs.ReadingTheorem.{reading-is-exact}
 use Rattle.log_claims.proofs.RoundTripTheorem.{round-trip}
 
@@ -85,22 +84,26 @@ opens-alike a b l log st h =
     (q ∙ sym h, sym (reading-is-exact b log) ∙ ap (walked b log) q ∙ walked-alike a b l log st r ∙ ap (walked a log) (sym h) ∙ reading-is-exact a log)
 
 pub refuses-more : RefusesMore
+unfolding step inRange
 refuses-more a b log st h l =
     let q : opening a log ≡ OpenAnswer.Refused NotAllowed = open-asks a b log st h ∙ rw (more-out-of-range a st l) in
-    (q, sym (reading-is-exact a log) ∙ ap (walked a log) q)
+    (q, sym (reading-is-exact a log) ∙ ap (walked a log) q, rw q)
 
 pub shows-none : ShowsNone
 unfolding step
 shows-none a log c l = rw (more-out-of-range a (c .settings) l)
 
-pub first-refuses : FirstRefuses
-first-refuses st ws bytes area p words h l = go (opening current p) refl
+pub refuses-written : RefusesWritten
+refuses-written a b st ws bytes area p words h l = go (opening b p) refl
   where
-    go : (x : OpenAnswer) → opening current p ≡ x → readLog firstEdition p ≡ unopened 19
+    go : (x : OpenAnswer) → opening b p ≡ x → readLog a p ≡ unopened 19
     go (OpenAnswer.Refused r) e =
-        let y = sym (ap (walked current p) e) ∙ reading-is-exact current p ∙ round-trip current st ws bytes area p words h in
+        let y = sym (ap (walked b p) e) ∙ reading-is-exact b p ∙ round-trip b st ws bytes area p words h in
         let z : _≡_ {A = ℕ} 0 1 = cc in absurd (omega arith)
     go (OpenAnswer.Opened s) e =
-        let y = sym (ap (walked current p) e) ∙ reading-is-exact current p ∙ round-trip current st ws bytes area p words h in
+        let y = sym (ap (walked b p) e) ∙ reading-is-exact b p ∙ round-trip b st ws bytes area p words h in
         let q : s ≡ st = cc in
-        refuses-more firstEdition current p s e (subst (λ (x : Settings). 2 < x .channels) (sym q) l) .1
+        refuses-more a b p s e (subst (λ (x : Settings). mostChannels a < x .channels) (sym q) l) .1
+
+pub first-refuses : FirstRefuses
+first-refuses st ws bytes area p words h l = refuses-written firstEdition current st ws bytes area p words h l

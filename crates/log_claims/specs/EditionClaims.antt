@@ -13,7 +13,7 @@ use Rattle.rtp.specs.declared.refusal.Refusal.the-variants.{NotAllowed, Setting
 use Rattle.log.specs.declared.opening.Cursor.{Cursor}
 use Rattle.log.specs.declared.opening.OpenAnswer.{OpenAnswer}
 use Rattle.log.specs.declared.stepping.StepAnswer.{StepAnswer}
-use Rattle.log.specs.Opening.{opening}
+use Rattle.log.specs.Opening.{opening, openedCursor}
 use Rattle.log.specs.Stepping.{step}
 use Rattle.log_writer.specs.FieldBytes.{bytesOf}
 use Rattle.log_writer.specs.Writings.{writing}
@@ -27,16 +27,22 @@ OpensAlike = (a b : Edition) → mostChannels a ≤ mostChannels b → (log : Li
 abbrev pub StepsAlike : Type 0
 StepsAlike = (a b : Edition) → mostChannels a ≤ mostChannels b → (log : List ℕ) (c : Cursor) → inRange a (c .settings) ≡ true → step b c log ≡ step a c log
 
--- A log of more channels than a reader has, which some other opens: the reader refuses its first field with 19, and so the whole log
+-- A log of more channels than a reader has, which some other opens: the reader refuses its first field with 19, and so the whole log, and the record that
+-- it leaves shows nothing
 abbrev pub RefusesMore : Type 0
 RefusesMore = (a b : Edition) (log : List ℕ) (st : Settings) → opening b log ≡ OpenAnswer.Opened st → mostChannels a < st .channels
     → (opening a log ≡ OpenAnswer.Refused NotAllowed) × (readLog a log ≡ unopened (number NotAllowed))
+    × (step a (openedCursor (opening a log)) log ≡ StepAnswer.Refused (fault SettingsOutOfRange))
 
--- .. and shows no frame, whatever record of so many channels it is handed
+-- .. nor does any record of so many channels that it is handed (one of fewer channels, made by hand, is the caller's own)
 abbrev pub ShowsNone : Type 0
 ShowsNone = (a : Edition) (log : List ℕ) (c : Cursor) → mostChannels a < c .settings .channels → step a c log ≡ StepAnswer.Refused (fault SettingsOutOfRange)
 
--- so the first edition's reader refuses every log of more than two channels that is written today
+-- so it refuses every log of so many channels that another edition writes; the first edition's reader has two
+abbrev pub RefusesWritten : Type 0
+RefusesWritten = (a b : Edition) (st : Settings) (ws bytes : List ℕ) (area : ℕ) (p : List ℕ) → Words ws → writing b st ws bytes area ≡ bytesOf p
+    → mostChannels a < st .channels → readLog a p ≡ unopened 19
+
 abbrev pub FirstRefuses : Type 0
 FirstRefuses = (st : Settings) (ws bytes : List ℕ) (area : ℕ) (p : List ℕ) → Words ws → writing current st ws bytes area ≡ bytesOf p → 2 < st .channels
     → readLog firstEdition p ≡ unopened 19

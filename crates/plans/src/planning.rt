@@ -209,7 +209,7 @@ fn attach_block(format: u8, channels: u32, row: RowWords, gap: u32, rest: Planne
     }
 }
 
-// The plan of the rows from channel c on, after a row.
+// The runs of the rows from channel c on, after a row.
 fn plan_from(format: u8, channels: u32, c: u32, previous: RowWords, rows: &[u32]) -> Planned
     requires { ⌜ (channels < 256) × (c < channels) × (length (now rows) < rowWidth * maxRows current + rowWidth) ⌝ }
     ensures { λ r. ⌜ r ≡ planAnswer format channels (planFrom format channels c (rowAs previous) (rowsIn (now (rows .entry)))) ⌝ }

@@ -4,6 +4,7 @@ use crate::gaps::Gaps;
 use crate::logging;
 use crate::printing;
 use crate::room;
+use crate::room::Wanted;
 use crate::sources;
 use crate::sources::Sources;
 use crate::totals;
@@ -131,13 +132,13 @@ fn draw_one(state: State, store: &[u8]) -> State {
     }
 }
 
-// The earliest frame, drawn and handed out if it comes before all rows of the next packet; or else the state as it stands.
-fn draw_earlier(state: State, rows: &[u32; ROW_AREA], n: usize, store: &[u8]) -> Advance {
+// The earliest frame, drawn and handed out if it comes before all that are wanted; or else the state as it stands.
+fn draw_earlier(state: State, wanted: Wanted, store: &[u8]) -> Advance {
     let mut area = zero_frame();
     let drawn = draws::draw(state.buffer, store, &mut area);
     let answer = drawn.answer;
     if let DrawAnswer::Frame(frame) = answer {
-        if room::comes_first(frame.time, rows, n) {
+        if room::comes_first(frame.time, wanted) {
             return Advance {
                 state: add_drawn(state, drawn.buffer, frame, &area),
                 more: true,
@@ -170,18 +171,16 @@ fn draw_down(state: State, store: &[u8], kept: usize) -> State {
     left
 }
 
-// Draws before a packet is offered until its frames have room, but no frame that one of them could come before: that one would be late. What has no
-// room then is counted as such.
+// Draws before a packet is offered until those of its frames that need a slot have one, but no frame that one of them could come before: that one would
+// be late. What has no room then is counted as such.
 fn make_room(state: State, packet: &[u8], store: &[u8]) -> State {
-    let mut rows = zero_rows();
-    let settings = state.buffer.settings;
-    let n = room::read_rows(settings, packet, &mut rows);
-    let kept = room::kept_for(n);
+    let wanted = room::find_wanted(state.buffer, packet);
+    let kept = room::kept_for(wanted.count);
     let mut left = state;
     let mut turns = SLOTS;
     while turns > 0 {
         if must_draw(left, kept) {
-            let next = draw_earlier(left, &rows, n, store);
+            let next = draw_earlier(left, wanted, store);
             left = next.state;
             if !next.more {
                 break;

@@ -41,20 +41,20 @@ use Rattle.reorder.proofs.CallLaws.{offerRead, offer-reads}
 use Rattle.reorder.proofs.CopyLaws.{rows-allowed}
 
 -- an outcome whose numbers are those of a refusal is that refusal
-pub refused-words : (ed : Edition) (o : Outcome) (f : Fault) → refusedNumbers f ≡ outcomeNumbers o → outcomeWords o ≡ []
+pub refused-words : (o : Outcome) (f : Fault) → refusedNumbers f ≡ outcomeNumbers o → outcomeWords o ≡ []
 unfolding outcomeNumbers outcomeWords
-refused-words ed (refused q) f e = refl
-refused-words ed (readAs h rs request) f e = let z : number (f .refusal) ≡ 0 = ap (λ (n : Numbers). n .refusal) e in absurd (omega (arith, number-positive (f .refusal)))
+refused-words (refused q) f e = refl
+refused-words (readAs h rs request) f e = let z : number (f .refusal) ≡ 0 = ap (λ (n : Numbers). n .refusal) e in absurd (omega (arith, number-positive (f .refusal)))
 
 -- its numbers as those of an offer
 abbrev refusedAs : Numbers → OfferNumbers
 refusedAs n = record { refusal = n .refusal; offset = n .offset; late = 0; far = 0; repeated = 0; better = 0; noRoom = 0; inserted = 0 }
 
-pub refused-offer : (ed : Edition) (b : Buffer) (packet rows store : List ℕ) (o : Outcome) (f : Fault) → refusedNumbers f ≡ outcomeNumbers o
+pub refused-offer : (b : Buffer) (packet rows store : List ℕ) (o : Outcome) (f : Fault) → refusedNumbers f ≡ outcomeNumbers o
     → offerRefused f b rows store ≡ offerRead b packet rows store o
 unfolding outcomeNumbers
-refused-offer ed b packet rows store (refused q) f e = ap (λ (n : Numbers). record { answer = refusedAs n; buffer = b; rows = rows; store = store }) e
-refused-offer ed b packet rows store (readAs h rs request) f e =
+refused-offer b packet rows store (refused q) f e = ap (λ (n : Numbers). record { answer = refusedAs n; buffer = b; rows = rows; store = store }) e
+refused-offer b packet rows store (readAs h rs request) f e =
     let z : number (f .refusal) ≡ 0 = ap (λ (n : Numbers). n .refusal) e in absurd (omega (arith, number-positive (f .refusal)))
 
 -- an outcome whose numbers are those of rows is rows
@@ -65,36 +65,36 @@ pub record IsRead (o : Outcome) (n : ℕ) : Type 0 where
   pub same : o ≡ readAs head rows request
   pub count : n ≡ length rows
 
-pub is-read : (ed : Edition) (o : Outcome) (p : Packet) → readingNumbers (Reading.Read p) ≡ outcomeNumbers o → IsRead o (p .rows)
+pub is-read : (o : Outcome) (p : Packet) → readingNumbers (Reading.Read p) ≡ outcomeNumbers o → IsRead o (p .rows)
 unfolding outcomeNumbers
-is-read ed (refused q) p e = let z : 0 ≡ number (q .refusal) = ap (λ (n : Numbers). n .refusal) e in absurd (omega (arith, number-positive (q .refusal)))
-is-read ed (readAs h rs request) p e = record { head = h; rows = rs; request = request; same = refl; count = ap (λ (n : Numbers). n .rows) e }
+is-read (refused q) p e = let z : 0 ≡ number (q .refusal) = ap (λ (n : Numbers). n .refusal) e in absurd (omega (arith, number-positive (q .refusal)))
+is-read (readAs h rs request) p e = record { head = h; rows = rs; request = request; same = refl; count = ap (λ (n : Numbers). n .rows) e }
 
 -- the rows of an offer judged, from none judged
-pub rows-offer : (ed : Edition) (at : List ℕ → Buffer) (occupied : List ℕ) (sum : Judged) → sum ≡ record { tally = noTally; occupied = occupied }
+pub rows-offer : (at : List ℕ → Buffer) (occupied : List ℕ) (sum : Judged) → sum ≡ record { tally = noTally; occupied = occupied }
     → (b' : Buffer) (packet : List ℕ) (rs : List Row) (t : Tally) (store store' : List ℕ) → RowsJudged (at (sum .occupied)) b' packet rs (sum .tally) t store store'
     → OfferJudged (at occupied) b' packet rs (OfferAnswer.Judged t) store store'
-rows-offer ed at occupied sum e b' packet rs t store store' k =
+rows-offer at occupied sum e b' packet rs t store store' k =
     let j = subst (λ (x : Judged). RowsJudged (at (x .occupied)) b' packet rs (x .tally) t store store') e k in
     record { answer = ap countNumbers (j .counts); buffer = j .buffer; store-left = j .store-left }
 
 -- the tags of rows that were read hold all of their parts
-tags-fit : (ed : Edition) (format ch n : ℕ) (rs : List Row) → ch ≤ 255 → AllRows (RowFine format ch n) rs → TagsFit rs
-tags-fit ed format ch n [] few f = tt
-tags-fit ed format ch n (r ∷ rs) few f = (
+tags-fit : (format ch n : ℕ) (rs : List Row) → ch ≤ 255 → AllRows (RowFine format ch n) rs → TagsFit rs
+tags-fit format ch n [] few f = tt
+tags-fit format ch n (r ∷ rs) few f = (
   record {
     mark = f .0 .mark;
     class = omega (arith, code-small format (r .class) (r .length) (f .0 .coded) .classes);
     channel = omega (arith, f .0 .channel);
   },
-  tags-fit ed format ch n rs few (f .1),
+  tags-fit format ch n rs few (f .1),
 )
 
 module _ (ed : Edition) (b : Buffer) (packet rows store : List ℕ) (h : inRange ed (b .settings) ≡ true) (w : wellFormed b ≡ true) (area : rowArea ed ≤ length rows) (room : storeSize ≤ length store)
     (p : Packet) (e : readingNumbers (Reading.Read p) ≡ outcomeNumbers (reading ed (b .settings) (length rows) packet))
     (rows' : List ℕ) (q : rows' ≡ over (outcomeWords (reading ed (b .settings) (length rows) packet)) rows) where
   abbrev is : IsRead (reading ed (b .settings) (length rows) packet) (p .rows)
-  is = is-read ed (reading ed (b .settings) (length rows) packet) p e
+  is = is-read (reading ed (b .settings) (length rows) packet) p e
 
   abbrev rs : List Row
   rs = is .rows
@@ -115,7 +115,7 @@ module _ (ed : Edition) (b : Buffer) (packet rows store : List ℕ) (h : inRange
       let n : rowWidth * p .rows ≡ length (words rs) = omega (arith, is .count, length-words rs) in
       ap₂ (λ (k : ℕ) (x : List ℕ). rowsIn (take k x)) n rows-are
       ∙ ap rowsIn (take-append-seam (words rs) (drop (length (words rs)) rows))
-      ∙ rows-words rs (tags-fit ed (b .settings .format) (b .settings .channels) (length packet) rs (few-channels ed (b .settings) h) (fine .0))
+      ∙ rows-words rs (tags-fit (b .settings .format) (b .settings .channels) (length packet) rs (few-channels ed (b .settings) h) (fine .0))
 
   pub offer-asks : Machine b → RowsJudgeable ed b packet (rowsIn (take (rowWidth * p .rows) rows')) noTally store
   offer-asks m =

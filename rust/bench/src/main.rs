@@ -137,12 +137,14 @@ fn samples() -> Vec<(&'static str, reference::Settings, Vec<u32>, Vec<u32>)> {
     let (gsm, amr) = (settings(3, 1), settings(4, 1));
     let three = [list(basic, 0, 2, 80, 1), list(basic, 1920, 2, 80, 1), list(basic, 3840, 2, 160, 1)].concat();
     let mixed = [list(basic, 0, 1, 80, 1), list(basic, 960, 1, 90, 1), list(basic, 1920, 1, 100, 1), list(basic, 2880, 1, 80, 1)].concat();
+    // five of sound are longer than a packet: 5 x 6 x 80 bytes and more
+    let six = [list(array, 0, 4, 80, 1), list(array, 3840, 1, 0, 1)].concat();
     vec![
         ("G.719, 1 frame of 160 bytes", basic, vec![1], list(basic, 0, 1, 160, 1)),
         ("G.719, 12 frames of 160 bytes", basic, vec![12], list(basic, 0, 12, 160, 1)),
         ("G.719, 4 frames in 4 entries", basic, vec![4], mixed),
         ("G.719 stereo, 5 frame-blocks of 2 x 160", stereo, vec![10], list(stereo, 0, 5, 160, 1)),
-        ("G.719 six channels, 4 frame-blocks of 6 x 80", array, vec![24], list(array, 0, 4, 80, 1)),
+        ("G.719 six channels, 5 frame-blocks, 4 of 6 x 80", array, vec![30], six),
         ("G.719, 384 rows of no data", basic, vec![MAX_ROWS as u32], list(basic, 0, MAX_ROWS, 0, 1)),
         ("G.719 interleaved, 4 frames of 80 bytes", interleaved, vec![4], list(interleaved, 0, 4, 80, 5)),
         ("G.719 with 2 redundant blocks, 6 frames", basic, vec![2, 2, 2], three),

@@ -151,6 +151,7 @@ fn packets_valid_and_damaged() {
     c.seen.at_least(100, &[FULL, LONG]);
     c.seen.at_least(100, &LATER);
     assert!(c.channels.iter().all(|n| *n >= 10_000), "rows by channel: {:?}", c.channels);
+    // more channels, fewer entries
     c.seen.at_least(5000, &[APART]);
     c.seen.at_least(10_000, &MARKS);
     amr_seen(&c, 10_000);

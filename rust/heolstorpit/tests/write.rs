@@ -189,6 +189,7 @@ fn payloads() {
         c.seen.at_least(3000, &[&format!("payloads of {channels} channels")]);
     }
     c.seen.at_least(1000, &[OVER]);
+    // more channels, fewer entries
     c.seen.at_least(5000, &[APART]);
     c.seen.at_least(10_000, &MARKS);
 }

@@ -5,21 +5,17 @@ use Rattle.receive.proofs.gathering.make_room.Reads as reads
 use Rattle.receive.proofs.gathering.make_room.Lts as lts
 use Rattle.receive.proofs.gathering.draw_earlier.Reads as draw-earlier-reads
 use Rattle.receive.proofs.gathering.must_draw.Reads as must-draw-reads
-use Rattle.receive.proofs.gathering.zero_rows.Reads as zero-rows-reads
+use Rattle.receive.proofs.room.find_wanted.Reads as find-wanted-reads
 use Rattle.receive.proofs.room.kept_for.Reads as kept-for-reads
-use Rattle.receive.proofs.room.read_rows.Reads as read-rows-reads
 
 abbrev Inv-loop : tie.InvT-loop
-Inv-loop packet store rows n kept left₀ turns₀ left turns = Unit
+Inv-loop packet store wanted kept left₀ turns₀ left turns = Unit
 
 abbrev μ-loop : tie.MeasureT-loop
-μ-loop packet store rows n kept left₀ turns₀ left turns = turns
+μ-loop packet store wanted kept left₀ turns₀ left turns = turns
 
-zero-rows-requires : tie.Need-zero-rows-requires Inv-loop μ-loop
-zero-rows-requires c κs = search needs
-
-read-rows-requires : tie.Need-read-rows-requires Inv-loop μ-loop
-read-rows-requires c κs = search needs
+find-wanted-requires : tie.Need-find-wanted-requires Inv-loop μ-loop
+find-wanted-requires c κs = search needs
 
 kept-for-requires : tie.Need-kept-for-requires Inv-loop μ-loop
 kept-for-requires c κs = search needs
@@ -57,8 +53,7 @@ make-room-spec =
     (tie.spec
     Inv-loop
     μ-loop
-    zero-rows-requires
-    read-rows-requires
+    find-wanted-requires
     kept-for-requires
     loop-holds
     must-draw-requires

@@ -1,33 +1,31 @@
 use borrow.Author.Needs.{needs}
+use Prim.Native.Nat.{_-_}
 use Rattle.receive.proofs.room.comes_first.Statement.{statement}
 use Rattle.receive.proofs.room.comes_first.Tie as tie
 use Rattle.receive.proofs.room.comes_first.Reads as reads
 use Rattle.receive.proofs.room.comes_first.Lts as lts
-use Rattle.receive.proofs.room.comes_before.Reads as comes-before-reads
+use Rattle.playout.proofs.order.is_after.Reads as is-after-reads
 
 abbrev Inv-loop : tie.InvT-loop
-Inv-loop time rows n left₀ i₀ left i = Unit
+Inv-loop time wanted i₀ i = Unit
 
 abbrev μ-loop : tie.MeasureT-loop
-μ-loop time rows n left₀ i₀ left i = left
+μ-loop time wanted i₀ i = 384 - i
 
 loop-holds : tie.Need-loop-holds Inv-loop μ-loop
 loop-holds c = search needs
 
-mul-comes-before : tie.Need-mul-comes-before Inv-loop μ-loop
-mul-comes-before c = search needs
+mul-is-after : tie.Need-mul-is-after Inv-loop μ-loop
+mul-is-after c = search needs
 
-element-copy-out-comes-before : tie.Need-element-copy-out-comes-before Inv-loop μ-loop
-element-copy-out-comes-before c = search needs
+element-copy-out-is-after : tie.Need-element-copy-out-is-after Inv-loop μ-loop
+element-copy-out-is-after c = search needs
 
-comes-before-requires : tie.Need-comes-before-requires Inv-loop μ-loop
-comes-before-requires c κs = search needs
+is-after-requires : tie.Need-is-after-requires Inv-loop μ-loop
+is-after-requires c κs = search needs
 
 returns : tie.Need-returns Inv-loop μ-loop
 returns c = search needs
-
-sub-left : tie.Need-sub-left Inv-loop μ-loop
-sub-left c = search needs
 
 add-i : tie.Need-add-i Inv-loop μ-loop
 add-i c = search needs
@@ -51,11 +49,10 @@ comes-first-spec =
     Inv-loop
     μ-loop
     loop-holds
-    mul-comes-before
-    element-copy-out-comes-before
-    comes-before-requires
+    mul-is-after
+    element-copy-out-is-after
+    is-after-requires
     returns
-    sub-left
     add-i
     loop-less
     loop-again

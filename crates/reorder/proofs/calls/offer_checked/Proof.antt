@@ -126,10 +126,10 @@ returns-4 c =
     let q = c .before .before .fault .given in
     let o = reading current (a .buffer .settings) (length (now (a .rows))) (now (a .packet)) in
     let e : readingNumbers (Reading.Refused (q .0 .0)) ≡ outcomeNumbers o = ap readingNumbers (sym (q .1)) ∙ r .ensures .0 in
-    let z : now (a .rows) ≡ r .last .1 .1 .0 = sym (r .ensures .1 ∙ ap (λ (x : List ℕ). over x (now (a .rows))) (refused-words current o (q .0 .0) e) ∙ over-none (now (a .rows))) in
+    let z : now (a .rows) ≡ r .last .1 .1 .0 = sym (r .ensures .1 ∙ ap (λ (x : List ℕ). over x (now (a .rows))) (refused-words o (q .0 .0) e) ∙ over-none (now (a .rows))) in
     ap (outcome (r .last .1 .1 .0) (now (a .store))) (c .refuse-offer4 .ensures)
     ∙ sym (ap (λ (x : List ℕ). outcome x (now (a .store)) (record { answer = OfferAnswer.Refused (q .0 .0); buffer = a .buffer })) z)
-    ∙ refused-offer current (a .buffer) (now (a .packet)) (now (a .rows)) (now (a .store)) o (q .0 .0) e
+    ∙ refused-offer (a .buffer) (now (a .packet)) (now (a .rows)) (now (a .store)) o (q .0 .0) e
     ∙ sym (offer-reads current (a .buffer) (now (a .packet)) (now (a .rows)) (now (a .store)) (s .pre) (fine-at (c .before .before .before .before .before .before .before .before .before .before)) (c .before .before .before .before .before .before .before .before .before .if2 .left) (c .before .before .before .before .before .before .before .before .if3 .left))
 
 same-length-2 : tie.Need-same-length-2

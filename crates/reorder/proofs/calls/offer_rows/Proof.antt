@@ -30,7 +30,7 @@ returns c =
     let s = c .before .before .before .before .before .before .before .before .before .before .before .before .before .before .before .before .before .before .before .before in
     let a = s .args in
     let e = c .before .before .before .before .before .before .before .none-judged .ensures in
-    rows-offer current (buffer-at s) (a .buffer .occupied) _ e _ (now (a .packet)) (rowsIn (now (a .rows))) _ (now (a .store)) _
+    rows-offer (buffer-at s) (a .buffer .occupied) _ e _ (now (a .packet)) (rowsIn (now (a .rows))) _ (now (a .store)) _
     (c .before .before .before .before .before .judge-rows .ensures
     (subst (λ (j : Judged). RowsJudgeable current (buffer-at s (j .occupied)) (now (a .packet)) (rowsIn (now (a .rows))) (j .tally) (now (a .store))) (sym e) (s .pre)))
 
