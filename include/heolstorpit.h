@@ -24,7 +24,7 @@
  *    6  a table entry or a redundancy block header runs past the end (an empty payload too, and one of the mode byte alone)
  *    7  reserved frame length code (G.719) or frame type (GSM-HR, AMR, AMR-WB)
  *    8  a table entry with 0 frame-blocks
- *    9  more than 128 rows
+ *    9  more than 384 rows
  *   10  after the tables or block headers there are too few bytes, or bytes are left over
  *   11  settings out of range, given or held in the buffer or the log cursor; a mode request over 15
  *   12  an area is too short: see the function
@@ -57,8 +57,9 @@
  *       payload and of the last block of a redundancy payload, 0 in those of redundant blocks, and ignored in rows to be written
  *    2  start: the place of the frame's first byte, in the packet (reading) or in `bytes` (writing)
  *    3  length of the frame in bytes
- * A row of no data has length 0; reading gives it as start the place where its bytes would lie. A frame of formats 4 and 5 is
- * its bytes whole, the unused bits at its end included.
+ * A frame-block has a row for each channel, channel 0 first. A row of no data has length 0; reading gives it as start
+ * the place where its bytes would lie. A frame of formats 4 and 5 is its bytes whole, the unused bits at its end
+ * included.
  *
  * LOGS. A log keeps frames: fields, one after another, each of a tag (1 byte), the length of its content (2 bytes) and the
  * content. Numbers are big-endian.
@@ -86,9 +87,10 @@ extern "C" {
 
 #define HSP_MAX_PACKET 2048    /* bytes of a packet, at most; at least 12 */
 #define HSP_MAX_PAYLOAD 2036   /* bytes of a payload written alone, at most */
-#define HSP_MAX_ROWS 128       /* rows of a packet, at most */
+#define HSP_MAX_CHANNELS 6     /* channels of formats 1 and 2, at most; formats 3 to 5 have one */
+#define HSP_MAX_ROWS 384       /* rows of a packet, at most */
 #define HSP_ROW_WORDS 4        /* words of a row */
-#define HSP_ROW_AREA 512       /* words of a row area that is read into, at least */
+#define HSP_ROW_AREA 1536      /* words of a row area that is read into, at least */
 #define HSP_SLOTS 192          /* frames that a buffer holds, at most */
 #define HSP_SLOT_BYTES 320     /* bytes of a slot of the store: the longest frame */
 #define HSP_STORE_BYTES 61440  /* bytes of a store, at least: 192 slots */
@@ -105,7 +107,7 @@ extern "C" {
  * What was agreed with the sender; 4 bytes.
  *   format           1 G.719 basic, 2 G.719 interleaved, 3 GSM-HR, 4 AMR, 5 AMR-WB (4 and 5: the octet-aligned payload of
  *                    RFC 4867, without CRC or interleaving)
- *   channels         1 or 2; for formats 3 to 5 only 1
+ *   channels         1 to 6; for formats 3 to 5 only 1
  *   payload_type     RTP payload type of the sound, 0 to 127
  *   redundancy_type  RTP payload type of redundancy payloads (RFC 2198), 0 to 127 and another; or 128: none
  * Anything else is refused with 11.
@@ -263,21 +265,22 @@ typedef struct {
  * packet's order; the words after the last row stay as they were. Blocks of other payload types in a redundancy
  * payload are passed over, and an empty block gives no rows.
  *   packet  12 to 2,048 bytes (else 1)
- *   rows    at least 512 words (else 12)
+ *   rows    at least 1,536 words (else 12)
  */
 hsp_reading hsp_read(hsp_settings settings, const uint8_t *packet, size_t packet_length, uint32_t *rows, size_t rows_length);
 
 /*
  * Writes one payload for a list of rows, with no RTP header, at the front of `out`; the bytes of `out` after it stay.
  * Read at the first row's time, it gives the rows' times, channels, classes, lengths and frame bytes again, and in formats 4
- * and 5 the mode request. The rows' primary bit is ignored.
+ * and 5 the mode request. The rows' primary bit is ignored. Formats 1 and 2 have a table entry for each longest run of
+ * frame-blocks of one length; a run of over 255 frame-blocks is 254 in one entry and the rest in the next.
  *   mode_request  0 to 15, or 15 for none (over 15 is refused with 11 in every format); formats 1 to 3 do not write it
  *   rows          four words a row. No row, or a part of a row at the end, is refused with 13
  *   bytes         what the rows' starts and lengths point into (a row outside it, also one of no data, is refused with 14)
  *   out           at least the bytes to be written (else 12); never more than 2,036
  * 13 also says that no payload of at most 2,036 bytes reads to these rows: a class or length that the format does not have (a
  * bit above the primary one is of such a class), channels of a frame-block that are missing, out of order or of different
- * lengths, times that the format cannot step to, more than 128 rows, or too many bytes.
+ * lengths, times that the format cannot step to, more than 384 rows, or too many bytes.
  */
 hsp_written hsp_write_payload(hsp_settings settings, uint8_t mode_request, const uint32_t *rows, size_t rows_length, const uint8_t *bytes,
                               size_t bytes_length, uint8_t *out, size_t out_length);
@@ -294,7 +297,7 @@ hsp_written hsp_write_payload(hsp_settings settings, uint8_t mode_request, const
  *   out           at least the bytes to be written (else 12); never more than 2,048
  * 13 says: no count or more than five; counts that do not add up to the rows; a list that hsp_write_payload alone would refuse
  * with 13; a redundant list whose first time is more than 16,383 ticks before the timestamp, or after it, or whose payload is
- * over 1,023 bytes; more than 128 rows or 2,048 bytes; redundant lists where the settings have no redundancy type.
+ * over 1,023 bytes; more than 384 rows or 2,048 bytes; redundant lists where the settings have no redundancy type.
  */
 hsp_written hsp_write_packet(hsp_settings settings, uint8_t mode_request, uint8_t marker, uint16_t sequence, uint32_t source,
                              const uint32_t *counts, size_t counts_length, const uint32_t *rows, size_t rows_length, const uint8_t *bytes,
@@ -307,7 +310,7 @@ hsp_fresh hsp_new(hsp_settings settings);
  * Offers a packet to the buffer: reads it as hsp_read does under the buffer's settings, into `rows`, then judges its rows in
  * order (see hsp_offered), and copies each new or better frame to its slot of the store. A new frame gets the lowest
  * free slot. The bytes of a slot after the frame's end stay, and so do those of the store after the first 61,440.
- *   rows   at least 512 words (else 12)
+ *   rows   at least 1,536 words (else 12)
  *   store  at least 61,440 bytes (else 12). Hand in the same store, as the last call left it, with the buffer; its bytes need
  *          no initial value
  */

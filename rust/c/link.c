@@ -61,8 +61,15 @@ static uint8_t amr[12 + 4 + 17] = {0x80, 97, 0, 1, 0, 0, 0x10, 0, 0, 0, 0, 9, 0x
 /* RFC 2198: GSM-HR, sound 160 ticks before (offset 160, length 15), then as primary block sound and no data. */
 static uint8_t redundancy[12 + 5 + 15 + 16] = {0x80, 98, 0, 2, 0, 0, 0x10, 0, 0, 0, 0, 9, 0xE1, 2, 0x80, 15, 97, [32] = 0x80, 0x70};
 
+/* Six channels: two frame-blocks of 80 bytes a channel. */
+static uint8_t array[12 + 2 + 12 * 80] = {0x80, 97, 0, 3, 0, 0, 0x10, 0, 0, 0, 0, 9, 0x20, 2};
+
+/* No data, 254 frame-blocks and 130. */
+static uint8_t quiet[12 + 4] = {0x80, 97, 0, 4, 0, 0, 0x10, 0, 0, 0, 0, 9, 0x80, 254, 0x00, 130};
+
 int main(void) {
     hsp_settings settings = {1, 1, 97, HSP_NO_REDUNDANCY};
+    hsp_settings array_settings = {1, HSP_MAX_CHANNELS, 97, HSP_NO_REDUNDANCY};
     hsp_settings gsm_settings = {3, 1, 97, 98};
     hsp_settings amr_settings = {4, 1, 97, HSP_NO_REDUNDANCY};
     uint32_t rows[HSP_ROW_AREA];
@@ -71,7 +78,10 @@ int main(void) {
     for (i = 16; i < sizeof amr; i++) amr[i] = (uint8_t)(3 * i);
     memset(rows, 0xEE, sizeof rows);
     for (i = 18; i < 32; i++) redundancy[i] = redundancy[i + 16] = 5;
+    for (i = 14; i < sizeof array; i++) array[i] = (uint8_t)(i / 80);
     (void)settings;
+    (void)array_settings;
+    (void)quiet;
     (void)amr_settings;
     (void)gsm_settings;
 
@@ -91,10 +101,27 @@ int main(void) {
         EXPECT(r.refusal == 6 && r.offset == 14);
         r = hsp_read(settings, packet, 14, rows, HSP_ROW_AREA);
         EXPECT(r.refusal == 6 && r.offset == 14);
-        settings.channels = 3;
+        settings.channels = HSP_MAX_CHANNELS + 1;
         r = hsp_read(settings, packet, 14, rows, HSP_ROW_AREA);
         EXPECT(r.refusal == 11 && r.offset == 0);
         settings.channels = 1;
+        r = hsp_read(settings, packet, 14, rows, HSP_ROW_AREA - 1);
+        EXPECT(r.refusal == 12 && r.offset == 0);
+        /* six channels: a row for each, in order, frame-block by frame-block */
+        r = hsp_read(array_settings, array, sizeof array, rows, HSP_ROW_AREA);
+        EXPECT(r.refusal == 0 && r.rows == 12 && r.mode_request == HSP_NO_MODE_REQUEST);
+        for (i = 0; i < 12; i++) {
+            EXPECT(rows[4 * i] == 4096 + 960 * (i / 6) && rows[4 * i + 1] == HSP_PRIMARY + 256 + i % 6);
+            EXPECT(rows[4 * i + 2] == 14 + 80 * i && rows[4 * i + 3] == 80);
+        }
+        /* as many rows as there may be, of no data, in two entries; and one more */
+        r = hsp_read(settings, quiet, sizeof quiet, rows, HSP_ROW_AREA);
+        EXPECT(r.refusal == 0 && r.rows == HSP_MAX_ROWS && rows[4 * 383] == 4096 + 960 * 383 && rows[4 * 383 + 1] == HSP_PRIMARY);
+        EXPECT(rows[4 * 383 + 2] == sizeof quiet && rows[4 * 383 + 3] == 0);
+        quiet[15] += 1;
+        r = hsp_read(settings, quiet, sizeof quiet, rows, HSP_ROW_AREA);
+        EXPECT(r.refusal == 9 && r.offset == 14 && r.rows == 0);
+        quiet[15] -= 1;
         r = hsp_read(amr_settings, amr, sizeof amr, rows, HSP_ROW_AREA);
         EXPECT(r.refusal == 0 && r.rows == 3 && r.mode_request == 7);
         EXPECT(rows[0] == 4096 && rows[1] == HSP_PRIMARY + 5 * 256 && rows[2] == 16 && rows[3] == 12);
@@ -132,6 +159,25 @@ int main(void) {
             EXPECT(w.refusal == 0 && w.length == 284 && memcmp(out, packet + 12, 284) == 0);
             marked[5] += 2 * HSP_PRIMARY;
             EXPECT(hsp_write_payload(settings, 3, marked, 12, packet, sizeof packet, out, sizeof out).refusal == 13);
+        }
+        {
+            /* six channels; two of them in another order; then a run over 255, and a row too many */
+            static uint32_t frames[4 * 12], none[4 * (HSP_MAX_ROWS + 1)];
+            for (i = 0; i < 12; i++) {
+                frames[4 * i] = (uint32_t)(4096 + 960 * (i / 6));
+                frames[4 * i + 1] = (uint32_t)(256 + i % 6);
+                frames[4 * i + 2] = (uint32_t)(14 + 80 * i);
+                frames[4 * i + 3] = 80;
+            }
+            w = hsp_write_payload(array_settings, 3, frames, 48, array, sizeof array, out, sizeof out);
+            EXPECT(w.refusal == 0 && w.length == 962 && memcmp(out, array + 12, 962) == 0);
+            frames[4 * 3 + 1] = 256 + 4;
+            frames[4 * 4 + 1] = 256 + 3;
+            EXPECT(hsp_write_payload(array_settings, 3, frames, 48, array, sizeof array, out, sizeof out).refusal == 13);
+            for (i = 0; i <= HSP_MAX_ROWS; i++) none[4 * i] = (uint32_t)(4096 + 960 * i);
+            w = hsp_write_payload(settings, 3, none, 4 * HSP_MAX_ROWS, packet, 0, out, sizeof out);
+            EXPECT(w.refusal == 0 && w.length == 4 && memcmp(out, quiet + 12, 4) == 0);
+            EXPECT(hsp_write_payload(settings, 3, none, 4 * HSP_MAX_ROWS + 4, packet, 0, out, sizeof out).refusal == 13);
         }
         puts("hsp_write_payload and hsp_write_packet work from C");
     }
@@ -191,6 +237,22 @@ int main(void) {
         o = hsp_offer(o.buffer, redundancy, sizeof redundancy, rows, HSP_ROW_AREA, store, sizeof store);
         EXPECT(o.refusal == 0 && o.repeated == 1 && o.inserted == 1);
         EXPECT(o.buffer.tags[0] == 256 && o.buffer.tags[1] == HSP_PRIMARY + 256 && o.buffer.tags[2] == HSP_PRIMARY + 256);
+        /* six channels are drawn in order, frame-block by frame-block; a seventh is no channel of theirs */
+        f = hsp_new(array_settings);
+        o = hsp_offer(f.buffer, array, sizeof array, rows, HSP_ROW_AREA, store, sizeof store);
+        EXPECT(o.refusal == 0 && o.inserted == 12);
+        d.buffer = o.buffer;
+        for (i = 0; i < 12; i++) {
+            d = hsp_draw(d.buffer, store, sizeof store, area, sizeof area);
+            EXPECT(d.refusal == 0 && d.time == 4096 + 960 * (i / 6) && d.channel == i % 6 && d.length == 80);
+            EXPECT(memcmp(area, array + 14 + 80 * i, 80) == 0 && d.buffer.last_channel == i % 6);
+        }
+        d.buffer.last_channel = HSP_MAX_CHANNELS;
+        EXPECT(hsp_draw(d.buffer, store, sizeof store, area, sizeof area).refusal == 15);
+        EXPECT(hsp_offer(f.buffer, array, sizeof array, rows, HSP_ROW_AREA - 1, store, sizeof store).refusal == 12);
+        array_settings.channels = HSP_MAX_CHANNELS + 1;
+        EXPECT(hsp_new(array_settings).refusal == 11);
+        array_settings.channels = HSP_MAX_CHANNELS;
         puts("hsp_new, hsp_offer and hsp_draw work from C");
     }
 #endif
@@ -268,9 +330,24 @@ int main(void) {
         EXPECT(hsp_log_write(gsm_settings, list, 8, log, 57, out, 0).refusal == 14);
         EXPECT(hsp_log_write(gsm_settings, list, 7, log, sizeof log, out, 0).refusal == 19);
         EXPECT(hsp_log_write(settings, list, 8, log, sizeof log, out, sizeof out).refusal == 19);
-        settings.channels = 3;
+        settings.channels = HSP_MAX_CHANNELS + 1;
         w = hsp_log_write(settings, list, 7, log, 0, out, 0);
         EXPECT(w.refusal == 11 && w.length == 0);
+        /* a frame of the sixth channel; a log of seven channels, and a frame of a seventh channel */
+        {
+            static const uint32_t sixth[4] = {9, 256 + 5, 14, 80};
+            uint8_t kept[HSP_LOG_FIRST + HSP_LOG_FRAME + 80 + HSP_LOG_LAST];
+            w = hsp_log_write(array_settings, sixth, 4, array, sizeof array, kept, sizeof kept);
+            EXPECT(w.refusal == 0 && w.length == sizeof kept && kept[4] == 6 && kept[14] == 5);
+            o = hsp_log_open(kept, sizeof kept);
+            EXPECT(o.refusal == 0 && o.cursor.settings.channels == 6);
+            s = hsp_log_step(o.cursor, kept, sizeof kept);
+            EXPECT(s.refusal == 0 && s.channel == 5 && s.start == 16 && s.length == 80 && memcmp(kept + 16, array + 14, 80) == 0);
+            kept[14] = 6;
+            EXPECT(hsp_log_step(o.cursor, kept, sizeof kept).refusal == 19);
+            kept[4] = 7;
+            EXPECT(hsp_log_open(kept, sizeof kept).refusal == 19);
+        }
         /* openings: no tag 1, cut, not of 4 bytes */
         o = hsp_log_open(log + 1, sizeof log - 1);
         EXPECT(o.refusal == 18 && o.cursor.place == 0 && o.cursor.count == 0 && o.cursor.settings.format == 0);

@@ -4,6 +4,7 @@ use mathlib.Core.Path.{_≡_}
 use mathlib.Core.List.{List}
 use mathlib.Core.Bool.{Bool, true}
 use lib.ListN.{length}
+use Rattle.rtp.specs.Editions.{current}
 use Rattle.rtp.specs.Ranges.{inRange}
 use Rattle.console.specs.declared.arguments.Asked.{Asked}
 use Rattle.console.specs.declared.stream.Input.{Input}
@@ -11,7 +12,7 @@ use Rattle.console.specs.declared.standard_input.AllRead.{AllRead}
 
 -- settings that the arguments ask for are in range
 abbrev pub InRange : Asked → Type 0
-InRange (Asked.Agreed s) = inRange s ≡ true
+InRange (Asked.Agreed s) = inRange current s ≡ true
 InRange Asked.Nothing = Unit
 
 -- a word that is found among the arguments has 1 to 16 bytes

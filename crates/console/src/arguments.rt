@@ -43,7 +43,7 @@ fn print_usage(fd: i32, program: &[u8], purpose: &[u8]) {
     );
     io::write_all(
         fd,
-        b"  CHANNELS    1 or 2; only 1 for GSM-HR, AMR and AMR-WB\n",
+        b"  CHANNELS    1 to 6; only 1 for GSM-HR, AMR and AMR-WB\n",
     );
     io::write_all(fd, b"  TYPE        payload type of this format, 0 to 127\n");
     io::write_all(

@@ -54,7 +54,7 @@ fn put_payload_reason(line: &mut [u8; LINE], at: usize, number: u32) -> usize
             at,
             b"an entry of a table of contents counts no frame-blocks",
         ),
-        9 => lines::put_words(line, at, b"the packet has more than 128 frames"),
+        9 => lines::put_words(line, at, b"the packet has more than 384 frames"),
         10 => lines::put_words(
             line,
             at,

@@ -4,6 +4,7 @@ use mathlib.Core.List.{List, [], _∷_}
 use mathlib.Core.Bool.{Bool, false, cond}
 use lib.ListN.{length, drop}
 use lib.Dec.{ltb, leb, eqb}
+use Rattle.rtp.specs.Editions.{Edition}
 use Rattle.rtp.specs.Sizes.{maxRows}
 use Rattle.rtp.specs.Numbers.{byteAt}
 use Rattle.rtp.specs.Refusals.{number}
@@ -98,21 +99,21 @@ prepend size g (refused f) = refused (shifted size f)
 prepend size g (groups gs) = groups (g ∷ gs)
 
 -- what the entry read at the front of s makes of the table, where `next` reads what follows
-abbrev pub contentsStep : ℕ → ℕ → ℕ → List ℕ → (ℕ → List ℕ → Contents) → EntryRead → Contents
-contentsStep format ch rows s next (EntryRead.Refused r) = refused (fault r)
-contentsStep format ch rows s next (EntryRead.Entry e) =
-    cond (ltb maxRows (rows + e .blocks * ch)) (refused (fault TooManyRows))
+abbrev pub contentsStep : Edition → ℕ → ℕ → ℕ → List ℕ → (ℕ → List ℕ → Contents) → EntryRead → Contents
+contentsStep ed format ch rows s next (EntryRead.Refused r) = refused (fault r)
+contentsStep ed format ch rows s next (EntryRead.Entry e) =
+    cond (ltb (maxRows ed) (rows + e .blocks * ch)) (refused (fault TooManyRows))
     (cond (e .more) (prepend (e .size) (meaning format s e) (next (rows + e .blocks * ch) (drop (e .size) s)))
     (groups (meaning format s e ∷ [])))
 
 -- by fuel
-unfoldable pub contentsBy : ℕ → ℕ → ℕ → ℕ → List ℕ → Contents
-contentsBy zero format ch rows s = refused (fault ContentsTruncated)
-contentsBy (suc f) format ch rows s = contentsStep format ch rows s (λ r t. contentsBy f format ch r t) (entryOf format s)
+unfoldable pub contentsBy : Edition → ℕ → ℕ → ℕ → ℕ → List ℕ → Contents
+contentsBy ed zero format ch rows s = refused (fault ContentsTruncated)
+contentsBy ed (suc f) format ch rows s = contentsStep ed format ch rows s (λ r t. contentsBy ed f format ch r t) (entryOf format s)
 
 -- the table at the front of s, after `rows` rows of the same packet; an entry with F set is followed by another
-unfoldable pub contents : ℕ → ℕ → ℕ → List ℕ → Contents
-contents format ch rows s = contentsBy (suc (length s)) format ch rows s
+unfoldable pub contents : Edition → ℕ → ℕ → ℕ → List ℕ → Contents
+contents ed format ch rows s = contentsBy ed (suc (length s)) format ch rows s
 
 -- Document 02, P5: only the first entry's DIS1 is passed over, so that the payload's first frame-block stands at the payload's time. In a later entry it
 -- counts the frame-blocks between the previous group's last and this group's first

@@ -9,6 +9,7 @@ use rtp::sizes::MAX_ROWS;
 ghost use mathlib.Core.Path.{_≡_};
 ghost use Prim.Native.Nat.{_+_, _<_, _≤_};
 ghost use lib.ListN.{length};
+ghost use Rattle.rtp.specs.Editions.{current};
 ghost use Rattle.contents.specs.Contents.{minEntry, codeIn, blocksIn, entrySize, entryOf, entryNumbers, contents, contentsReadNumbers, contentsNumbers, gapAt};
 ghost use Rattle.formats.specs.Formats.{formatOf};
 
@@ -111,7 +112,7 @@ pub fn read_entry(format: u8, s: &[u8]) -> EntryRead
 // The table at the front of s, where `rows` rows came before it. `&s[0..]` and not `s` is passed on, here and where a payload is read: the same slice,
 // but its address and length go by themselves, and not as one copy that would have to wait for both (docs/PERFORMANCE.md).
 pub fn read_contents(format: u8, channels: u8, rows: u32, s: &[u8]) -> ContentsRead
-    ensures { λ r. ⌜ contentsReadNumbers r ≡ contentsNumbers format channels (contents format channels rows (now (s .entry))) ⌝ }
+    ensures { λ r. ⌜ contentsReadNumbers r ≡ contentsNumbers format channels (contents current format channels rows (now (s .entry))) ⌝ }
 {
     match read_entry(format, &s[0..]) {
         EntryRead::Refused(refusal) => ContentsRead::Refused(Fault { refusal, offset: 0 }),

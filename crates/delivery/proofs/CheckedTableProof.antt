@@ -7,6 +7,7 @@ use native.Mathlib.Omega.{arith}
 use lib.ListN.{length, getD, drop, length-append, length-drop}
 use lib.Count.{ones}
 use borrow.Author.Tests.{le-ltb}
+use Rattle.rtp.specs.Editions.{current}
 use Rattle.rtp.specs.Sizes.{rowArea}
 use Rattle.rtp.specs.Areas.{over}
 use Rattle.rtp.specs.Ranges.{maxChannels, inRange}
@@ -55,21 +56,21 @@ any-bytes : (n : ℕ) (P : List ℕ → Type 0) → ((v : ℕ → ℕ) → P (pl
 any-bytes n P p l e = subst P (of-places n l e) (p (λ i. getD l i 0))
 
 -- an offer to a well-formed buffer, with areas that are long enough
-read-is : (st : Settings) (packet rows : List ℕ) → inRange st ≡ true → rowArea ≤ length rows → reading st (length rows) packet ≡ headedBy st packet (header packet)
+read-is : (st : Settings) (packet rows : List ℕ) → inRange current st ≡ true → rowArea current ≤ length rows → reading current st (length rows) packet ≡ headedBy current st packet (header packet)
 unfolding reading
-read-is st packet rows range a = rw (range, le-ltb (length rows) rowArea a) refl
+read-is st packet rows range a = rw (range, le-ltb (length rows) (rowArea current) a) refl
 
-offer-is : (b : Buffer) (packet rows store : List ℕ) → inRange (b .settings) ≡ true → wellFormed b ≡ true → rowArea ≤ length rows → storeSize ≤ length store
-    → (r : OfferOutcome) → offerRead b packet rows store (headedBy (b .settings) packet (header packet)) ≡ r → offerCall b packet rows store ≡ r
-offer-is b packet rows store range w a s r f = offer-reads b packet rows store range w a s ∙ ap (offerRead b packet rows store) (read-is (b .settings) packet rows range a) ∙ f
+offer-is : (b : Buffer) (packet rows store : List ℕ) → inRange current (b .settings) ≡ true → wellFormed b ≡ true → rowArea current ≤ length rows → storeSize ≤ length store
+    → (r : OfferOutcome) → offerRead b packet rows store (headedBy current (b .settings) packet (header packet)) ≡ r → offerCall current b packet rows store ≡ r
+offer-is b packet rows store range w a s r f = offer-reads current b packet rows store range w a s ∙ ap (offerRead b packet rows store) (read-is (b .settings) packet rows range a) ∙ f
 
 -- the buffers of the table are well-formed
 
-mono-range : inRange mono ≡ true
+mono-range : inRange current mono ≡ true
 unfolding inRange maxChannels
 mono-range = refl
 
-stereo-range : inRange stereo ≡ true
+stereo-range : inRange current stereo ≡ true
 unfolding inRange maxChannels
 stereo-range = refl
 
@@ -100,7 +101,7 @@ over-room n v store l s =
     places-length zero v = refl
     places-length (suc n) v = ap suc (places-length n (λ i. v (suc i)))
 
-module _ (rows store : List ℕ) (a : rowArea ≤ length rows) (s : storeSize ≤ length store) where
+module _ (rows store : List ℕ) (a : rowArea current ≤ length rows) (s : storeSize ≤ length store) where
   offer-lines : OfferLines rows store
   unfolding newCall over inRange maxChannels payloadStart payloadEnd fields header formatOf g719Length lengthIn frameIn minEntry gapsSize entrySize tableEntry gapAt gapsFrom meaning contentsBy contents sizeIn framesIn timeAfter groupRows tableRows blockRows marked payload placedRows payloadRows typedRows receivedIn ahead after order quality soundness greater rank betterFrame view entryOf remarked put findBy slotUsed lowest freeSlot placed stored allWithin fits judgeHeld judge tally judgeAll ones weight wordAt padTo entriesFrom
   offer-lines = record {
@@ -111,12 +112,12 @@ module _ (rows store : List ℕ) (a : rowArea ≤ length rows) (s : storeSize �
     same-late = any-bytes 80 _ (λ v. any-bytes 80 _ (λ w. offer-is _ _ rows store stereo-range after-formed a s _ refl));
     half-late = any-bytes 80 _ (λ v. any-bytes 80 _ (λ w. offer-is _ _ rows store stereo-range after-formed a s _ refl));
     longer-better = each-mark
-        (λ m. Bytes 80 (λ f. Bytes 120 (λ g. offerCall (holding mono (entryWith m 0 0 80 0 ∷ [])) (packet120 0 g) rows (over f store)
+        (λ m. Bytes 80 (λ f. Bytes 120 (λ g. offerCall current (holding mono (entryWith m 0 0 80 0 ∷ [])) (packet120 0 g) rows (over f store)
         ≡ comesTo rows (counted noCounts Better) (holding mono (entry 0 0 120 0 ∷ [])) (row 0 sound 0 14 120 ∷ []) (over g (over f store)))))
         (any-bytes 80 _ (λ v. any-bytes 120 _ (λ w. offer-is _ _ rows (over (places 80 v) store) mono-range (holding-formed .0 .0) a (over-room 80 v store (omega arith) s) _ refl)))
         (any-bytes 80 _ (λ v. any-bytes 120 _ (λ w. offer-is _ _ rows (over (places 80 v) store) mono-range (holding-formed .1 .0) a (over-room 80 v store (omega arith) s) _ refl)));
     shorter-repeated = each-mark
-        (λ m. Bytes 120 (λ g. Bytes 80 (λ f. offerCall (holding mono (entryWith m 0 0 120 0 ∷ [])) (packet80 0 f) rows (over g store)
+        (λ m. Bytes 120 (λ g. Bytes 80 (λ f. offerCall current (holding mono (entryWith m 0 0 120 0 ∷ [])) (packet80 0 f) rows (over g store)
         ≡ comesTo rows (counted noCounts Repeated) (holding mono (entry 0 0 120 0 ∷ [])) (row 0 sound 0 14 80 ∷ []) (over g store))))
         (any-bytes 120 _ (λ v. any-bytes 80 _ (λ w. offer-is _ _ rows (over (places 120 v) store) mono-range (holding-formed .0 .1) a (over-room 120 v store (omega arith) s) _ refl)))
         (any-bytes 120 _ (λ v. any-bytes 80 _ (λ w. offer-is _ _ rows (over (places 120 v) store) mono-range (holding-formed .1 .1) a (over-room 120 v store (omega arith) s) _ refl)));

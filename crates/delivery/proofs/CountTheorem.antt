@@ -7,6 +7,7 @@ use native.Mathlib.Omega.{arith}
 use lib.ListN.{length}
 use lib.Dec.{eqb}
 use borrow.Author.Tests.{ne-eqb}
+use Rattle.rtp.specs.Editions.{Edition}
 use Rattle.rtp.specs.Ranges.{inRange}
 use Rattle.rtp.specs.Refusals.{number}
 use Rattle.rtp.specs.declared.settings.Settings.{Settings}
@@ -36,37 +37,37 @@ use Rattle.delivery.proofs.StepLaws.{spare, Fine, at, fresh-fine, begun
 abbrev Even : Counts → ℕ → List Yield → State → Type 0
 Even n k ys s = k + tally n (judged ys) .inserted ≡ n .inserted + (length (frames (served ys)) + framesHeld (s .buffer))
 
-module _ (st : Settings) (range : inRange st ≡ true) where
+module _ (ed : Edition) (st : Settings) (range : inRange ed st ≡ true) where
   held-back : (h : Held) → Fine st h → framesHeld (encode st h) ≡ length (h .entries)
   held-back h g = ap (λ (k : Held). length (k .entries)) (good-back st h (spare .0) g)
 
   counts : (cs : List Call) (h : Held) → Fine st h → (s rows : List ℕ) (n : Counts)
-      → Even n (length (h .entries)) (run (at st h s rows) cs .yields) (run (at st h s rows) cs .state)
+      → Even n (length (h .entries)) (run ed (at st h s rows) cs .yields) (run ed (at st h s rows) cs .state)
   unfolding run judged served frames tally
   counts [] h g s rows n = omega (arith, held-back h g)
   counts (offer o ∷ cs) h g s rows n =
       let l = lent rows (o .area) in
-      offer-cases st range h g s rows o (λ (d : Step). Even n (length (h .entries)) (d .yield ∷ run (d .state) cs .yields) (run (d .state) cs .state))
+      offer-cases ed st range h g s rows o (λ (d : Step). Even n (length (h .entries)) (d .yield ∷ run ed (d .state) cs .yields) (run ed (d .state) cs .state))
       (λ q e. counts cs h g s l n)
       (λ rs r e.
       let j = judgeAll h s (receivedIn (o .packet) rs) in
       let m = tally n (j .judgements) in
-      let R = run (at st (j .held) (j .store) (over (words rs) l)) cs in
-      let c = counts cs (j .held) (judged-fine st h s l range g (o .packet) rs r) (j .store) (over (words rs) l) m in
+      let R = run ed (at st (j .held) (j .store) (over (words rs) l)) cs in
+      let c = counts cs (j .held) (judged-fine ed st h s l range g (o .packet) rs r) (j .store) (over (words rs) l) m in
       let a : tally n (j .judgements ++ judged (R .yields)) .inserted ≡ tally m (judged (R .yields)) .inserted = ap (λ (x : Counts). x .inserted) (tally-append n (j .judgements) (judged (R .yields))) in
       omega (arith, a, c, judgeAll-count h s n (receivedIn (o .packet) rs)))
   counts (draw area ∷ cs) h g s rows n =
-      draw-cases st range h g s rows area (λ (d : Step). Even n (length (h .entries)) (d .yield ∷ run (d .state) cs .yields) (run (d .state) cs .state))
+      draw-cases ed st range h g s rows area (λ (d : Step). Even n (length (h .entries)) (d .yield ∷ run ed (d .state) cs .yields) (run ed (d .state) cs .state))
       (λ e. counts cs h g s rows n)
       (λ e q. counts cs h g s rows n)
-      (λ e room x es q. omega (arith, counts cs (drawnFirst x es) (drawn-fine st range h g s rows x es q) s rows n, ap (λ (k : List Entry). length k) q))
+      (λ e room x es q. omega (arith, counts cs (drawnFirst x es) (drawn-fine ed st range h g s rows x es q) s rows n, ap (λ (k : List Entry). length k) q))
 
-pub count : Count
-count st store rows cs range = rw (begun-at st range store rows) (omega (arith, counts st range cs fresh (fresh-fine st) store rows noCounts))
+pub count : (ed : Edition) → Count ed
+count ed st store rows cs range = rw (begun-at ed st range store rows) (omega (arith, counts ed st range cs fresh (fresh-fine st) store rows noCounts))
 
 -- an offer's answer counts its verdicts
 
-module _ (b : Buffer) (packet l store : List ℕ) where
+module _ (ed : Edition) (b : Buffer) (packet l store : List ℕ) where
   -- of an outcome, with what the offer does to the model
   abbrev Tallies : Result Offered → OfferOutcome → Type 0
   Tallies x r = countsOf (r .answer) ≡ tally noCounts (cond (eqb (r .answer .refusal) 0) (judgementsOf x) [])
@@ -79,15 +80,15 @@ module _ (b : Buffer) (packet l store : List ℕ) where
   done-tallies (refused q) = refused-tallies (refused q) q
   done-tallies (done o) = refl
 
-  answer-tallies : Counted (offered (offerCall b packet l store .answer) (judgedBy b packet l store))
+  answer-tallies : Counted (offered (offerCall ed b packet l store .answer) (judgedBy ed b packet l store))
   unfolding judgedBy offerCall
   answer-tallies =
-      let x = offerTo (model b) packet (length l) store in
-      by-test (inRange (b .settings))
+      let x = offerTo ed (model b) packet (length l) store in
+      by-test (inRange ed (b .settings))
       (λ r. by-test (wellFormed b) (λ w. rw (r, w) (done-tallies x)) (λ w. rw (r, w) (refused-tallies x (fault Malformed))))
       (λ r. rw r (refused-tallies x (fault SettingsOutOfRange)))
 
-pub counts-verdicts : CountsVerdicts
+pub counts-verdicts : (ed : Edition) → CountsVerdicts ed
 unfolding step
-counts-verdicts s (offer o) = answer-tallies (s .buffer) (o .packet) (lent (s .rows) (o .area)) (s .store)
-counts-verdicts s (draw area) = tt
+counts-verdicts ed s (offer o) = answer-tallies ed (s .buffer) (o .packet) (lent (s .rows) (o .area)) (s .store)
+counts-verdicts ed s (draw area) = tt

@@ -6,6 +6,7 @@ use Prim.Native.Nat.{ℕ}
 use lib.ListN.{length}
 use lib.Dec.{ltb}
 use borrow.Author.Tests.{ltb-true, ltb-false}
+use Rattle.rtp.specs.Editions.{Edition}
 use Rattle.rtp.specs.Ranges.{inRange}
 use Rattle.rtp.specs.declared.settings.Settings.{Settings}
 use Rattle.rtp.proofs.TestLaws.{by-test}
@@ -37,56 +38,56 @@ none-played = record {
   unset = λ d m. absurd (nowhere m);
 }
 
-module _ (st : Settings) (range : inRange st ≡ true) where
+module _ (ed : Edition) (st : Settings) (range : inRange ed st ≡ true) where
   -- the copies held after packets, with their marks and with a store
   abbrev left : List ℕ → List (List ℕ) → List Received
-  left s ps = let g = gathered s (receivedFrom st ps) in markedViews (g .store) (g .held .entries)
+  left s ps = let g = gathered s (receivedFrom ed st ps) in markedViews (g .store) (g .held .entries)
 
-  module _ (packets : List (List ℕ)) (W : WithinStretch (copiesIn st packets)) (few : AtMost slots (copiesIn st packets)) where
-    list-is : MarkedPlayout (receivedFrom st packets) (left (spare .0) packets)
-    list-is = marked-playout-of (spare .0) (receivedFrom st packets) (spare .1) (copies-frames st range packets) (copies-marks st range packets) W few
+  module _ (packets : List (List ℕ)) (W : WithinStretch (copiesIn ed st packets)) (few : AtMost slots (copiesIn ed st packets)) where
+    list-is : MarkedPlayout (receivedFrom ed st packets) (left (spare .0) packets)
+    list-is = marked-playout-of (spare .0) (receivedFrom ed st packets) (spare .1) (copies-frames ed st range packets) (copies-marks ed st range packets) W few
 
-    module _ (s rows : List ℕ) (os : List Offer) (same : SamePackets packets (accepted st s rows os)) where
+    module _ (s rows : List ℕ) (os : List Offer) (same : SamePackets packets (accepted ed st s rows os)) where
       abbrev theirs : List (List ℕ)
-      theirs = accepted st s rows os
+      theirs = accepted ed st s rows os
 
-      to : (x : Received) → List·Memᴰ x (receivedFrom st packets) → List·Memᴰ x (receivedFrom st theirs)
-      to = copies-among st packets theirs (λ p. same p .0)
+      to : (x : Received) → List·Memᴰ x (receivedFrom ed st packets) → List·Memᴰ x (receivedFrom ed st theirs)
+      to = copies-among ed st packets theirs (λ p. same p .0)
 
-      back : (x : Received) → List·Memᴰ x (receivedFrom st theirs) → List·Memᴰ x (receivedFrom st packets)
-      back = copies-among st theirs packets (λ p. same p .1)
+      back : (x : Received) → List·Memᴰ x (receivedFrom ed st theirs) → List·Memᴰ x (receivedFrom ed st packets)
+      back = copies-among ed st theirs packets (λ p. same p .1)
 
-      back-copy : (c : Copy) → List·Memᴰ c (copiesIn st theirs) → List·Memᴰ c (copiesIn st packets)
-      back-copy = copies-in (receivedFrom st theirs) (receivedFrom st packets) back
+      back-copy : (c : Copy) → List·Memᴰ c (copiesIn ed st theirs) → List·Memᴰ c (copiesIn ed st packets)
+      back-copy = copies-in (receivedFrom ed st theirs) (receivedFrom ed st packets) back
 
       -- what is held is their playout list; with a store under its size nothing is accepted, and nothing is held
-      held-is : MarkedPlayout (receivedFrom st theirs) (left s theirs)
+      held-is : MarkedPlayout (receivedFrom ed st theirs) (left s theirs)
       unfolding receivedFrom judgeAll
       held-is =
           by-test (ltb (length s) storeSize)
-          (λ a. subst (λ (ps : List (List ℕ)). MarkedPlayout (receivedFrom st ps) (left s ps)) (sym (accepted-none st s (ltb-true _ _ a) os rows)) none-played)
+          (λ a. subst (λ (ps : List (List ℕ)). MarkedPlayout (receivedFrom ed st ps) (left s ps)) (sym (accepted-none ed st s (ltb-true _ _ a) os rows)) none-played)
           (λ a.
-          marked-playout-of s (receivedFrom st theirs) (ltb-false _ _ a) (copies-frames st range theirs) (copies-marks st range theirs)
-          (within-among (copiesIn st packets) (copiesIn st theirs) back-copy W) (few-among slots (copiesIn st packets) (copiesIn st theirs) back-copy few))
+          marked-playout-of s (receivedFrom ed st theirs) (ltb-false _ _ a) (copies-frames ed st range theirs) (copies-marks ed st range theirs)
+          (within-among (copiesIn ed st packets) (copiesIn ed st theirs) back-copy W) (few-among slots (copiesIn ed st packets) (copiesIn ed st theirs) back-copy few))
 
       one-list : left s theirs ≡ left (spare .0) packets
       one-list =
-          sym (marked-unique (receivedFrom st packets) (receivedFrom st theirs) to back (left (spare .0) packets) (left s theirs)
-          (copies-frames st range packets) W list-is held-is)
+          sym (marked-unique (receivedFrom ed st packets) (receivedFrom ed st theirs) to back (left (spare .0) packets) (left s theirs)
+          (copies-frames ed st range packets) W list-is held-is)
 
-      turns : (areas : List (List ℕ)) → InTurn (served (delivery st s rows os areas .yields)) (left (spare .0) packets)
+      turns : (areas : List (List ℕ)) → InTurn (served (delivery ed st s rows os areas .yields)) (left (spare .0) packets)
       turns areas =
-          subst (λ (x : State). InTurn (served (run x (map offer os ++ map draw areas) .yields)) (left (spare .0) packets)) (sym (begun-at st range s rows))
-          (offers-turn st range areas os fresh (fresh-fine st) s rows
-          ∙ ap (λ (l : List Received). inTurn (length (served (run (at st fresh s rows) (map offer os ++ map draw areas) .yields))) l) one-list)
+          subst (λ (x : State). InTurn (served (run ed x (map offer os ++ map draw areas) .yields)) (left (spare .0) packets)) (sym (begun-at ed st range s rows))
+          (offers-turn ed st range areas os fresh (fresh-fine st) s rows
+          ∙ ap (λ (l : List Received). inTurn (length (served (run ed (at st fresh s rows) (map offer os ++ map draw areas) .yields))) l) one-list)
 
-pub one-playout : OnePlayout
-one-playout st range packets W l m p q =
-    marked-unique (receivedFrom st packets) (receivedFrom st packets) (λ x i. i) (λ x i. i) l m (copies-frames st range packets) W p q
+pub one-playout : (ed : Edition) → OnePlayout ed
+one-playout ed st range packets W l m p q =
+    marked-unique (receivedFrom ed st packets) (receivedFrom ed st packets) (λ x i. i) (λ x i. i) l m (copies-frames ed st range packets) W p q
 
-pub demand : Demand
-demand st range = record {
+pub demand : (ed : Edition) → Demand ed
+demand ed st range = record {
   refused-exactly = λ store rows cs.
-      ap (λ (s : State). map refusalOf (run s cs .yields)) (begun-at st range store rows) ∙ run-refusals st range cs fresh (fresh-fine st) store rows;
-  in-turn = λ packets W few. (left st range (spare .0) packets, list-is st range packets W few, turns st range packets W few);
+      ap (λ (s : State). map refusalOf (run ed s cs .yields)) (begun-at ed st range store rows) ∙ run-refusals ed st range cs fresh (fresh-fine st) store rows;
+  in-turn = λ packets W few. (left ed st range (spare .0) packets, list-is ed st range packets W few, turns ed st range packets W few);
 }

@@ -7,6 +7,7 @@ use native.Mathlib.Omega.{arith}
 use borrow.Author.Tests.{eqb-true, eqb-false}
 use lib.ListN.{length}
 use lib.Dec.{eqb}
+use Rattle.rtp.specs.Editions.{Edition}
 use Rattle.rtp.specs.Ranges.{inRange}
 use Rattle.rtp.proofs.TestLaws.{by-test}
 use Rattle.playout.specs.Sizes.{slots, slotSize, storeSize}
@@ -37,10 +38,10 @@ lowest-least ws s z (suc k) i l =
     past : (markOf ws i ≡ 0 → ⊥) → i + 1 ≤ s
     past n = by-test (eqb i s) (λ e. absurd (n (ap (markOf ws) (eqb-true i s e) ∙ z))) (λ e. let d = eqb-false i s e in omega arith)
 
-module _ (b : Buffer) (m : Machine b) (range : inRange (b .settings) ≡ true) (w : wellFormed b ≡ true) (store area : List ℕ) (room : storeSize ≤ length store)
+module _ (ed : Edition) (b : Buffer) (m : Machine b) (range : inRange ed (b .settings) ≡ true) (w : wellFormed b ≡ true) (store area : List ℕ) (room : storeSize ≤ length store)
     (size : slotSize ≤ length area) (e : Entry) (es : List Entry) (q : decode b .entries ≡ e ∷ es) where
   good : Good (b .settings) (decode b) store
-  good = buffer-good b m range w store room
+  good = buffer-good ed b m range w store room
 
   -- the marks before: those of all slots, each once
   before : wordsOf (e .slot ∷ slotsOf es) ≡ b .occupied
@@ -69,8 +70,8 @@ module _ (b : Buffer) (m : Machine b) (range : inRange (b .settings) ≡ true) (
     settings = refl;
   }
 
-  draws-earliest : DrawsEarliest b store area e es (drawCall b store area)
-  draws-earliest = subst (DrawsEarliest b store area e es) (sym (draw-goes b store area range w room size ∙ ap (drawFirst b store area) q)) draws-first
+  draws-earliest : DrawsEarliest b store area e es (drawCall ed b store area)
+  draws-earliest = subst (DrawsEarliest b store area e es) (sym (draw-goes ed b store area range w room size ∙ ap (drawFirst b store area) q)) draws-first
 
-pub draws : Draws
-draws = draws-earliest
+pub draws : (ed : Edition) → Draws ed
+draws ed = draws-earliest ed

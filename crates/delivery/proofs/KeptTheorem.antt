@@ -8,6 +8,7 @@ use native.Mathlib.Omega.{arith}
 use borrow.Author.Tests.{ltb-true, ltb-false}
 use lib.ListN.{length}
 use lib.Dec.{ltb}
+use Rattle.rtp.specs.Editions.{Edition}
 use Rattle.rtp.specs.Sizes.{rowArea}
 use Rattle.rtp.specs.Ranges.{inRange}
 use Rattle.rtp.specs.Faults.{fault}
@@ -111,23 +112,23 @@ judgeAll-kept (x ∷ xs) h s n p q =
 
 -- Offers
 
-module _ (b : Buffer) (m : Machine b) (packet rows store : List ℕ) where
+module _ (ed : Edition) (b : Buffer) (m : Machine b) (packet rows store : List ℕ) where
   abbrev Leaves : OfferOutcome → Type 0
   Leaves r = r .answer .better ≡ 0 → r .answer .inserted ≡ 0 → LeftByOffer b store r
 
-  went : (r : OfferOutcome) → offerCall b packet rows store ≡ r → Leaves r → Leaves (offerCall b packet rows store)
+  went : (r : OfferOutcome) → offerCall ed b packet rows store ≡ r → Leaves r → Leaves (offerCall ed b packet rows store)
   went r e p = subst Leaves (sym e) p
 
   refusing : (q : Fault) → Leaves (offerRefused q b rows store)
   refusing q x y = record { held = refl; settings = refl; store-left = refl; buffer = λ z. refl }
 
-  read-leaves : inRange (b .settings) ≡ true → wellFormed b ≡ true → storeSize ≤ length store → (o : Outcome) → reading (b .settings) (length rows) packet ≡ o
+  read-leaves : inRange ed (b .settings) ≡ true → wellFormed b ≡ true → storeSize ≤ length store → (o : Outcome) → reading ed (b .settings) (length rows) packet ≡ o
       → Leaves (offerRead b packet rows store o)
   read-leaves range w room (unread q) e x y = record { held = refl; settings = refl; store-left = refl; buffer = λ z. refl }
   read-leaves range w room (readAs head rs request) e x y =
       let k = judgeAll-kept (receivedIn packet rs) (decode b) store noCounts x y in
-      let fit = read-fit (b .settings) range (length rows) packet (readAs head rs request) e in
-      let good = judgeAll-good (b .settings) (receivedIn packet rs) (decode b) store (buffer-good b m range w store room) fit in
+      let fit = read-fit ed (b .settings) range (length rows) packet (readAs head rs request) e in
+      let good = judgeAll-good (b .settings) (receivedIn packet rs) (decode b) store (buffer-good ed b m range w store room) fit in
       record {
         held = ap unmarked (good-back (b .settings) _ _ good) ∙ k .same;
         settings = refl;
@@ -135,24 +136,24 @@ module _ (b : Buffer) (m : Machine b) (packet rows store : List ℕ) where
         buffer = λ z. ap (encode (b .settings)) (k .exact z) ∙ encode-decode b m w;
       }
 
-  offer-leaves : Leaves (offerCall b packet rows store)
+  offer-leaves : Leaves (offerCall ed b packet rows store)
   offer-leaves =
-      by-test (inRange (b .settings))
+      by-test (inRange ed (b .settings))
       (λ r. by-test (wellFormed b)
-      (λ w. by-test (ltb (length rows) rowArea)
-      (λ a. went (offerRefused (fault AreaTooShort) b rows store) (offer-rows b packet rows store r w (ltb-true _ _ a)) (refusing (fault AreaTooShort)))
+      (λ w. by-test (ltb (length rows) (rowArea ed))
+      (λ a. went (offerRefused (fault AreaTooShort) b rows store) (offer-rows ed b packet rows store r w (ltb-true _ _ a)) (refusing (fault AreaTooShort)))
       (λ a. by-test (ltb (length store) storeSize)
-      (λ s. went (offerRefused (fault AreaTooShort) b rows store) (offer-store b packet rows store r w (ltb-false _ _ a) (ltb-true _ _ s)) (refusing (fault AreaTooShort)))
+      (λ s. went (offerRefused (fault AreaTooShort) b rows store) (offer-store ed b packet rows store r w (ltb-false _ _ a) (ltb-true _ _ s)) (refusing (fault AreaTooShort)))
       (λ s.
-      went (offerRead b packet rows store (reading (b .settings) (length rows) packet)) (offer-reads b packet rows store r w (ltb-false _ _ a) (ltb-false _ _ s))
-      (read-leaves r w (ltb-false _ _ s) (reading (b .settings) (length rows) packet) refl))))
-      (λ w. went (offerRefused (fault Malformed) b rows store) (offer-malformed b packet rows store r w) (refusing (fault Malformed))))
-      (λ r. went (offerRefused (fault SettingsOutOfRange) b rows store) (offer-out b packet rows store r) (refusing (fault SettingsOutOfRange)))
+      went (offerRead b packet rows store (reading ed (b .settings) (length rows) packet)) (offer-reads ed b packet rows store r w (ltb-false _ _ a) (ltb-false _ _ s))
+      (read-leaves r w (ltb-false _ _ s) (reading ed (b .settings) (length rows) packet) refl))))
+      (λ w. went (offerRefused (fault Malformed) b rows store) (offer-malformed ed b packet rows store r w) (refusing (fault Malformed))))
+      (λ r. went (offerRefused (fault SettingsOutOfRange) b rows store) (offer-out ed b packet rows store r) (refusing (fault SettingsOutOfRange)))
 
 -- Draws
 
-module _ (b : Buffer) (none : Empty b) (store area : List ℕ) where
-  drew : (r : DrawOutcome) → drawCall b store area ≡ r → LeftByDraw b area r → LeftByDraw b area (drawCall b store area)
+module _ (ed : Edition) (b : Buffer) (none : Empty b) (store area : List ℕ) where
+  drew : (r : DrawOutcome) → drawCall ed b store area ≡ r → LeftByDraw b area r → LeftByDraw b area (drawCall ed b store area)
   drew r e p = subst (LeftByDraw b area) (sym e) p
 
   stopping : (q : Refusal) → LeftByDraw b area (drawRefused q b area)
@@ -162,18 +163,18 @@ module _ (b : Buffer) (none : Empty b) (store area : List ℕ) where
   unfolding entriesFrom
   no-entries = ap (λ (n : ℕ). entriesFrom b n 0) none
 
-  draw-leaves : LeftByDraw b area (drawCall b store area)
+  draw-leaves : LeftByDraw b area (drawCall ed b store area)
   draw-leaves =
-      by-test (inRange (b .settings))
+      by-test (inRange ed (b .settings))
       (λ r. by-test (wellFormed b)
       (λ w. by-test (ltb (length store) storeSize)
-      (λ s. drew (drawRefused AreaTooShort b area) (draw-store b store area r w (ltb-true _ _ s)) (stopping AreaTooShort))
+      (λ s. drew (drawRefused AreaTooShort b area) (draw-store ed b store area r w (ltb-true _ _ s)) (stopping AreaTooShort))
       (λ s. by-test (ltb (length area) slotSize)
-      (λ a. drew (drawRefused AreaTooShort b area) (draw-area b store area r w (ltb-false _ _ s) (ltb-true _ _ a)) (stopping AreaTooShort))
+      (λ a. drew (drawRefused AreaTooShort b area) (draw-area ed b store area r w (ltb-false _ _ s) (ltb-true _ _ a)) (stopping AreaTooShort))
       (λ a.
-      drew (drawFirst b store area []) (draw-goes b store area r w (ltb-false _ _ s) (ltb-false _ _ a) ∙ ap (drawFirst b store area) no-entries) (refl, refl, λ z. refl))))
-      (λ w. drew (drawRefused Malformed b area) (draw-malformed b store area r w) (stopping Malformed)))
-      (λ r. drew (drawRefused SettingsOutOfRange b area) (draw-out b store area r) (stopping SettingsOutOfRange))
+      drew (drawFirst b store area []) (draw-goes ed b store area r w (ltb-false _ _ s) (ltb-false _ _ a) ∙ ap (drawFirst b store area) no-entries) (refl, refl, λ z. refl))))
+      (λ w. drew (drawRefused Malformed b area) (draw-malformed ed b store area r w) (stopping Malformed)))
+      (λ r. drew (drawRefused SettingsOutOfRange b area) (draw-out ed b store area r) (stopping SettingsOutOfRange))
 
-pub changes-nothing : ChangesNothing
-changes-nothing = record { offer-leaves = offer-leaves; draw-leaves = draw-leaves }
+pub changes-nothing : (ed : Edition) → ChangesNothing ed
+changes-nothing ed = record { offer-leaves = offer-leaves ed; draw-leaves = draw-leaves ed }

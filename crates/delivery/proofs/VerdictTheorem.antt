@@ -9,6 +9,7 @@ use native.Mathlib.Omega.{arith}
 use borrow.Author.Tests.{eqb-true}
 use lib.Dec.{eqb}
 use lib.ListN.{length}
+use Rattle.rtp.specs.Editions.{Edition}
 use Rattle.rtp.specs.declared.settings.Settings.{Settings}
 use Rattle.rtp.proofs.RangeLaws.{few-channels}
 use Rattle.rtp.proofs.TestLaws.{by-test, not-both}
@@ -28,9 +29,9 @@ use Rattle.delivery.proofs.WellFormedFactsTheorem.{to-stretch}
 
 -- Held
 
-module _ (st : Settings) (h : Held) (H : Holds st h) where
+module _ (ed : Edition) (st : Settings) (h : Held) (H : Holds ed st h) where
   held-facts : Facts st h
-  held-facts = fine-exactly st h (omega (arith, few-channels st (H .range))) .0 (H .well-formed)
+  held-facts = fine-exactly st h (omega (arith, few-channels ed st (H .range))) .0 (H .well-formed)
 
   -- sorted from every time that the entries are less than half the range ahead of
   sorted : (base : ℕ) → base < 2 ^ 32 → ((e : Entry) → List·Memᴰ e (h .entries) → ahead (e .time) base < half) → Sorted base (h .entries)
@@ -75,11 +76,11 @@ module _ (st : Settings) (h : Held) (H : Holds st h) where
         absurd (p .1 (record { base = k .0; word = k .1; held = k .3; this = k .2 })))
         (λ q. ap (λ (d : Bool). cond d false (not (fits (c .time) (h .entries)))) (p .0) ∙ ap not q)
 
-pub far-exactly : FarExactly
-far-exactly st h H c word = (no-stretch st h H c word, far st h H c word)
+pub far-exactly : (ed : Edition) → FarExactly ed
+far-exactly ed st h H c word = (no-stretch ed st h H c word, far ed st h H c word)
 
-pub held-exactly : HeldExactly
-held-exactly st h H c e = (found st h H c e, finds st h H c e)
+pub held-exactly : (ed : Edition) → HeldExactly ed
+held-exactly ed st h H c e = (found ed st h H c e, finds ed st h H c e)
 
 -- Better
 

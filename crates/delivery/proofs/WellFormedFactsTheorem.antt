@@ -8,6 +8,7 @@ use native.Mathlib.Omega.{arith}
 use borrow.Author.Tests.{eq-eqb, ne-eqb, lt-ltb, ltb-true, eqb-true}
 use lib.ListN.{length, getD, drop}
 use lib.Dec.{eqb}
+use Rattle.rtp.specs.Editions.{Edition}
 use Rattle.rtp.proofs.TestLaws.{not-both, both as in-turn, and-then, either}
 use Rattle.rtp.proofs.RangeLaws.{few-channels}
 use Rattle.formats.specs.Frames.{noData}
@@ -201,11 +202,11 @@ module _ (b : Buffer) (t : Typed b) where
 pub well-formed-exactly : WellFormedExactly
 well-formed-exactly b t = (to-facts b t, from-facts b t)
 
-pub undo-each-other : UndoEachOther
-undo-each-other = record {
+pub undo-each-other : (ed : Edition) → UndoEachOther ed
+undo-each-other ed = record {
   encode-decode = encode-decode;
   decode-encode = λ st r h f.
-      let few = few-channels st r in
+      let few = few-channels ed st r in
       let F = fine-exactly st h (omega arith) .0 f in
       (well-formed st h F, back st h F);
 }

@@ -4,6 +4,7 @@ use mathlib.Core.Path.{_≡_}
 use mathlib.Core.List.{List, [], _∷_, _++_}
 use mathlib.Core.Bool.{true, false}
 use lib.ListN.{length}
+use Rattle.rtp.specs.Editions.{current}
 use Rattle.rtp.specs.Sizes.{rowArea}
 use Rattle.rtp.specs.Ranges.{g719}
 use Rattle.rtp.specs.Areas.{over}
@@ -59,29 +60,29 @@ Bytes n P = (frame : List ℕ) → length frame ≡ n → P frame
 -- lines 8 to 10, whatever the row area and the store held before
 pub record OfferLines (rows store : List ℕ) : Type 0 where
   -- a frame at time 0, offered to a fresh buffer, is held in slot 0, the front of the store: what lines 8 and 10 start from
-  pub first-80 : Bytes 80 (λ f. offerCall (newCall mono .buffer) (packet80 0 f) rows store
+  pub first-80 : Bytes 80 (λ f. offerCall current (newCall current mono .buffer) (packet80 0 f) rows store
       ≡ comesTo rows (counted noCounts Inserted) (holding mono (entry 0 0 80 0 ∷ [])) (row 0 sound 0 14 80 ∷ []) (over f store))
-  pub first-120 : Bytes 120 (λ g. offerCall (newCall mono .buffer) (packet120 0 g) rows store
+  pub first-120 : Bytes 120 (λ g. offerCall current (newCall current mono .buffer) (packet120 0 g) rows store
       ≡ comesTo rows (counted noCounts Inserted) (holding mono (entry 0 0 120 0 ∷ [])) (row 0 sound 0 14 120 ∷ []) (over g store))
   -- 8. Held {0}: 2147483647 is new, 2147483648 is far.
-  pub new-ahead : Bytes 80 (λ f. offerCall (holding mono (entry 0 0 80 0 ∷ [])) (packet80 2147483647 f) rows store
+  pub new-ahead : Bytes 80 (λ f. offerCall current (holding mono (entry 0 0 80 0 ∷ [])) (packet80 2147483647 f) rows store
       ≡ comesTo rows (counted noCounts Inserted) (holding mono (entry 0 0 80 0 ∷ entry 2147483647 0 80 1 ∷ [])) (row 2147483647 sound 0 14 80 ∷ []) (stored store 1 f))
-  pub far-ahead : Bytes 80 (λ f. offerCall (holding mono (entry 0 0 80 0 ∷ [])) (packet80 2147483648 f) rows store
+  pub far-ahead : Bytes 80 (λ f. offerCall current (holding mono (entry 0 0 80 0 ∷ [])) (packet80 2147483648 f) rows store
       ≡ comesTo rows (counted noCounts Far) (holding mono (entry 0 0 80 0 ∷ [])) (row 2147483648 sound 0 14 80 ∷ []) store)
   -- 9. Stereo, drawn (0, 0): (0, 0) late, (0, 1) new, (2147483648, 0) late. A stereo packet has both channels: (2147483648, 1) is late too.
-  pub same-late : Bytes 80 (λ f. Bytes 80 (λ g. offerCall (afterZero stereo []) (packet80 0 (f ++ g)) rows store
+  pub same-late : Bytes 80 (λ f. Bytes 80 (λ g. offerCall current (afterZero stereo []) (packet80 0 (f ++ g)) rows store
       ≡ comesTo rows (counted (counted noCounts Late) Inserted) (afterZero stereo (entry 0 1 80 0 ∷ [])) (row 0 sound 0 14 80 ∷ row 0 sound 1 94 80 ∷ []) (over g store)))
-  pub half-late : Bytes 80 (λ f. Bytes 80 (λ g. offerCall (afterZero stereo []) (packet80 2147483648 (f ++ g)) rows store
+  pub half-late : Bytes 80 (λ f. Bytes 80 (λ g. offerCall current (afterZero stereo []) (packet80 2147483648 (f ++ g)) rows store
       ≡ comesTo rows (counted (counted noCounts Late) Late) (afterZero stereo []) (row 2147483648 sound 0 14 80 ∷ row 2147483648 sound 1 94 80 ∷ []) store))
   -- 10. Held 80 bytes, offered 120 for the same pair: better, and the new frame lies in the entry's own slot. Held 120, offered 80: repeat, and nothing changes
   -- but, perhaps, the mark: whether the entry was marked or not, it is marked then, since these packets are heard first-hand.
-  pub longer-better : (mark : ℕ) → mark < 2 → Bytes 80 (λ f. Bytes 120 (λ g. offerCall (holding mono (entryWith mark 0 0 80 0 ∷ [])) (packet120 0 g) rows (over f store)
+  pub longer-better : (mark : ℕ) → mark < 2 → Bytes 80 (λ f. Bytes 120 (λ g. offerCall current (holding mono (entryWith mark 0 0 80 0 ∷ [])) (packet120 0 g) rows (over f store)
       ≡ comesTo rows (counted noCounts Better) (holding mono (entry 0 0 120 0 ∷ [])) (row 0 sound 0 14 120 ∷ []) (over g (over f store))))
-  pub shorter-repeated : (mark : ℕ) → mark < 2 → Bytes 120 (λ g. Bytes 80 (λ f. offerCall (holding mono (entryWith mark 0 0 120 0 ∷ [])) (packet80 0 f) rows (over g store)
+  pub shorter-repeated : (mark : ℕ) → mark < 2 → Bytes 120 (λ g. Bytes 80 (λ f. offerCall current (holding mono (entryWith mark 0 0 120 0 ∷ [])) (packet80 0 f) rows (over g store)
       ≡ comesTo rows (counted noCounts Repeated) (holding mono (entry 0 0 120 0 ∷ [])) (row 0 sound 0 14 80 ∷ []) (over g store)))
 
 pub record WholeTable : Type 0 where
   -- 1 to 7
   pub reading : CheckedTable
   -- 8 to 10
-  pub offers : (rows store : List ℕ) → rowArea ≤ length rows → storeSize ≤ length store → OfferLines rows store
+  pub offers : (rows store : List ℕ) → rowArea current ≤ length rows → storeSize ≤ length store → OfferLines rows store

@@ -4,6 +4,7 @@ use mathlib.Core.Path.{_≡_}
 use mathlib.Core.List.{List, _∷_}
 use mathlib.Core.Bool.{true}
 use lib.ListN.{length}
+use Rattle.rtp.specs.Editions.{Edition}
 use Rattle.rtp.specs.Ranges.{inRange}
 use Rattle.rtp.specs.Areas.{over}
 use Rattle.playout.specs.Sizes.{slotSize, storeSize}
@@ -30,6 +31,6 @@ pub record DrawsEarliest (b : Buffer) (store area : List ℕ) (e : Entry) (es : 
   pub last : (r .buffer .drawn ≡ 1) × (r .buffer .«last_time» ≡ e .time) × (r .buffer .«last_channel» ≡ e .channel)
   pub settings : r .buffer .settings ≡ b .settings
 
-abbrev pub Draws : Type 0
-Draws = (b : Buffer) → Machine b → inRange (b .settings) ≡ true → wellFormed b ≡ true → (store area : List ℕ) → storeSize ≤ length store → slotSize ≤ length area
-    → (e : Entry) (es : List Entry) → decode b .entries ≡ e ∷ es → DrawsEarliest b store area e es (drawCall b store area)
+abbrev pub Draws : Edition → Type 0
+Draws ed = (b : Buffer) → Machine b → inRange ed (b .settings) ≡ true → wellFormed b ≡ true → (store area : List ℕ) → storeSize ≤ length store → slotSize ≤ length area
+    → (e : Entry) (es : List Entry) → decode b .entries ≡ e ∷ es → DrawsEarliest b store area e es (drawCall ed b store area)

@@ -5,6 +5,7 @@ use mathlib.Core.List.{List, [], _∷_, _++_}
 use mathlib.Core.Bool.{cond}
 use lib.ListN.{length, take}
 use lib.Dec.{eqb}
+use Rattle.rtp.specs.Editions.{Edition}
 use Rattle.rtp.specs.declared.settings.Settings.{Settings}
 use Rattle.playout.specs.Verdicts.{Judgement}
 use Rattle.layout.specs.declared.buffer.Buffer.{Buffer}
@@ -55,35 +56,35 @@ abbrev pub judgementsOf : Result Offered → List Judgement
 judgementsOf (refused f) = []
 judgementsOf (done o) = o .gathered .judgements
 
-unfoldable pub judgedBy : Buffer → List ℕ → List ℕ → List ℕ → List Judgement
-judgedBy b packet rows store =
-    cond (eqb (offerCall b packet rows store .answer .refusal) 0) (judgementsOf (offerTo (model b) packet (length rows) store)) []
+unfoldable pub judgedBy : Edition → Buffer → List ℕ → List ℕ → List ℕ → List Judgement
+judgedBy ed b packet rows store =
+    cond (eqb (offerCall ed b packet rows store .answer .refusal) 0) (judgementsOf (offerTo ed (model b) packet (length rows) store)) []
 
-unfoldable pub step : State → Call → Step
-step s (offer o) =
+unfoldable pub step : Edition → State → Call → Step
+step ed s (offer o) =
     let rows = lent (s .rows) (o .area) in
-    let r = offerCall (s .buffer) (o .packet) rows (s .store) in
+    let r = offerCall ed (s .buffer) (o .packet) rows (s .store) in
     record {
-      yield = offered (r .answer) (judgedBy (s .buffer) (o .packet) rows (s .store));
+      yield = offered (r .answer) (judgedBy ed (s .buffer) (o .packet) rows (s .store));
       state = record { buffer = r .buffer; store = r .store; rows = r .rows };
     }
-step s (draw area) =
-    let r = drawCall (s .buffer) (s .store) area in
+step ed s (draw area) =
+    let r = drawCall ed (s .buffer) (s .store) area in
     record { yield = drew (r .answer) (r .area); state = record { buffer = r .buffer; store = s .store; rows = s .rows } }
 
 pub record Run : Type 0 where
   pub yields : List Yield
   pub state : State
 
-unfoldable pub run : State → List Call → Run
-run s [] = record { yields = []; state = s }
-run s (c ∷ cs) =
-    let r = run (step s c .state) cs in
-    record { yields = step s c .yield ∷ r .yields; state = r .state }
+unfoldable pub run : Edition → State → List Call → Run
+run ed s [] = record { yields = []; state = s }
+run ed s (c ∷ cs) =
+    let r = run ed (step ed s c .state) cs in
+    record { yields = step ed s c .yield ∷ r .yields; state = r .state }
 
 -- the fresh buffer of settings, whatever the store and the row area hold
-abbrev pub begun : Settings → List ℕ → List ℕ → State
-begun st store rows = record { buffer = newCall st .buffer; store = store; rows = rows }
+abbrev pub begun : Edition → Settings → List ℕ → List ℕ → State
+begun ed st store rows = record { buffer = newCall ed st .buffer; store = store; rows = rows }
 
 -- Read off a run
 

@@ -6,6 +6,7 @@ use mathlib.Core.List.{List, _∷_, _++_, List·Memᴰ}
 use mathlib.Core.Bool.{true, false}
 use mathlib.Core.Option.{some}
 use lib.ListN.{length}
+use Rattle.rtp.specs.Editions.{Edition}
 use Rattle.rtp.specs.Ranges.{inRange}
 use Rattle.rtp.specs.declared.settings.Settings.{Settings}
 use Rattle.formats.specs.Frames.{sound, sid, damagedSound, damagedSid}
@@ -23,14 +24,14 @@ pub record StretchWith (es : List Entry) (t : ℕ) : Type 0 where
   pub this : ahead t base < half
 
 -- what a well-formed buffer under settings in range holds
-pub record Holds (st : Settings) (h : Held) : Type 0 where
-  pub range : inRange st ≡ true
+pub record Holds (ed : Edition) (st : Settings) (h : Held) : Type 0 where
+  pub range : inRange ed st ≡ true
   pub well-formed : fine (record { settings = st; held = h }) ≡ true
   pub words : (e : Entry) → List·Memᴰ e (h .entries) → e .time < 2 ^ 32
 
 -- far: nothing was drawn yet, and no stretch has the held times and this one
-abbrev pub FarExactly : Type 0
-FarExactly = (st : Settings) (h : Held) → Holds st h → (c : Copy) → c .time < 2 ^ 32
+abbrev pub FarExactly : Edition → Type 0
+FarExactly ed = (st : Settings) (h : Held) → Holds ed st h → (c : Copy) → c .time < 2 ^ 32
     → isFar h c ≡ true ↔ ((h .drawn ≡ false) × (StretchWith (h .entries) (c .time) → ⊥))
 
 -- an entry of the copy's pair
@@ -38,8 +39,8 @@ abbrev pub OfPair : Copy → Entry → Type 0
 OfPair c e = (e .time ≡ c .time) × (e .channel ≡ c .channel)
 
 -- held: the search for a copy's pair finds just the entry of that pair, if it is among the entries
-abbrev pub HeldExactly : Type 0
-HeldExactly = (st : Settings) (h : Held) → Holds st h → (c : Copy) (e : Entry)
+abbrev pub HeldExactly : Edition → Type 0
+HeldExactly ed = (st : Settings) (h : Held) → Holds ed st h → (c : Copy) (e : Entry)
     → findBy (sideOfEntry (entryOf c 0 0)) (h .entries) ≡ some e ↔ (List·Memᴰ e (h .entries) × OfPair c e)
 
 -- a is the better copy, and b is not

@@ -6,6 +6,7 @@ use mathlib.Core.Logic.{_↔_, _⊎_}
 use mathlib.Core.List.{List, [], _∷_, map, List·Memᴰ}
 use mathlib.Core.Bool.{true}
 use lib.ListN.{getD}
+use Rattle.rtp.specs.Editions.{Edition}
 use Rattle.rtp.specs.Ranges.{inRange}
 use Rattle.rtp.specs.declared.settings.Settings.{Settings}
 use Rattle.formats.specs.Formats.{formatOf}
@@ -93,9 +94,9 @@ WellFormedExactly = (b : Buffer) → Typed b → wellFormed b ≡ true ↔ WellF
 -- Buffer and model
 
 -- decode and encode undo each other: on well-formed buffers, and on well-formed models
-pub record UndoEachOther : Type 0 where
+pub record UndoEachOther (ed : Edition) : Type 0 where
   pub encode-decode : (b : Buffer) → Machine b → wellFormed b ≡ true → encode (b .settings) (decode b) ≡ b
-  pub decode-encode : (st : Settings) → inRange st ≡ true → (h : Held) → fine (record { settings = st; held = h }) ≡ true
+  pub decode-encode : (st : Settings) → inRange ed st ≡ true → (h : Held) → fine (record { settings = st; held = h }) ≡ true
       → (wellFormed (encode st h) ≡ true) × (decode (encode st h) ≡ h)
 
 -- Calls that change nothing
@@ -119,8 +120,8 @@ Empty b = heldIn (b .occupied) ≡ 0
 abbrev pub LeftByDraw : Buffer → List ℕ → DrawOutcome → Type 0
 LeftByDraw b area r = (r .buffer ≡ b) × (r .area ≡ area) × (r .answer .refusal ≡ 0 → r .answer ≡ noFrame 0 1)
 
-pub record ChangesNothing : Type 0 where
+pub record ChangesNothing (ed : Edition) : Type 0 where
   -- so if each copy of a packet is late, far, repeated or without room, or the offer is refused, nothing changes but, perhaps, marks (document 02, P6)
   pub offer-leaves : (b : Buffer) → Machine b → (packet rows store : List ℕ)
-      → let r = offerCall b packet rows store in r .answer .better ≡ 0 → r .answer .inserted ≡ 0 → LeftByOffer b store r
-  pub draw-leaves : (b : Buffer) → Empty b → (store area : List ℕ) → LeftByDraw b area (drawCall b store area)
+      → let r = offerCall ed b packet rows store in r .answer .better ≡ 0 → r .answer .inserted ≡ 0 → LeftByOffer b store r
+  pub draw-leaves : (b : Buffer) → Empty b → (store area : List ℕ) → LeftByDraw b area (drawCall ed b store area)

@@ -4,6 +4,7 @@ use mathlib.Core.List.{List}
 use mathlib.Core.Bool.{cond}
 use mathlib.Core.Option.{none, some}
 use lib.ListN.{length}
+use Rattle.rtp.specs.Editions.{Edition}
 use Rattle.rtp.specs.Ranges.{inRange}
 use Rattle.rtp.specs.Refusals.{number}
 use Rattle.rtp.specs.Areas.{over}
@@ -53,9 +54,9 @@ drawDone b area (done (some d)) = record {
 }
 
 -- a draw into an area: 11, 15, then what it does to the model
-unfoldable pub drawCall : Buffer → List ℕ → List ℕ → DrawOutcome
-drawCall b store area =
-    cond (inRange (b .settings))
+unfoldable pub drawCall : Edition → Buffer → List ℕ → List ℕ → DrawOutcome
+drawCall ed b store area =
+    cond (inRange ed (b .settings))
     (cond (wellFormed b) (drawDone b area (drawFrom (model b) store (length area)))
     (drawRefused Malformed b area))
     (drawRefused SettingsOutOfRange b area)

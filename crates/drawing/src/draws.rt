@@ -12,6 +12,7 @@ use slot_marks::bits;
 use tags::tagging;
 ghost use mathlib.Core.Path.{_≡_};
 ghost use mathlib.Core.Bool.{true};
+ghost use Rattle.rtp.specs.Editions.{current};
 ghost use Rattle.rtp.specs.Ranges.{inRange};
 ghost use Rattle.layout.specs.Layout.{decode};
 ghost use Rattle.drawing.specs.ModelCalls.{done, earliest};
@@ -86,9 +87,9 @@ fn draw_first(mut buffer: Buffer, n: usize, store: &[u8], area: &mut [u8]) -> Dr
 
 // A draw under settings in range.
 fn draw_checked(buffer: Buffer, store: &[u8], area: &mut [u8]) -> Drawn
-    requires { ⌜ inRange (buffer .settings) ≡ true ⌝ }
+    requires { ⌜ inRange current (buffer .settings) ≡ true ⌝ }
     ensures { λ r. ⌜ record { answer = drawNumbers (r .answer); buffer = r .buffer; area = now (area .exit) }
-        ≡ drawCall buffer (now (store .entry)) (now (area .entry)) ⌝ }
+        ≡ drawCall current buffer (now (store .entry)) (now (area .entry)) ⌝ }
 {
     let times = buffer.times;
     let tags = buffer.tags;
@@ -124,7 +125,7 @@ fn draw_checked(buffer: Buffer, store: &[u8], area: &mut [u8]) -> Drawn
 // The earliest frame handed out, or that the buffer is empty; or a refusal, and everything as it stood.
 pub fn draw(buffer: Buffer, store: &[u8], area: &mut [u8]) -> Drawn
     ensures { λ r. ⌜ record { answer = drawNumbers (r .answer); buffer = r .buffer; area = now (area .exit) }
-        ≡ drawCall buffer (now (store .entry)) (now (area .entry)) ⌝ }
+        ≡ drawCall current buffer (now (store .entry)) (now (area .entry)) ⌝ }
 {
     let settings = buffer.settings;
     if settings::in_range(settings) {

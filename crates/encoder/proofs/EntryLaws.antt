@@ -5,6 +5,8 @@ use mathlib.Core.Bool.{Bool, true, false}
 use Prim.Native.Nat.{ℕ, _+_, _-_, _/_, _≤_, _<_}
 use native.Mathlib.Omega.{arith}
 use lib.ListN.{length, take, drop, set, length-append}
+use lib.Dec.{leb}
+use borrow.Author.Tests.{leb-true, leb-false}
 use borrow.Rule.Slice.PartMut.{putMid}
 use Rattle.rtp.specs.Areas.{over}
 use Rattle.rtp.proofs.AreaLaws.{over-part, over-one, over-two}
@@ -15,7 +17,9 @@ use Rattle.codes.specs.Codes.{noCode, codeFor}
 use Rattle.encoder.specs.Bytes.{halves, flag, firstByte, startBytes, gapBytes, entryBytes, tableBytes}
 use Rattle.formats.proofs.FormatLaws.{code-placed}
 use Rattle.codes.proofs.CodeLaws.{code-below}
+use Rattle.plans.specs.Entries.{maxBlocks, entriesOf}
 use Rattle.plans.specs.Room.{rowAs, wordsAt}
+use Rattle.plans.proofs.EntriesLaws.{entries-one, entries-two}
 use Rattle.encoder.specs.Room.{blockGaps, runGroup, GapRoom, StartRoom, EntryRoom}
 use Rattle.encoder.proofs.GapLaws.{length-gaps}
 
@@ -58,6 +62,11 @@ length-entry format more g =
 abbrev pub follow : List Group → Bool
 follow [] = false
 follow (g ∷ gs) = true
+
+-- one follows exactly where a run does
+pub follow-entries : (gs : List Group) → follow (entriesOf gs) ≡ follow gs
+follow-entries [] = unfold entriesOf in refl
+follow-entries (g ∷ gs) = by-test (leb (length (g .gaps)) maxBlocks) (λ a. rw (entries-one g gs (leb-true (length (g .gaps)) maxBlocks a))) (λ a. rw (entries-two g gs (leb-false (length (g .gaps)) maxBlocks a)))
 
 pub table-more : (format : ℕ) (g : Group) (gs : List Group) → tableBytes format (g ∷ gs) ≡ entryBytes format (follow gs) g ++ tableBytes format gs
 unfolding tableBytes

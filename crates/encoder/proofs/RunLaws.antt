@@ -5,7 +5,7 @@ use mathlib.Core.Bool.{true, cond}
 use Prim.Native.Nat.{ℕ, zero, suc, _+_, _-_, _*_, _≤_, _<_}
 use native.Mathlib.Omega.{arith}
 use native.Mathlib.Nat.{mul-one, mul-suc, le-mul-of-pos-right}
-use lib.ListN.{length, getD, drop, length-drop}
+use lib.ListN.{length, getD, take, drop, length-drop}
 use lib.Seq.{drop-drop, getD-drop}
 use lib.Dec.{ltb, leb}
 use borrow.Author.Tests.{ltb-true, ltb-false, leb-true}
@@ -16,6 +16,7 @@ use Rattle.contents.specs.Contents.{Group, Contents, refused, groups}
 use Rattle.frame_rows.specs.Rows.{Row}
 use Rattle.codes.specs.Codes.{noCode, codeFor}
 use Rattle.formats.proofs.FormatLaws.{gap-small}
+use Rattle.plans.specs.Entries.{part}
 use Rattle.plans.specs.Lists.{rowsIn}
 use Rattle.plans.specs.Plans.{joinsRun, gapBetween, headGap, single, joins, attach, planFrom}
 use Rattle.plans.specs.Room.{rowAs, wordsAt}
@@ -65,7 +66,7 @@ some-row format ch p ws g gs h =
     let z : _≡_ {A = ℕ} 0 1 = cc in absurd (omega arith))
     (λ a. ltb-false (length ws) rowWidth a)
 
--- the run of n frame-blocks at the front, after the row p, whose group is g; the other groups are the plan of what follows
+-- n frame-blocks of one run at the front, after the row p, whose group is g; the other groups are the plan of what follows
 pub record Run (format ch : ℕ) (p : Row) (ws : List ℕ) (n : ℕ) (g : Group) (gs : List Group) : Type 0 where
   pub group : g ≡ runGroup format (rowWidth * ch) n (p .time) ws
   pub some : 0 < n
@@ -75,7 +76,7 @@ pub record Run (format ch : ℕ) (p : Row) (ws : List ℕ) (n : ℕ) (g : Group)
   pub rest : planFrom format ch 0 (timed (getD ws (rowWidth * ch * n - rowWidth * ch) 0)) (rowsIn (drop (rowWidth * ch * n) ws)) ≡ groups gs
   pub follows : Near format gs
 
-module _ (format ch : ℕ) (p : Row) (ws : List ℕ) (g : Group) (gs : List Group) (b : Block format ch p ws (g ∷ gs)) where
+module _ (format ch : ℕ) (p : Row) (ws : List ℕ) (all : List Group) (b : Block format ch p ws all) (g : Group) (gs : List Group) where
   run-alone : g ≡ single (rowAs (wordsAt ws 0)) (gapBetween (stepOf format) (p .time) (getD ws 0 0)) → gs ≡ b .rest → Near format (b .rest) → Run format ch p ws 1 g gs
   unfolding blockGaps
   run-alone x y d =
@@ -126,10 +127,45 @@ run (suc m) format ch p ws g gs l e h = by-way (attached format _ _ (b .rest) g 
     by-way : Attached format (rowAs (wordsAt ws 0)) (gapBetween (stepOf format) (p .time) (getD ws 0 0)) (b .rest) g gs
         → ((q : Row) (vs : List ℕ) (k : Group) (ks : List Group) → 0 < ch → length (k .gaps) ≡ m → planFrom format ch 0 q (rowsIn vs) ≡ groups (k ∷ ks) → Run format ch q vs m k ks)
         → Run format ch p ws (suc m) g gs
-    by-way (alone x y d z) i = subst (λ (k : ℕ). Run format ch p ws k g gs) (sym (ap (λ (k : Group). length (k .gaps)) x) ∙ e) (run-alone format ch p ws g gs b x y d)
+    by-way (alone x y d z) i = subst (λ (k : ℕ). Run format ch p ws k g gs) (sym (ap (λ (k : Group). length (k .gaps)) x) ∙ e) (run-alone format ch p ws (g ∷ gs) b g gs x y d)
     by-way (together k y j x) i =
         let o : suc (length (k .gaps)) ≡ suc m = sym (ap (λ (q : Group). length (q .gaps)) x) ∙ e in
-        run-together format ch p ws g gs b m k j x (i (rowAs (wordsAt ws 0)) (drop (rowWidth * ch) ws) k gs l (omega arith) (b .planned ∙ ap groups y))
+        run-together format ch p ws (g ∷ gs) b g gs m k j x (i (rowAs (wordsAt ws 0)) (drop (rowWidth * ch) ws) k gs l (omega arith) (b .planned ∙ ap groups y))
+
+-- the first of a run's frame-blocks are such ones, and the rest of the run comes next
+
+pub head-take : (k : ℕ) (l : List ℕ) → getD (take (suc k) l) 0 0 ≡ getD l 0 0
+head-take k [] = refl
+head-take k (x ∷ l) = refl
+
+module _ (format ch : ℕ) (p : Row) (ws : List ℕ) (all : List Group) (b : Block format ch p ws all) (h : Group) (gs : List Group) (y : b .rest ≡ h ∷ gs) (j : joins format (rowAs (wordsAt ws 0)) h ≡ true) where
+  part-step : (k : ℕ) → (0 < k → Run format ch (rowAs (wordsAt ws 0)) (drop (rowWidth * ch) ws) k (part h (take k (h .gaps))) (part h (drop k (h .gaps)) ∷ gs))
+      → Run format ch p ws (suc k) (part h (gapBetween (stepOf format) (p .time) (getD ws 0 0) ∷ take k (h .gaps))) (part h (drop k (h .gaps)) ∷ gs)
+  part-step zero i =
+      let t = joins-true format (rowAs (wordsAt ws 0)) h j in
+      run-alone format ch p ws all b (part h (gapBetween (stepOf format) (p .time) (getD ws 0 0) ∷ [])) (h ∷ gs)
+      (λ k. record { class = sym (t .class) k; length = sym (t .length) k; gaps = gapBetween (stepOf format) (p .time) (getD ws 0 0) ∷ [] })
+      (sym y) (subst (λ (k : List Group). Near format k) (sym y) (t .near))
+  part-step (suc k) i =
+      run-together format ch p ws all b (part h (gapBetween (stepOf format) (p .time) (getD ws 0 0) ∷ take (suc k) (h .gaps))) (part h (drop (suc k) (h .gaps)) ∷ gs)
+      (suc k) (part h (take (suc k) (h .gaps))) (ap (joinsRun format (rowAs (wordsAt ws 0)) (h .class) (h .length)) (head-take k (h .gaps)) ∙ j) refl (i (omega arith))
+
+pub run-part : (k format ch : ℕ) (p : Row) (ws : List ℕ) (g : Group) (gs : List Group) → 0 < ch → 0 < k → k < length (g .gaps) → planFrom format ch 0 p (rowsIn ws) ≡ groups (g ∷ gs)
+    → Run format ch p ws k (part g (take k (g .gaps))) (part g (drop k (g .gaps)) ∷ gs)
+run-part zero format ch p ws g gs l o m h = absurd (omega arith)
+run-part (suc k) format ch p ws g gs l o m h = by-way (attached format _ _ (b .rest) g gs (b .attached)) (run-part k format ch)
+  where
+    b : Block format ch p ws (g ∷ gs)
+    b = block-step format ch p ws (g ∷ gs) l (some-row format ch p ws g gs h) h
+
+    by-way : Attached format (rowAs (wordsAt ws 0)) (gapBetween (stepOf format) (p .time) (getD ws 0 0)) (b .rest) g gs
+        → ((q : Row) (vs : List ℕ) (e : Group) (es : List Group) → 0 < ch → 0 < k → k < length (e .gaps) → planFrom format ch 0 q (rowsIn vs) ≡ groups (e ∷ es) → Run format ch q vs k (part e (take k (e .gaps))) (part e (drop k (e .gaps)) ∷ es))
+        → Run format ch p ws (suc k) (part g (take (suc k) (g .gaps))) (part g (drop (suc k) (g .gaps)) ∷ gs)
+    by-way (alone x y d z) i = absurd (omega (arith, ap (λ (e : Group). length (e .gaps)) x))
+    by-way (together e y j x) i =
+        let n : length (g .gaps) ≡ suc (length (e .gaps)) = ap (λ (v : Group). length (v .gaps)) x in
+        subst (λ (v : Group). Run format ch p ws (suc k) (part v (take (suc k) (v .gaps))) (part v (drop (suc k) (v .gaps)) ∷ gs)) (sym x)
+        (part-step format ch p ws (g ∷ gs) b e gs y j k (λ s. i (rowAs (wordsAt ws 0)) (drop (rowWidth * ch) ws) e gs l s (omega (arith, n)) (b .planned ∙ ap groups y)))
 
 -- The frame-blocks that are in one run with the one before them
 

@@ -4,12 +4,14 @@ use mathlib.Core.Path.{_≡_}
 use mathlib.Core.List.{List, [], _∷_}
 use mathlib.Core.Bool.{false, cond}
 use lib.ListN.{length, getD, drop}
+use Rattle.rtp.specs.Editions.{Edition}
 use Rattle.rtp.specs.Sizes.{maxRows, rowWidth}
 use Rattle.contents.specs.Contents.{Group, Contents, refused, groups, minEntry, entrySize, sizeIn, framesIn}
 use Rattle.formats.specs.Formats.{formatOf, stepOf, maxGap}
 use Rattle.frame_rows.specs.Rows.{Row}
 use Rattle.plans.specs.Lists.{rowsIn, outside}
 use Rattle.codes.specs.Codes.{noCode, codeFor}
+use Rattle.plans.specs.Entries.{entriesOf}
 use Rattle.plans.specs.Plans.{headGap, gapBetween, joins, planFrom, plan}
 use Rattle.plans.specs.Room.{wordsAt, rowAs, lengthsIn}
 use Rattle.encoder.specs.Bytes.{tableBytes}
@@ -86,14 +88,15 @@ abbrev pub Near : ℕ → List Group → Type 0
 Near format [] = Unit {0}
 Near format (g ∷ gs) = headGap g ≤ maxGap format
 
+-- the runs of rows, whose entries have room in an area
 abbrev pub PlanRoom : ℕ → ℕ → Contents → Type 0
 PlanRoom format area (refused q) = ⊥
-PlanRoom format area (groups gs) = Near format gs × (sizeIn format gs ≤ area)
+PlanRoom format area (groups gs) = Near format gs × (sizeIn format (entriesOf gs) ≤ area)
 
-pub record TableRoom (format ch previous : ℕ) (ws : List ℕ) (area : ℕ) : Type 0 where
+pub record TableRoom (ed : Edition) (format ch previous : ℕ) (ws : List ℕ) (area : ℕ) : Type 0 where
   pub some : 0 < ch
   pub channels : ch < 256
-  pub few : length ws < rowWidth * maxRows + rowWidth
+  pub few : length ws < rowWidth * maxRows ed + rowWidth
   pub planned : PlanRoom format area (planFrom format ch 0 (timed previous) (rowsIn ws))
 
 -- the bytes of a plan: none where there is none
@@ -106,14 +109,14 @@ abbrev pub WholePlan : ℕ → ℕ → ℕ → ℕ → Contents → Type 0
 WholePlan format ch table area (refused q) = ⊥
 WholePlan format ch table area (groups gs) = (table ≡ sizeIn format gs) × (table + framesIn ch gs ≤ area)
 
-pub record ListRoom (format ch table bytes : ℕ) (ws : List ℕ) (area : ℕ) : Type 0 where
+pub record ListRoom (ed : Edition) (format ch table bytes : ℕ) (ws : List ℕ) (area : ℕ) : Type 0 where
   pub some : 0 < ch
   pub channels : ch < 256
   pub inside : outside bytes (rowsIn ws) ≡ false
-  pub planned : WholePlan format ch table area (plan format ch (rowsIn ws))
+  pub planned : WholePlan format ch table area (plan ed format ch (rowsIn ws))
 
 -- the mode request before them
-pub record PayloadRoom (format request ch table bytes : ℕ) (ws : List ℕ) (area : ℕ) : Type 0 where
+pub record PayloadRoom (ed : Edition) (format request ch table bytes : ℕ) (ws : List ℕ) (area : ℕ) : Type 0 where
   pub small : request ≤ maxRequest
   pub room : formatOf format .header ≤ area
-  pub list : ListRoom format ch table bytes ws (area - formatOf format .header)
+  pub list : ListRoom ed format ch table bytes ws (area - formatOf format .header)

@@ -4,6 +4,7 @@ use mathlib.Core.List.{List, [], _++_}
 use mathlib.Core.Bool.{cond}
 use lib.ListN.{length}
 use lib.Dec.{ltb}
+use Rattle.rtp.specs.Editions.{Edition}
 use Rattle.rtp.specs.Refusals.{number}
 use Rattle.rtp.specs.declared.settings.Settings.{Settings}
 use Rattle.rtp.specs.declared.refusal.Refusal.{Refusal}
@@ -26,8 +27,8 @@ plannedBytes format request bytes rs (refused f) = noBytes (f .refusal)
 plannedBytes format request bytes rs (groups gs) = bytesOf (requestBytes format request ++ (tableBytes format gs ++ frames bytes rs))
 
 -- the canonical payload of a frame list, with this mode request
-unfoldable pub encoded : Settings → ℕ → List ℕ → List Row → Encoded
-encoded st request bytes rs = plannedBytes (st .format) request bytes rs (plan (st .format) (st .channels) rs)
+unfoldable pub encoded : Edition → Settings → ℕ → List ℕ → List Row → Encoded
+encoded ed st request bytes rs = plannedBytes (st .format) request bytes rs (plan ed (st .format) (st .channels) rs)
 
 -- the area has room for all the bytes
 abbrev pub roomFor : ℕ → Encoded → Encoded
@@ -35,11 +36,11 @@ roomFor area (noBytes q) = noBytes q
 roomFor area (bytesOf p) = cond (ltb area (length p)) (noBytes AreaTooShort) (bytesOf p)
 
 -- writing a list of so many words into an area of so many bytes: the order is 11, 14, 13, 12
-unfoldable pub writing : Settings → ℕ → List ℕ → List ℕ → ℕ → Encoded
-writing st request ws bytes area =
-    cond (askable st request)
+unfoldable pub writing : Edition → Settings → ℕ → List ℕ → List ℕ → ℕ → Encoded
+writing ed st request ws bytes area =
+    cond (askable ed st request)
     (cond (outside (length bytes) (rowsIn ws)) (noBytes RowOutsideBytes)
-    (cond (whole ws) (roomFor area (encoded st request bytes (rowsIn ws))) (noBytes Unwritable)))
+    (cond (whole ws) (roomFor area (encoded ed st request bytes (rowsIn ws))) (noBytes Unwritable)))
     (noBytes SettingsOutOfRange)
 
 -- the answer of what writing comes to, in numbers

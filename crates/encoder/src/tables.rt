@@ -11,10 +11,12 @@ use tags::tagging;
 ghost use mathlib.Core.Path.{_≡_};
 ghost use Prim.Native.Nat.{_<_};
 ghost use lib.ListN.{length};
+ghost use Rattle.rtp.specs.Editions.{current};
 ghost use Rattle.rtp.specs.Areas.{over};
 ghost use Rattle.formats.specs.Formats.{stepOf};
 ghost use Rattle.plans.specs.Lists.{rowsIn};
 ghost use Rattle.codes.specs.Codes.{noCode, codeFor};
+ghost use Rattle.plans.specs.Entries.{inEntries};
 ghost use Rattle.plans.specs.Plans.{planFrom};
 ghost use Rattle.encoder.specs.Bytes.{flag, halves, firstByte, startBytes, entryBytes, frames};
 ghost use Rattle.plans.specs.Room.{rowAs};
@@ -108,7 +110,7 @@ fn put_gaps(format: u8, width: usize, blocks: usize, previous: u32, rows: &[u32]
     );
 }
 
-// The entry of the run of so many frame-blocks at the front of the rows.
+// The entry of so many frame-blocks of a run at the front of the rows.
 fn put_entry(
     format: u8,
     width: usize,
@@ -136,17 +138,18 @@ fn put_entry(
     }
 }
 
-// The table of the rows, run by run, after a frame-block at `previous`.
+// The table of the rows, entry by entry, after a frame-block at `previous`.
 pub(crate) fn put_table(format: u8, channels: usize, previous: u32, rows: &[u32], out: &mut [u8])
-    requires { ⌜ TableRoom format channels previous (now rows) (length (now out)) ⌝ }
-    ensures { λ _. ⌜ now (out .exit) ≡ over (planBytes format (planFrom format channels 0 (timed previous) (rowsIn (now (rows .entry))))) (now (out .entry)) ⌝ }
+    requires { ⌜ TableRoom current format channels previous (now rows) (length (now out)) ⌝ }
+    ensures { λ _. ⌜ now (out .exit) ≡ over (planBytes format (inEntries (planFrom format channels 0 (timed previous) (rowsIn (now (rows .entry)))))) (now (out .entry)) ⌝ }
 {
     if rows.len() < ROW_WIDTH {
         return;
     }
     let width = ROW_WIDTH * channels;
     let first = lists::first_row(rows);
-    let blocks = joined_blocks(format, channels, first, &rows[width..]) + 1;
+    let run = joined_blocks(format, channels, first, &rows[width..]) + 1;
+    let blocks = planning::first_blocks(run);
     let end = width * blocks;
     let more = ROW_WIDTH <= rows.len() - end;
     put_entry(format, width, blocks, more, previous, rows, out);

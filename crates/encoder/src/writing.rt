@@ -13,6 +13,7 @@ use rtp::time;
 ghost use mathlib.Core.Path.{_≡_};
 ghost use mathlib.Core.List.{_++_};
 ghost use lib.ListN.{length};
+ghost use Rattle.rtp.specs.Editions.{current};
 ghost use Rattle.rtp.specs.Areas.{over};
 ghost use Rattle.plans.specs.Lists.{rowsIn};
 ghost use Rattle.plans.specs.Plans.{plan};
@@ -23,9 +24,9 @@ ghost use Rattle.encoder.specs.Room.{planBytes, ListRoom, PayloadRoom};
 
 // A planned list, whose table takes so many bytes: its table, then its frames.
 fn put_list(format: u8, channels: usize, table: usize, rows: &[u32], bytes: &[u8], out: &mut [u8])
-    requires { ⌜ ListRoom format channels table (length (now bytes)) (now rows) (length (now out)) ⌝ }
+    requires { ⌜ ListRoom current format channels table (length (now bytes)) (now rows) (length (now out)) ⌝ }
     ensures { λ _. ⌜ now (out .exit) ≡
-        over (planBytes format (plan format channels (rowsIn (now (rows .entry)))) ++ frames (now (bytes .entry)) (rowsIn (now (rows .entry))))
+        over (planBytes format (plan current format channels (rowsIn (now (rows .entry)))) ++ frames (now (bytes .entry)) (rowsIn (now (rows .entry))))
         (now (out .entry)) ⌝ }
 {
     let previous = time::difference(rows[0], frames::step_of(format));
@@ -43,10 +44,10 @@ fn put_payload(
     bytes: &[u8],
     out: &mut [u8],
 )
-    requires { ⌜ PayloadRoom format «mode_request» channels table (length (now bytes)) (now rows) (length (now out)) ⌝ }
+    requires { ⌜ PayloadRoom current format «mode_request» channels table (length (now bytes)) (now rows) (length (now out)) ⌝ }
     ensures { λ _. ⌜ now (out .exit) ≡
         over (encodedBytes (plannedBytes format «mode_request» (now (bytes .entry)) (rowsIn (now (rows .entry)))
-        (plan format channels (rowsIn (now (rows .entry)))))) (now (out .entry)) ⌝ }
+        (plan current format channels (rowsIn (now (rows .entry)))))) (now (out .entry)) ⌝ }
 {
     let start = asking::put_request(format, mode_request, out);
     put_list(format, channels, table, rows, bytes, &mut out[start..]);
@@ -61,9 +62,9 @@ pub fn write_payload(
     out: &mut [u8],
 ) -> Written
     ensures { λ r. ⌜ (writtenNumbers r ≡
-        encodedNumbers (writing asked «mode_request» (now (rows .entry)) (now (bytes .entry)) (length (now (out .entry)))))
+        encodedNumbers (writing current asked «mode_request» (now (rows .entry)) (now (bytes .entry)) (length (now (out .entry)))))
         × (now (out .exit) ≡ over
-        (encodedBytes (writing asked «mode_request» (now (rows .entry)) (now (bytes .entry)) (length (now (out .entry))))) (now (out .entry))) ⌝ }
+        (encodedBytes (writing current asked «mode_request» (now (rows .entry)) (now (bytes .entry)) (length (now (out .entry))))) (now (out .entry))) ⌝ }
 {
     if asking::in_range(asked, mode_request) {
         if lists::any_outside(rows, bytes.len()) {

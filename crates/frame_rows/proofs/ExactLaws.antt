@@ -6,6 +6,7 @@ use mathlib.Core.List.{List}
 use lib.ListN.{length}
 use lib.Dec.{eqb}
 use borrow.Author.Tests.{eq-eqb, ne-eqb}
+use Rattle.rtp.specs.Editions.{Edition}
 use Rattle.rtp.specs.Faults.{faultAt}
 use Rattle.rtp.specs.declared.refusal.Fault.{Fault}
 use Rattle.rtp.specs.declared.refusal.Refusal.the-variants.{LengthMismatch}
@@ -48,12 +49,12 @@ answer-refused format ch r (refused q) h = cc
 answer-refused format ch r (groups gs) h = let z : _≡_ {A = ℕ} 0 1 = cc in absurd (omega arith)
 
 -- its answer is bounded as that of the table
-within-exact : (format ch rows n : ℕ) (p : Contents) → Within rows n (sizesAnswer format ch p) → Within rows n (sizesAnswer format ch (exact format ch n p))
+within-exact : (ed : Edition) (format ch rows n : ℕ) (p : Contents) → Within ed rows n (sizesAnswer format ch p) → Within ed rows n (sizesAnswer format ch (exact format ch n p))
 unfolding sizesAnswer
-within-exact format ch rows n (refused r) w = w
-within-exact format ch rows n (groups gs) w =
+within-exact ed format ch rows n (refused r) w = w
+within-exact ed format ch rows n (groups gs) w =
     by-test (eqb (sizeIn format gs + framesIn ch gs) n) (λ e. rw e w) (λ e. rw e (w .within))
 
-pub exact-within : (format ch rows : ℕ) (s : List ℕ) → Within rows (length s) (sizesAnswer format ch (exact format ch (length s) (passFirst (contents format ch rows s))))
-exact-within format ch rows s =
-    within-exact format ch rows (length s) (passFirst (contents format ch rows s)) (rw (sizes-passed format ch (contents format ch rows s)) (within format ch rows s))
+pub exact-within : (ed : Edition) (format ch rows : ℕ) (s : List ℕ) → Within ed rows (length s) (sizesAnswer format ch (exact format ch (length s) (passFirst (contents ed format ch rows s))))
+exact-within ed format ch rows s =
+    within-exact ed format ch rows (length s) (passFirst (contents ed format ch rows s)) (rw (sizes-passed format ch (contents ed format ch rows s)) (within ed format ch rows s))

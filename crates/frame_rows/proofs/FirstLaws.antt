@@ -7,6 +7,7 @@ use native.Mathlib.Omega.{arith}
 use lib.ListN.{length, drop}
 use lib.Dec.{ltb}
 use borrow.Author.Tests.{lt-ltb, ltb-true, ltb-false}
+use Rattle.rtp.specs.Editions.{Edition}
 use Rattle.rtp.specs.Sizes.{maxRows}
 use Rattle.rtp.specs.Time.{difference}
 use Rattle.rtp.specs.Faults.{fault}
@@ -53,22 +54,22 @@ begins-prepend : (d n : ℕ) (g : Group) (p : Contents) → (rest : List ℕ) ×
 begins-prepend d n g (refused r) h = tt
 begins-prepend d n g (groups gs) h = h
 
-module _ (format ch done : ℕ) (s : List ℕ) where
-  contents-many : (e : Entry) → entryOf format s ≡ EntryRead.Entry e → maxRows < done + e .blocks * ch → contents format ch done s ≡ refused (fault TooManyRows)
-  contents-many e h l = rw (contents-step, h) (simp (lt-ltb _ _ l))
+module _ (ed : Edition) (format ch done : ℕ) (s : List ℕ) where
+  contents-many : (e : Entry) → entryOf format s ≡ EntryRead.Entry e → maxRows ed < done + e .blocks * ch → contents ed format ch done s ≡ refused (fault TooManyRows)
+  contents-many e h l = rw (contents-step ed, h) (simp (lt-ltb _ _ l))
 
-  pub begins : Begins (gapAt format s 0) (contents format ch done s)
+  pub begins : Begins (gapAt format s 0) (contents ed format ch done s)
   begins = go (entryOf format s) refl
     where
-      go : (r : EntryRead) → entryOf format s ≡ r → Begins (gapAt format s 0) (contents format ch done s)
-      go (EntryRead.Refused n) q = rw (contents-refused format ch done s n q) tt
+      go : (r : EntryRead) → entryOf format s ≡ r → Begins (gapAt format s 0) (contents ed format ch done s)
+      go (EntryRead.Refused n) q = rw (contents-refused ed format ch done s n q) tt
       go (EntryRead.Entry e) q =
           let b = begins-group format s e (fair format s e q .blocks-some) in
-          by-test (ltb maxRows (done + e .blocks * ch))
+          by-test (ltb (maxRows ed) (done + e .blocks * ch))
           (λ a. rw (contents-many e q (ltb-true _ _ a)) tt)
           (λ a. by-test (e .more)
-          (λ m. rw (contents-more format ch done s e q (ltb-false _ _ a) m) (begins-prepend (gapAt format s 0) (e .size) (meaning format s e) (contents format ch (done + e .blocks * ch) (drop (e .size) s)) b))
-          (λ m. rw (contents-last format ch done s e q (ltb-false _ _ a) m) b))
+          (λ m. rw (contents-more ed format ch done s e q (ltb-false _ _ a) m) (begins-prepend (gapAt format s 0) (e .size) (meaning format s e) (contents ed format ch (done + e .blocks * ch) (drop (e .size) s)) b))
+          (λ m. rw (contents-last ed format ch done s e q (ltb-false _ _ a) m) b))
 
 -- Rows counted from a time before
 

@@ -9,6 +9,7 @@ use lib.ListN.{length, take, drop}
 use lib.Dec.{ltb}
 use borrow.Author.Tests.{ltb-true, ltb-false}
 use borrow.Rule.Slice.PartMut.{putMid}
+use Rattle.rtp.specs.Editions.{Edition}
 use Rattle.rtp.specs.Sizes.{rowWidth, maxRows}
 use Rattle.rtp.specs.Areas.{over}
 use Rattle.rtp.specs.declared.refusal.Refusal.{Refusal}
@@ -32,30 +33,30 @@ room-ahead : (start area ch : ℕ) (e : Entry) (r : ContentsRead) → TableRoom 
 room-ahead start area ch e (ContentsRead.Refused n) h = absurd h
 room-ahead start area ch e (ContentsRead.Contents t) h = (omega arith, omega arith, (omega arith, omega arith, h .2))
 
-module _ (format ch rows start area : ℕ) (s : List ℕ) (e : Entry) (h : entryOf format s ≡ EntryRead.Entry e) (r : TableRoom ch start area (sizesAnswer format ch (contents format ch rows s))) where
-  pub room-few : rows + e .blocks * ch ≤ maxRows
+module _ (ed : Edition) (format ch rows start area : ℕ) (s : List ℕ) (e : Entry) (h : entryOf format s ≡ EntryRead.Entry e) (r : TableRoom ch start area (sizesAnswer format ch (contents ed format ch rows s))) where
+  pub room-few : rows + e .blocks * ch ≤ maxRows ed
   room-few =
-      by-test (ltb maxRows (rows + e .blocks * ch))
-      (λ a. absurd (subst (λ (x : ContentsRead). TableRoom ch start area x) (at-many format ch rows s e h (ltb-true _ _ a)) r))
+      by-test (ltb (maxRows ed) (rows + e .blocks * ch))
+      (λ a. absurd (subst (λ (x : ContentsRead). TableRoom ch start area x) (at-many ed format ch rows s e h (ltb-true _ _ a)) r))
       (λ a. ltb-false _ _ a)
 
   room-both : (e .more ≡ true) → (rowWidth * (e .blocks * ch) ≤ area) × (start + e .blocks * ch * e .length < 2 ^ 32)
-      × TableRoom ch (start + e .blocks * ch * e .length) (area - rowWidth * (e .blocks * ch)) (sizesAnswer format ch (contents format ch (rows + e .blocks * ch) (drop (e .size) s)))
-  room-both m = room-ahead start area ch e (sizesAnswer format ch (contents format ch (rows + e .blocks * ch) (drop (e .size) s)))
-      (subst (λ (x : ContentsRead). TableRoom ch start area x) (at-more format ch rows s e h room-few m) r)
+      × TableRoom ch (start + e .blocks * ch * e .length) (area - rowWidth * (e .blocks * ch)) (sizesAnswer format ch (contents ed format ch (rows + e .blocks * ch) (drop (e .size) s)))
+  room-both m = room-ahead start area ch e (sizesAnswer format ch (contents ed format ch (rows + e .blocks * ch) (drop (e .size) s)))
+      (subst (λ (x : ContentsRead). TableRoom ch start area x) (at-more ed format ch rows s e h room-few m) r)
 
   room-here : (rowWidth * (e .blocks * ch) ≤ area) × (start + e .blocks * ch * e .length < 2 ^ 32)
   room-here =
       by-test (e .more)
       (λ m. (room-both m .0, room-both m .1))
-      (λ m. let z = subst (λ (x : ContentsRead). TableRoom ch start area x) (at-last format ch rows s e h room-few m) r in (z .0, z .1))
+      (λ m. let z = subst (λ (x : ContentsRead). TableRoom ch start area x) (at-last ed format ch rows s e h room-few m) r in (z .0, z .1))
 
   room-channels : ch ≤ 256
   room-channels =
       by-test (e .more)
-      (λ m. ch-of (ahead ch e (sizesAnswer format ch (contents format ch (rows + e .blocks * ch) (drop (e .size) s))))
-      (subst (λ (x : ContentsRead). TableRoom ch start area x) (at-more format ch rows s e h room-few m) r))
-      (λ m. subst (λ (x : ContentsRead). TableRoom ch start area x) (at-last format ch rows s e h room-few m) r .2)
+      (λ m. ch-of (ahead ch e (sizesAnswer format ch (contents ed format ch (rows + e .blocks * ch) (drop (e .size) s))))
+      (subst (λ (x : ContentsRead). TableRoom ch start area x) (at-more ed format ch rows s e h room-few m) r))
+      (λ m. subst (λ (x : ContentsRead). TableRoom ch start area x) (at-last ed format ch rows s e h room-few m) r .2)
     where
       ch-of : (x : ContentsRead) → TableRoom ch start area x → ch ≤ 256
       ch-of (ContentsRead.Refused n) z = absurd z
@@ -72,7 +73,7 @@ module _ (format ch rows start area : ℕ) (s : List ℕ) (e : Entry) (h : entry
         few = omega (arith, f .few bs);
       }
 
-  pub room-rest : (e .more ≡ true) → TableRoom ch (start + e .blocks * ch * e .length) (area - rowWidth * (e .blocks * ch)) (sizesAnswer format ch (contents format ch (rows + e .blocks * ch) (drop (e .size) s)))
+  pub room-rest : (e .more ≡ true) → TableRoom ch (start + e .blocks * ch * e .length) (area - rowWidth * (e .blocks * ch)) (sizesAnswer format ch (contents ed format ch (rows + e .blocks * ch) (drop (e .size) s)))
   room-rest m = room-both m .2
 
 -- mark and class in one number
@@ -104,23 +105,23 @@ words-ahead mark format ch time start area s e (groups es) r = rw (length-gaps, 
 
 -- Written entry by entry
 
-module _ (mark format ch time start rows : ℕ) (s l : List ℕ) where
-  pub put-refused : (n : Refusal) → entryOf format s ≡ EntryRead.Refused n → l ≡ over (contentsWords mark format ch time start (contents format ch rows s)) l
+module _ (ed : Edition) (mark format ch time start rows : ℕ) (s l : List ℕ) where
+  pub put-refused : (n : Refusal) → entryOf format s ≡ EntryRead.Refused n → l ≡ over (contentsWords mark format ch time start (contents ed format ch rows s)) l
   unfolding contentsWords
-  put-refused n h = rw (contents-refused format ch rows s n h) (sym (over-none l))
+  put-refused n h = rw (contents-refused ed format ch rows s n h) (sym (over-none l))
 
-  module _ (e : Entry) (h : entryOf format s ≡ EntryRead.Entry e) (few : rows + e .blocks * ch ≤ maxRows) (m : List ℕ) (w : m ≡ over (firstWords mark format ch time start s e) l) where
-    pub put-last : e .more ≡ false → m ≡ over (contentsWords mark format ch time start (contents format ch rows s)) l
-    put-last x = w ∙ sym (ap (λ (p : Contents). over (contentsWords mark format ch time start p) l) (contents-last format ch rows s e h few x) ∙ ap (λ (q : List ℕ). over q l) (words-single mark format ch time start s e))
+  module _ (e : Entry) (h : entryOf format s ≡ EntryRead.Entry e) (few : rows + e .blocks * ch ≤ maxRows ed) (m : List ℕ) (w : m ≡ over (firstWords mark format ch time start s e) l) where
+    pub put-last : e .more ≡ false → m ≡ over (contentsWords mark format ch time start (contents ed format ch rows s)) l
+    put-last x = w ∙ sym (ap (λ (p : Contents). over (contentsWords mark format ch time start p) l) (contents-last ed format ch rows s e h few x) ∙ ap (λ (q : List ℕ). over q l) (words-single mark format ch time start s e))
 
     pub put-more : e .more ≡ true → (area next : ℕ) (z : List ℕ)
-        → TableRoom ch (start + e .blocks * ch * e .length) area (sizesAnswer format ch (contents format ch (rows + e .blocks * ch) (drop (e .size) s)))
+        → TableRoom ch (start + e .blocks * ch * e .length) area (sizesAnswer format ch (contents ed format ch (rows + e .blocks * ch) (drop (e .size) s)))
         → next ≡ timeAfter (stepOf format) time (gapsFrom format s 0 (e .blocks))
-        → z ≡ over (contentsWords mark format ch next (start + e .blocks * ch * e .length) (contents format ch (rows + e .blocks * ch) (take (length s - e .size) (drop (e .size) s))))
+        → z ≡ over (contentsWords mark format ch next (start + e .blocks * ch * e .length) (contents ed format ch (rows + e .blocks * ch) (take (length s - e .size) (drop (e .size) s))))
         (take (length m - rowWidth * (e .blocks * ch)) (drop (rowWidth * (e .blocks * ch)) m))
-        → putMid (rowWidth * (e .blocks * ch)) (length m - rowWidth * (e .blocks * ch)) m z ≡ over (contentsWords mark format ch time start (contents format ch rows s)) l
+        → putMid (rowWidth * (e .blocks * ch)) (length m - rowWidth * (e .blocks * ch)) m z ≡ over (contentsWords mark format ch time start (contents ed format ch rows s)) l
     put-more x area next z r n v =
         over-part _ _ l m z (rowWidth * (e .blocks * ch)) (length-first mark format ch time start s e) w v
-        ∙ sym (ap (λ (p : Contents). over (contentsWords mark format ch time start p) l) (contents-more format ch rows s e h few x)
+        ∙ sym (ap (λ (p : Contents). over (contentsWords mark format ch time start p) l) (contents-more ed format ch rows s e h few x)
         ∙ ap (λ (q : List ℕ). over q l) (words-ahead mark format ch time start area s e _ r)
         ∙ rw (part-to-end (e .size) s, n))

@@ -4,6 +4,7 @@ use mathlib.Core.List.{List, []}
 use mathlib.Core.Bool.{cond}
 use lib.ListN.{length}
 use lib.Dec.{ltb, eqb}
+use Rattle.rtp.specs.Editions.{Edition}
 use Rattle.rtp.specs.Sizes.{maxPacket, rowWidth, rowArea}
 use Rattle.rtp.specs.Faults.{faultAt, fault}
 use Rattle.rtp.specs.declared.refusal.Refusal.the-variants.{PacketLength, LengthMismatch, AreaTooShort}
@@ -18,11 +19,11 @@ exact format ch n (groups gs) = cond (eqb (sizeIn format gs + framesIn ch gs) n)
 
 -- the table and the frames s at `at` in a packet, after `rows` rows of it, for an area of so many words: the area is asked first for all the rows that the
 -- packet may have, then whether s lies in a packet
-unfoldable pub fitting : ℕ → ℕ → ℕ → ℕ → ℕ → List ℕ → Contents
-fitting format ch rows area at s =
-    cond (ltb (rowWidth * rows + area) rowArea) (refused (fault AreaTooShort))
+unfoldable pub fitting : Edition → ℕ → ℕ → ℕ → ℕ → ℕ → List ℕ → Contents
+fitting ed format ch rows area at s =
+    cond (ltb (rowWidth * rows + area) (rowArea ed)) (refused (fault AreaTooShort))
     (cond (ltb maxPacket (at + length s)) (refused (fault PacketLength))
-    (exact format ch (length s) (passFirst (contents format ch rows s))))
+    (exact format ch (length s) (passFirst (contents ed format ch rows s))))
 
 -- the words of the rows of a table at `at`, heard with this mark; its frames start after it. None of a refusal
 unfoldable pub fittingWords : ℕ → ℕ → ℕ → ℕ → ℕ → Contents → List ℕ

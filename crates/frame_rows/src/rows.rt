@@ -13,6 +13,7 @@ use tags::tagging;
 ghost use mathlib.Core.Path.{_≡_};
 ghost use Prim.Native.Nat.{_*_, _/_, _%_, _≤_, _<_};
 ghost use lib.ListN.{length};
+ghost use Rattle.rtp.specs.Editions.{current};
 ghost use Rattle.rtp.specs.Areas.{over};
 ghost use Rattle.formats.specs.Frames.{stepOf};
 ghost use Rattle.contents.specs.Contents.{entrySize, gapAt, gapsFrom, contents, contentsReadNumbers, contentsNumbers, sizesAnswer};
@@ -121,8 +122,8 @@ fn put_contents(
     time: u32,
     start: usize,
 )
-    requires { ⌜ TableRoom channels start (length (now rows)) (sizesAnswer format channels (contents format channels done (now s))) ⌝ }
-    ensures { λ _. ⌜ now (rows .exit) ≡ over (contentsWords mark format channels time start (contents format channels done (now (s .entry)))) (now (rows .entry)) ⌝ }
+    requires { ⌜ TableRoom channels start (length (now rows)) (sizesAnswer format channels (contents current format channels done (now s))) ⌝ }
+    ensures { λ _. ⌜ now (rows .exit) ≡ over (contentsWords mark format channels time start (contents current format channels done (now (s .entry)))) (now (rows .entry)) ⌝ }
 {
     match entries::read_entry(format, &s[0..]) {
         EntryRead::Refused(_) => {}
@@ -171,9 +172,9 @@ pub fn put_table(
     time: u32,
     at: u32,
 ) -> ContentsRead
-    ensures { λ r. ⌜ (contentsReadNumbers r ≡ contentsNumbers format channels (fitting format channels done (length (now (area .entry))) at (now (s .entry))))
+    ensures { λ r. ⌜ (contentsReadNumbers r ≡ contentsNumbers format channels (fitting current format channels done (length (now (area .entry))) at (now (s .entry))))
         × (now (area .exit) ≡
-        over (fittingWords mark format channels time at (fitting format channels done (length (now (area .entry))) at (now (s .entry)))) (now (area .entry))) ⌝ }
+        over (fittingWords mark format channels time at (fitting current format channels done (length (now (area .entry))) at (now (s .entry)))) (now (area .entry))) ⌝ }
 {
     if ROW_WIDTH * (done as usize) + area.len() < ROW_AREA {
         return ContentsRead::Refused(Fault {

@@ -7,6 +7,7 @@ use native.Mathlib.Omega.{arith}
 use lib.ListN.{length}
 use lib.Dec.{ltb}
 use borrow.Author.Tests.{ltb-false}
+use Rattle.rtp.specs.Editions.{current}
 use Rattle.rtp.specs.Sizes.{maxPacket}
 use Rattle.rtp.specs.declared.settings.Settings.{Settings}
 use Rattle.rtp.proofs.TestLaws.{by-test}
@@ -38,25 +39,25 @@ count-short m n (bytesOf p) s g = let c : n .count ≡ length p = ap (λ k. k .c
 
 -- Payloads
 
-encoded-short : (st : Settings) (request : ℕ) (ws bytes : List ℕ) → 0 < st .channels → outside (length bytes) (rowsIn ws) ≡ false → Short maxPayload (encoded st request bytes (rowsIn ws))
+encoded-short : (st : Settings) (request : ℕ) (ws bytes : List ℕ) → 0 < st .channels → outside (length bytes) (rowsIn ws) ≡ false → Short maxPayload (encoded current st request bytes (rowsIn ws))
 unfolding encoded
-encoded-short st request ws bytes l o = by-plan (plan (st .format) (st .channels) (rowsIn ws)) refl
+encoded-short st request ws bytes l o = by-plan (plan current (st .format) (st .channels) (rowsIn ws)) refl
   where
-    by-plan : (x : Contents) → plan (st .format) (st .channels) (rowsIn ws) ≡ x → Short maxPayload (plannedBytes (st .format) request bytes (rowsIn ws) x)
+    by-plan : (x : Contents) → plan current (st .format) (st .channels) (rowsIn ws) ≡ x → Short maxPayload (plannedBytes (st .format) request bytes (rowsIn ws) x)
     by-plan (refused q) e = tt
-    by-plan (groups gs) e = omega (arith, length-bytes (st .format) request (st .channels) ws bytes gs l o e, listed (st .format) (st .channels) ws gs e .fits)
+    by-plan (groups gs) e = omega (arith, length-bytes current (st .format) request (st .channels) ws bytes gs l o e, listed current (st .format) (st .channels) ws gs e .fits)
 
-writing-short : (st : Settings) (request : ℕ) (ws bytes : List ℕ) (area : ℕ) → Short maxPayload (writing st request ws bytes area)
+writing-short : (st : Settings) (request : ℕ) (ws bytes : List ℕ) (area : ℕ) → Short maxPayload (writing current st request ws bytes area)
 unfolding writing
 writing-short st request ws bytes area =
-    by-test (askable st request)
+    by-test (askable current st request)
     (λ a. by-test (outside (length bytes) (rowsIn ws)) (λ b. rw (a, b) tt)
-    (λ b. by-test (whole ws) (λ c. rw (a, b, c) (room-short maxPayload area (encoded st request bytes (rowsIn ws)) (encoded-short st request ws bytes (in-range-some st (asked st request a .settings)) b))) (λ c. rw (a, b, c) tt)))
+    (λ b. by-test (whole ws) (λ c. rw (a, b, c) (room-short maxPayload area (encoded current st request bytes (rowsIn ws)) (encoded-short st request ws bytes (in-range-some current st (asked current st request a .settings)) b))) (λ c. rw (a, b, c) tt)))
     (λ a. rw a tt)
 
-pub payload-count-fits : (st : Settings) (request : ℕ) (ws bytes : List ℕ) (area : ℕ) (n : Numbers) → n ≡ encodedNumbers (writing st request ws bytes area)
+pub payload-count-fits : (st : Settings) (request : ℕ) (ws bytes : List ℕ) (area : ℕ) (n : Numbers) → n ≡ encodedNumbers (writing current st request ws bytes area)
     → n .count ≤ maxPayload
-payload-count-fits st request ws bytes area n = count-short maxPayload n (writing st request ws bytes area) (writing-short st request ws bytes area)
+payload-count-fits st request ws bytes area n = count-short maxPayload n (writing current st request ws bytes area) (writing-short st request ws bytes area)
 
 -- Packets
 
@@ -67,14 +68,14 @@ assembled-short : (st : Settings) (h : Heading) (time : ℕ) (x : Parts) → Sho
 assembled-short st h time noParts = tt
 assembled-short st h time (partsOf bs p) = by-test (redundancyMissing st bs) (λ a. rw a tt) (λ a. rw a (within-short (headerBytes h (packetType st bs) time ++ bodyBytes st bs p)))
 
-sending-short : (st : Settings) (request : ℕ) (h : Heading) (counts ws bytes : List ℕ) (area : ℕ) → Short maxPacket (sending st request h counts ws bytes area)
+sending-short : (st : Settings) (request : ℕ) (h : Heading) (counts ws bytes : List ℕ) (area : ℕ) → Short maxPacket (sending current st request h counts ws bytes area)
 unfolding sending assembled
 sending-short st request h counts ws bytes area =
-    by-test (askable st request)
+    by-test (askable current st request)
     (λ a. by-test (outside (length bytes) (rowsIn ws)) (λ b. rw (a, b) tt)
-    (λ b. by-test (countsFit counts ws) (λ c. rw (a, b, c) (room-short maxPacket area (assembled st request h counts bytes (rowsIn ws)) (assembled-short st h (primaryTime counts (rowsIn ws)) (parts st request bytes (primaryTime counts (rowsIn ws)) counts (rowsIn ws))))) (λ c. rw (a, b, c) tt)))
+    (λ b. by-test (countsFit current counts ws) (λ c. rw (a, b, c) (room-short maxPacket area (assembled current st request h counts bytes (rowsIn ws)) (assembled-short st h (primaryTime counts (rowsIn ws)) (parts current st request bytes (primaryTime counts (rowsIn ws)) counts (rowsIn ws))))) (λ c. rw (a, b, c) tt)))
     (λ a. rw a tt)
 
 pub packet-count-fits : (st : Settings) (request : ℕ) (h : Heading) (counts ws bytes : List ℕ) (area : ℕ) (n : Numbers)
-    → n ≡ encodedNumbers (sending st request h counts ws bytes area) → n .count ≤ maxPacket
-packet-count-fits st request h counts ws bytes area n = count-short maxPacket n (sending st request h counts ws bytes area) (sending-short st request h counts ws bytes area)
+    → n ≡ encodedNumbers (sending current st request h counts ws bytes area) → n .count ≤ maxPacket
+packet-count-fits st request h counts ws bytes area n = count-short maxPacket n (sending current st request h counts ws bytes area) (sending-short st request h counts ws bytes area)

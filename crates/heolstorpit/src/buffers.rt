@@ -5,6 +5,7 @@ use layout::buffer::Buffer;
 use reorder::calls;
 use rtp::settings::Settings;
 ghost use mathlib.Core.Path.{_≡_};
+ghost use Rattle.rtp.specs.Editions.{current};
 ghost use Rattle.reorder.specs.Calls.{newCall, offerCall};
 ghost use Rattle.drawing.specs.Calls.{drawCall};
 ghost use Rattle.heolstorpit.specs.Answers.{freshAnswer, offeredAnswer, drawnAnswer};
@@ -48,7 +49,7 @@ pub struct HspDrawn {
 
 #[no_mangle]
 pub extern "C" fn hsp_new(settings: Settings) -> HspFresh
-    ensures { λ r. ⌜ freshAnswer r ≡ newCall settings ⌝ }
+    ensures { λ r. ⌜ freshAnswer r ≡ newCall current settings ⌝ }
 {
     let fresh = calls::new(settings);
     let buffer = fresh.buffer;
@@ -67,7 +68,7 @@ pub extern "C" fn hsp_offer(
     store: &mut [u8],
 ) -> HspOffered
     ensures { λ r. ⌜ record { answer = offeredAnswer r; buffer = r .buffer; rows = now (rows .exit); store = now (store .exit) } ≡
-        offerCall buffer (now (packet .entry)) (now (rows .entry)) (now (store .entry)) ⌝ }
+        offerCall current buffer (now (packet .entry)) (now (rows .entry)) (now (store .entry)) ⌝ }
 {
     let offered = calls::offer(buffer, packet, rows, store);
     let left = offered.buffer;
@@ -89,7 +90,7 @@ pub extern "C" fn hsp_offer(
 #[no_mangle]
 pub extern "C" fn hsp_draw(buffer: Buffer, store: &[u8], area: &mut [u8]) -> HspDrawn
     ensures { λ r. ⌜ record { answer = drawnAnswer r; buffer = r .buffer; area = now (area .exit) } ≡
-        drawCall buffer (now (store .entry)) (now (area .entry)) ⌝ }
+        drawCall current buffer (now (store .entry)) (now (area .entry)) ⌝ }
 {
     let drawn = draws::draw(buffer, store, area);
     let left = drawn.buffer;

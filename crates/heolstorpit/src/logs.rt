@@ -7,6 +7,7 @@ use log_writer::writing;
 use rtp::settings::Settings;
 ghost use mathlib.Core.Path.{_≡_};
 ghost use lib.ListN.{length};
+ghost use Rattle.rtp.specs.Editions.{current};
 ghost use Rattle.rtp.specs.Areas.{over};
 ghost use Rattle.log.specs.Opening.{openCall};
 ghost use Rattle.log.specs.Stepping.{stepCall};
@@ -43,7 +44,7 @@ pub struct HspLogWritten {
 
 #[no_mangle]
 pub extern "C" fn hsp_log_open(log: &[u8]) -> HspLogOpened
-    ensures { λ r. ⌜ openedAnswer r ≡ openedOutcome (openCall (now (log .entry))) ⌝ }
+    ensures { λ r. ⌜ openedAnswer r ≡ openedOutcome (openCall current (now (log .entry))) ⌝ }
 {
     let opened = opening::open(log);
     let cursor = opened.cursor;
@@ -56,7 +57,7 @@ pub extern "C" fn hsp_log_open(log: &[u8]) -> HspLogOpened
 
 #[no_mangle]
 pub extern "C" fn hsp_log_step(cursor: Cursor, log: &[u8]) -> HspLogStepped
-    ensures { λ r. ⌜ steppedAnswer r ≡ steppedOutcome (stepCall cursor (now (log .entry))) ⌝ }
+    ensures { λ r. ⌜ steppedAnswer r ≡ steppedOutcome (stepCall current cursor (now (log .entry))) ⌝ }
 {
     let stepped = stepping::step(cursor, log);
     let left = stepped.cursor;
@@ -82,9 +83,9 @@ pub extern "C" fn hsp_log_write(
     out: &mut [u8],
 ) -> HspLogWritten
     ensures { λ r. ⌜ (logWrittenAnswer r ≡
-        putNumbers (writing settings (now (rows .entry)) (now (bytes .entry)) (length (now (out .entry)))))
+        putNumbers (writing current settings (now (rows .entry)) (now (bytes .entry)) (length (now (out .entry)))))
         × (now (out .exit) ≡ over
-        (putBytes (writing settings (now (rows .entry)) (now (bytes .entry)) (length (now (out .entry))))) (now (out .entry))) ⌝ }
+        (putBytes (writing current settings (now (rows .entry)) (now (bytes .entry)) (length (now (out .entry))))) (now (out .entry))) ⌝ }
 {
     let answer = writing::write(settings, rows, bytes, out);
     let fields = log_answers::log_written_fields(answer);

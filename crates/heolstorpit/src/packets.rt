@@ -5,6 +5,7 @@ use rtp::settings::Settings;
 use sender::packets;
 ghost use mathlib.Core.Path.{_≡_};
 ghost use lib.ListN.{length};
+ghost use Rattle.rtp.specs.Editions.{current};
 ghost use Rattle.rtp.specs.Areas.{over};
 ghost use Rattle.encoder.specs.Writings.{encodedNumbers, encodedBytes};
 ghost use Rattle.sender.specs.Packets.{sending};
@@ -24,10 +25,10 @@ pub extern "C" fn hsp_write_packet(
     out: &mut [u8],
 ) -> HspWritten
     ensures { λ r. ⌜ (writtenAnswer r ≡
-        encodedNumbers (sending settings «mode_request» (record { marker = marker; sequence = sequence; source = source }) (now (counts .entry)) (now (rows .entry))
+        encodedNumbers (sending current settings «mode_request» (record { marker = marker; sequence = sequence; source = source }) (now (counts .entry)) (now (rows .entry))
         (now (bytes .entry)) (length (now (out .entry)))))
         × (now (out .exit) ≡ over
-        (encodedBytes (sending settings «mode_request» (record { marker = marker; sequence = sequence; source = source }) (now (counts .entry))
+        (encodedBytes (sending current settings «mode_request» (record { marker = marker; sequence = sequence; source = source }) (now (counts .entry))
         (now (rows .entry)) (now (bytes .entry)) (length (now (out .entry))))) (now (out .entry))) ⌝ }
 {
     let answer = packets::write_packet(

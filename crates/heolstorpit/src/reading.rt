@@ -4,6 +4,7 @@ use packet::reading;
 use rtp::settings::Settings;
 ghost use mathlib.Core.Path.{_≡_};
 ghost use lib.ListN.{length};
+ghost use Rattle.rtp.specs.Editions.{current};
 ghost use Rattle.rtp.specs.Areas.{over};
 ghost use Rattle.packet.specs.Readings.{reading, outcomeNumbers, outcomeWords};
 ghost use Rattle.heolstorpit.specs.Answers.{readingAnswer};
@@ -24,8 +25,8 @@ pub struct HspReading {
 
 #[no_mangle]
 pub extern "C" fn hsp_read(settings: Settings, packet: &[u8], rows: &mut [u32]) -> HspReading
-    ensures { λ r. ⌜ (readingAnswer r ≡ outcomeNumbers (reading settings (length (now (rows .entry))) (now (packet .entry))))
-        × (now (rows .exit) ≡ over (outcomeWords (reading settings (length (now (rows .entry))) (now (packet .entry)))) (now (rows .entry))) ⌝ }
+    ensures { λ r. ⌜ (readingAnswer r ≡ outcomeNumbers (reading current settings (length (now (rows .entry))) (now (packet .entry))))
+        × (now (rows .exit) ≡ over (outcomeWords (reading current settings (length (now (rows .entry))) (now (packet .entry)))) (now (rows .entry))) ⌝ }
 {
     let answer = reading::read(settings, packet, rows);
     let fields = read_answers::reading_fields(answer);

@@ -4,6 +4,7 @@ use encoder::writing;
 use rtp::settings::Settings;
 ghost use mathlib.Core.Path.{_≡_};
 ghost use lib.ListN.{length};
+ghost use Rattle.rtp.specs.Editions.{current};
 ghost use Rattle.rtp.specs.Areas.{over};
 ghost use Rattle.encoder.specs.Writings.{writing, encodedNumbers, encodedBytes};
 ghost use Rattle.heolstorpit.specs.Answers.{writtenAnswer};
@@ -24,9 +25,9 @@ pub extern "C" fn hsp_write_payload(
     out: &mut [u8],
 ) -> HspWritten
     ensures { λ r. ⌜ (writtenAnswer r ≡
-        encodedNumbers (writing settings «mode_request» (now (rows .entry)) (now (bytes .entry)) (length (now (out .entry)))))
+        encodedNumbers (writing current settings «mode_request» (now (rows .entry)) (now (bytes .entry)) (length (now (out .entry)))))
         × (now (out .exit) ≡ over
-        (encodedBytes (writing settings «mode_request» (now (rows .entry)) (now (bytes .entry)) (length (now (out .entry))))) (now (out .entry))) ⌝ }
+        (encodedBytes (writing current settings «mode_request» (now (rows .entry)) (now (bytes .entry)) (length (now (out .entry))))) (now (out .entry))) ⌝ }
 {
     let answer = writing::write_payload(settings, mode_request, rows, bytes, out);
     let fields = write_answers::written_fields(answer);

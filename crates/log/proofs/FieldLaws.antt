@@ -7,6 +7,7 @@ use native.Mathlib.Omega.{arith}
 use lib.ListN.{length}
 use lib.Dec.{ltb, eqb}
 use borrow.Author.Tests.{lt-ltb, le-ltb, ltb-false, eqb-true, eq-eqb, ne-eqb}
+use Rattle.rtp.specs.Editions.{Edition}
 use Rattle.rtp.specs.Numbers.{byteAt, be32}
 use Rattle.rtp.specs.Ranges.{inRange}
 use Rattle.rtp.specs.Faults.{fault, faultAt}
@@ -22,9 +23,9 @@ use Rattle.log.specs.Opening.{settingsField, openedBy, opening, openedCu
 use Rattle.log.specs.Stepping.{frameField, endField, nextBy, nextField}
 
 -- what the field at the front is decides
-pub opening-by : (s : List ℕ) (f : Field) → fieldOf s ≡ f → opening s ≡ openedBy s f
+pub opening-by : (ed : Edition) (s : List ℕ) (f : Field) → fieldOf s ≡ f → opening ed s ≡ openedBy ed s f
 unfolding opening
-opening-by s f e = ap (openedBy s) e
+opening-by ed s f e = ap (openedBy ed s) e
 
 pub next-by : (st : Settings) (count : ℕ) (s : List ℕ) (f : Field) → fieldOf s ≡ f → nextField st count s ≡ nextBy st count s f
 unfolding nextField
@@ -32,22 +33,22 @@ next-by st count s f e = ap (nextBy st count s) e
 
 -- the settings' field, by its length and its settings
 
-pub settings-length : (s : List ℕ) (n : ℕ) → (n ≡ settingsSize → ⊥) → settingsField s n ≡ OpenAnswer.Refused NotAllowed
+pub settings-length : (ed : Edition) (s : List ℕ) (n : ℕ) → (n ≡ settingsSize → ⊥) → settingsField ed s n ≡ OpenAnswer.Refused NotAllowed
 unfolding settingsField
-settings-length s n h = rw (ne-eqb n settingsSize h)
+settings-length ed s n h = rw (ne-eqb n settingsSize h)
 
-pub settings-in-range : (s : List ℕ) (n : ℕ) → n ≡ settingsSize → inRange (settingsIn s) ≡ true → settingsField s n ≡ OpenAnswer.Opened (settingsIn s)
+pub settings-in-range : (ed : Edition) (s : List ℕ) (n : ℕ) → n ≡ settingsSize → inRange ed (settingsIn s) ≡ true → settingsField ed s n ≡ OpenAnswer.Opened (settingsIn s)
 unfolding settingsField
-settings-in-range s n h a = rw (eq-eqb n settingsSize h, a)
+settings-in-range ed s n h a = rw (eq-eqb n settingsSize h, a)
 
-pub settings-out-of-range : (s : List ℕ) (n : ℕ) → n ≡ settingsSize → inRange (settingsIn s) ≡ false → settingsField s n ≡ OpenAnswer.Refused NotAllowed
+pub settings-out-of-range : (ed : Edition) (s : List ℕ) (n : ℕ) → n ≡ settingsSize → inRange ed (settingsIn s) ≡ false → settingsField ed s n ≡ OpenAnswer.Refused NotAllowed
 unfolding settingsField
-settings-out-of-range s n h a = rw (eq-eqb n settingsSize h, a)
+settings-out-of-range ed s n h a = rw (eq-eqb n settingsSize h, a)
 
 -- what opening answers and leaves
-pub open-as : (s : List ℕ) (a : OpenAnswer) → opening s ≡ a → openCall s ≡ record { answer = openNumbers a; cursor = openedCursor a }
+pub open-as : (ed : Edition) (s : List ℕ) (a : OpenAnswer) → opening ed s ≡ a → openCall ed s ≡ record { answer = openNumbers a; cursor = openedCursor a }
 unfolding openCall
-open-as s a e = ap (λ (x : OpenAnswer). record { answer = openNumbers x; cursor = openedCursor x }) e
+open-as ed s a e = ap (λ (x : OpenAnswer). record { answer = openNumbers x; cursor = openedCursor x }) e
 
 -- a frame's field, by its length and what the settings allow
 

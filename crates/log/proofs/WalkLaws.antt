@@ -9,6 +9,7 @@ use lib.ListN.{length, drop, length-drop}
 use lib.Seq.{drop-drop}
 use lib.Dec.{ltb}
 use borrow.Author.Tests.{ltb-false, leb-true}
+use Rattle.rtp.specs.Editions.{Edition}
 use Rattle.rtp.specs.Ranges.{inRange}
 use Rattle.rtp.specs.Faults.{fault}
 use Rattle.rtp.specs.declared.refusal.Refusal.the-variants.{SettingsOutOfRange, Malformed}
@@ -98,18 +99,18 @@ walk-inside st count s = by-inside (suc (length s)) st count s
 
 -- A step, by its settings and what the record fits
 
-pub step-out : (c : Cursor) (log : List ℕ) → inRange (c .settings) ≡ false → step c log ≡ StepAnswer.Refused (fault SettingsOutOfRange)
+pub step-out : (ed : Edition) (c : Cursor) (log : List ℕ) → inRange ed (c .settings) ≡ false → step ed c log ≡ StepAnswer.Refused (fault SettingsOutOfRange)
 unfolding step
-step-out c log a = rw a
+step-out ed c log a = rw a
 
-pub step-unfit : (c : Cursor) (log : List ℕ) → inRange (c .settings) ≡ true → cursorFits c (length log) ≡ false → step c log ≡ StepAnswer.Refused (fault Malformed)
+pub step-unfit : (ed : Edition) (c : Cursor) (log : List ℕ) → inRange ed (c .settings) ≡ true → cursorFits c (length log) ≡ false → step ed c log ≡ StepAnswer.Refused (fault Malformed)
 unfolding step
-step-unfit c log a b = rw (a, b)
+step-unfit ed c log a b = rw (a, b)
 
-pub step-walks : (c : Cursor) (log : List ℕ) → inRange (c .settings) ≡ true → cursorFits c (length log) ≡ true
-    → step c log ≡ further (c .place) (walk (c .settings) (c .count) (drop (c .place) log))
+pub step-walks : (ed : Edition) (c : Cursor) (log : List ℕ) → inRange ed (c .settings) ≡ true → cursorFits c (length log) ≡ true
+    → step ed c log ≡ further (c .place) (walk (c .settings) (c .count) (drop (c .place) log))
 unfolding step
-step-walks c log a b = rw (a, b)
+step-walks ed c log a b = rw (a, b)
 
 -- What a record that fits a log says
 pub fits-is : (c : Cursor) (n : ℕ) → cursorFits c n ≡ true → (firstSize ≤ c .place) × (c .place ≤ n) × (c .count ≤ c .place)
@@ -131,20 +132,20 @@ further-stays c log (StepAnswer.Frame f) h g i = (omega arith, behind-inside (c 
 further-stays c log StepAnswer.End h g i = tt
 further-stays c log (StepAnswer.Refused f) h g i = tt
 
-pub step-stays : (c : Cursor) (log : List ℕ) → Stays c (length log) (step c log)
+pub step-stays : (ed : Edition) (c : Cursor) (log : List ℕ) → Stays c (length log) (step ed c log)
 unfolding step
-step-stays c log =
-    by-test (inRange (c .settings))
+step-stays ed c log =
+    by-test (inRange ed (c .settings))
     (λ a. by-test (cursorFits c (length log))
     (λ b. let f = fits-is c (length log) b in rw (a, b) (further-stays c log (walk (c .settings) (c .count) (drop (c .place) log)) (f .1) (f .2) (walk-inside (c .settings) (c .count) (drop (c .place) log))))
     (λ b. rw (a, b) tt))
     (λ a. rw a tt)
 
-pub shown-inside : (c : Cursor) (log : List ℕ) (f : Shown) → step c log ≡ StepAnswer.Frame f
+pub shown-inside : (ed : Edition) (c : Cursor) (log : List ℕ) (f : Shown) → step ed c log ≡ StepAnswer.Frame f
     → (c .place < f .start) × (f .start + f .length ≤ length log) × (c .count + 1 ≤ f .start + f .length)
-shown-inside c log f e = subst (Stays c (length log)) e (step-stays c log)
+shown-inside ed c log f e = subst (Stays c (length log)) e (step-stays ed c log)
 
 -- what a step answers and leaves
-pub step-as : (c : Cursor) (log : List ℕ) (a : StepAnswer) → step c log ≡ a → stepCall c log ≡ record { answer = stepNumbers a; cursor = cursorAfter c a }
+pub step-as : (ed : Edition) (c : Cursor) (log : List ℕ) (a : StepAnswer) → step ed c log ≡ a → stepCall ed c log ≡ record { answer = stepNumbers a; cursor = cursorAfter c a }
 unfolding stepCall
-step-as c log a e = ap (λ (x : StepAnswer). record { answer = stepNumbers x; cursor = cursorAfter c x }) e
+step-as ed c log a e = ap (λ (x : StepAnswer). record { answer = stepNumbers x; cursor = cursorAfter c x }) e

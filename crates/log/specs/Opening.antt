@@ -3,6 +3,7 @@ use Prim.Native.Nat.{ℕ}
 use mathlib.Core.List.{List}
 use mathlib.Core.Bool.{cond}
 use lib.Dec.{eqb}
+use Rattle.rtp.specs.Editions.{Edition}
 use Rattle.rtp.specs.Ranges.{inRange}
 use Rattle.rtp.specs.Refusals.{number}
 use Rattle.rtp.specs.declared.settings.Settings.{Settings}
@@ -14,18 +15,18 @@ use Rattle.log.specs.declared.opening.OpenAnswer.{OpenAnswer}
 use Rattle.log_fields.specs.Fields.{settingsTag, settingsSize, firstSize, fieldOf, settingsIn}
 
 -- a whole field with the settings' tag: its length, then its settings must be allowed
-unfoldable pub settingsField : List ℕ → ℕ → OpenAnswer
-settingsField s n =
-    cond (eqb n settingsSize) (cond (inRange (settingsIn s)) (OpenAnswer.Opened (settingsIn s)) (OpenAnswer.Refused NotAllowed)) (OpenAnswer.Refused NotAllowed)
+unfoldable pub settingsField : Edition → List ℕ → ℕ → OpenAnswer
+settingsField ed s n =
+    cond (eqb n settingsSize) (cond (inRange ed (settingsIn s)) (OpenAnswer.Opened (settingsIn s)) (OpenAnswer.Refused NotAllowed)) (OpenAnswer.Refused NotAllowed)
 
 -- by the first field: another tag, or none, is in the wrong place, cut or not
-abbrev pub openedBy : List ℕ → Field → OpenAnswer
-openedBy s Field.Stopped = OpenAnswer.Refused MisplacedTag
-openedBy s (Field.Cut tag) = cond (eqb tag settingsTag) (OpenAnswer.Refused CutField) (OpenAnswer.Refused MisplacedTag)
-openedBy s (Field.Whole h) = cond (eqb (h .tag) settingsTag) (settingsField s (h .length)) (OpenAnswer.Refused MisplacedTag)
+abbrev pub openedBy : Edition → List ℕ → Field → OpenAnswer
+openedBy ed s Field.Stopped = OpenAnswer.Refused MisplacedTag
+openedBy ed s (Field.Cut tag) = cond (eqb tag settingsTag) (OpenAnswer.Refused CutField) (OpenAnswer.Refused MisplacedTag)
+openedBy ed s (Field.Whole h) = cond (eqb (h .tag) settingsTag) (settingsField ed s (h .length)) (OpenAnswer.Refused MisplacedTag)
 
-unfoldable pub opening : List ℕ → OpenAnswer
-opening s = openedBy s (fieldOf s)
+unfoldable pub opening : Edition → List ℕ → OpenAnswer
+opening ed s = openedBy ed s (fieldOf s)
 
 -- the record after a first field (document 02: settings, place and count): the next field's place, and no frame counted yet; zeros after a refused one
 abbrev pub noSettings : Settings
@@ -52,5 +53,5 @@ pub record OpenOutcome : Type 0 where
   pub answer : OpenNumbers
   pub cursor : Cursor
 
-unfoldable pub openCall : List ℕ → OpenOutcome
-openCall s = record { answer = openNumbers (opening s); cursor = openedCursor (opening s) }
+unfoldable pub openCall : Edition → List ℕ → OpenOutcome
+openCall ed s = record { answer = openNumbers (opening ed s); cursor = openedCursor (opening ed s) }

@@ -4,6 +4,7 @@ use mathlib.Core.List.{List}
 use mathlib.Core.Bool.{Bool, true, false, cond, _&&_}
 use lib.ListN.{length, drop}
 use lib.Dec.{ltb, leb, eqb}
+use Rattle.rtp.specs.Editions.{Edition}
 use Rattle.rtp.specs.Numbers.{byteAt, be32}
 use Rattle.rtp.specs.Ranges.{inRange}
 use Rattle.rtp.specs.Refusals.{number}
@@ -81,9 +82,9 @@ walk st count s = walkBy (suc (length s)) st count s
 abbrev pub cursorFits : Cursor → ℕ → Bool
 cursorFits c n = cond (ltb (c .place) firstSize) false (cond (ltb n (c .place)) false (leb (c .count) (c .place)))
 
-unfoldable pub step : Cursor → List ℕ → StepAnswer
-step c log =
-    cond (inRange (c .settings))
+unfoldable pub step : Edition → Cursor → List ℕ → StepAnswer
+step ed c log =
+    cond (inRange ed (c .settings))
     (cond (cursorFits c (length log)) (further (c .place) (walk (c .settings) (c .count) (drop (c .place) log))) (StepAnswer.Refused (fault Malformed)))
     (StepAnswer.Refused (fault SettingsOutOfRange))
 
@@ -117,5 +118,5 @@ pub record StepOutcome : Type 0 where
   pub answer : StepNumbers
   pub cursor : Cursor
 
-unfoldable pub stepCall : Cursor → List ℕ → StepOutcome
-stepCall c log = record { answer = stepNumbers (step c log); cursor = cursorAfter c (step c log) }
+unfoldable pub stepCall : Edition → Cursor → List ℕ → StepOutcome
+stepCall ed c log = record { answer = stepNumbers (step ed c log); cursor = cursorAfter c (step ed c log) }

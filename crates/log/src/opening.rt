@@ -10,6 +10,7 @@ use rtp::settings::Settings;
 ghost use mathlib.Core.Path.{_≡_};
 ghost use Prim.Native.Nat.{_+_, _≤_};
 ghost use lib.ListN.{length};
+ghost use Rattle.rtp.specs.Editions.{current};
 ghost use Rattle.log_fields.specs.Fields.{headSize, firstSize, settingsIn};
 ghost use Rattle.log.specs.Opening.{settingsField, opening, noCursor, openNumbers, openCall};
 
@@ -47,7 +48,7 @@ fn settings_in(s: &[u8]) -> Settings
 // A whole field with the settings' tag and so many bytes of content.
 fn settings_field(s: &[u8], n: u16) -> OpenAnswer
     requires { ⌜ headSize + n ≤ length (now s) ⌝ }
-    ensures { λ r. ⌜ r ≡ settingsField (now (s .entry)) n ⌝ }
+    ensures { λ r. ⌜ r ≡ settingsField current (now (s .entry)) n ⌝ }
 {
     if n as usize != SETTINGS_SIZE {
         return OpenAnswer::Refused(Refusal::NotAllowed);
@@ -61,7 +62,7 @@ fn settings_field(s: &[u8], n: u16) -> OpenAnswer
 
 // What the first field comes to.
 fn first_field(s: &[u8]) -> OpenAnswer
-    ensures { λ r. ⌜ r ≡ opening (now (s .entry)) ⌝ }
+    ensures { λ r. ⌜ r ≡ opening current (now (s .entry)) ⌝ }
 {
     match fields::field_of(s) {
         Field::Stopped => OpenAnswer::Refused(Refusal::MisplacedTag),
@@ -98,7 +99,7 @@ fn no_cursor() -> Cursor
 
 // Opens a log: the record behind its settings, or a refusal and a record of zeros.
 pub fn open(log: &[u8]) -> Opened
-    ensures { λ r. ⌜ record { answer = openNumbers (r .answer); cursor = r .cursor } ≡ openCall (now (log .entry)) ⌝ }
+    ensures { λ r. ⌜ record { answer = openNumbers (r .answer); cursor = r .cursor } ≡ openCall current (now (log .entry)) ⌝ }
 {
     match first_field(log) {
         OpenAnswer::Opened(settings) => Opened {

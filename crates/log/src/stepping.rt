@@ -11,6 +11,7 @@ use rtp::settings::Settings;
 ghost use mathlib.Core.Path.{_≡_};
 ghost use Prim.Native.Nat.{_≤_};
 ghost use lib.ListN.{length, drop};
+ghost use Rattle.rtp.specs.Editions.{current};
 ghost use Rattle.log.specs.Stepping.{further, walk, cursorFits, step, stepNumbers, stepCall};
 
 pub enum StepAnswer {
@@ -69,7 +70,7 @@ fn walk_from(settings: Settings, count: usize, place: usize, log: &[u8]) -> Step
 
 // What a step comes to.
 fn answer_of(cursor: Cursor, log: &[u8]) -> StepAnswer
-    ensures { λ r. ⌜ r ≡ step cursor (now (log .entry)) ⌝ }
+    ensures { λ r. ⌜ r ≡ step current cursor (now (log .entry)) ⌝ }
 {
     let asked = cursor.settings;
     if !settings::in_range(asked) {
@@ -89,7 +90,7 @@ fn answer_of(cursor: Cursor, log: &[u8]) -> StepAnswer
 
 // A step: the next frame and the record behind it; or the end or a refusal, and the record as given.
 pub fn step(cursor: Cursor, log: &[u8]) -> Stepped
-    ensures { λ r. ⌜ record { answer = stepNumbers (r .answer); cursor = r .cursor } ≡ stepCall cursor (now (log .entry)) ⌝ }
+    ensures { λ r. ⌜ record { answer = stepNumbers (r .answer); cursor = r .cursor } ≡ stepCall current cursor (now (log .entry)) ⌝ }
 {
     let settings = cursor.settings;
     match answer_of(cursor, log) {

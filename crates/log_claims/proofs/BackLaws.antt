@@ -8,6 +8,7 @@ use lib.ListN.{length, length-append}
 use lib.Seq.{take-at, drop-at, drop-drop}
 use lib.Dec.{ltb}
 use borrow.Author.Tests.{le-ltb, eq-eqb, ne-eqb}
+use Rattle.rtp.specs.Editions.{Edition}
 use Rattle.rtp.specs.Numbers.{be16, be32, two, four}
 use Rattle.rtp.specs.Ranges.{inRange}
 use Rattle.rtp.specs.declared.settings.Settings.{Settings}
@@ -38,9 +39,9 @@ module _ (tag : ℕ) (c : List ℕ) (n : ℕ) (size : length c ≡ n) (few : n <
       ∙ ap₂ (λ (d : List ℕ) (t : List ℕ). whole tag d ∷ fieldsOf t) (take-at c rest n size) (sym (drop-drop n headSize Bytes) ∙ drop-at c rest n size)
 
 -- the settings
-pub settings-back : (st : Settings) (rest : List ℕ) → inRange st ≡ true → readLog (settingsBytes st ++ rest) ≡ opened st (readOn st 0 (fieldsOf rest))
+pub settings-back : (ed : Edition) (st : Settings) (rest : List ℕ) → inRange ed st ≡ true → readLog ed (settingsBytes st ++ rest) ≡ opened st (readOn st 0 (fieldsOf rest))
 unfolding settingsBytes readLog readFields settled
-settings-back st rest h =
+settings-back ed st rest h =
     rw (field-back settingsTag (st .format ∷ st .channels ∷ st .«payload_type» ∷ st .«redundancy_type» ∷ []) 4 refl (omega arith) rest)
     (rw h)
 

@@ -10,3 +10,4 @@ pub mod RowLaws
 pub mod RoundTripTheorem
 pub mod PiecesTheorem
 pub mod MarkTheorems
+pub mod EditionTheorems

@@ -7,6 +7,7 @@ use native.Mathlib.Omega.{arith}
 use lib.ListN.{length}
 use lib.Dec.{ltb, eqb}
 use borrow.Author.Tests.{ltb-true}
+use Rattle.rtp.specs.Editions.{Edition}
 use Rattle.rtp.specs.Sizes.{rowWidth}
 use Rattle.rtp.specs.declared.settings.Settings.{Settings}
 use Rattle.rtp.proofs.TestLaws.{by-test, both, either}
@@ -69,9 +70,9 @@ module _ (mark : ℕ) where
   bytes-marked bytes [] = refl
   bytes-marked bytes (r ∷ rs) = ap (λ (l : List ℕ). rowBytes bytes r ++ l) (bytes-marked bytes rs)
 
-pub mark-ignored : MarkIgnored
+pub mark-ignored : (ed : Edition) → MarkIgnored ed
 unfolding writing loggable logBytes
-mark-ignored st ws bytes area =
+mark-ignored ed st ws bytes area =
     let rs = rowsIn ws in
     rw (
       rows-cleared ws,
@@ -113,6 +114,6 @@ not-loggable st ws b =
     (λ n. by-test (allFit st (rowsIn ws)) (λ k. absurd (unknown st ws b k)) (λ k. rw (w, n, k))))
     (λ w. rw w)
 
-pub bit-above-refused : BitAboveRefused
+pub bit-above-refused : (ed : Edition) → BitAboveRefused ed
 unfolding writing
-bit-above-refused st ws bytes area range inside b = rw (range, inside, not-loggable st ws b)
+bit-above-refused ed st ws bytes area range inside b = rw (range, inside, not-loggable st ws b)

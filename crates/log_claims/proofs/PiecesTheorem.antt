@@ -4,6 +4,7 @@ use mathlib.Core.List.{List, _++_}
 use Prim.Native.Nat.{ℕ}
 use native.Mathlib.Omega.{arith}
 use lib.ListN.{length}
+use Rattle.rtp.specs.Editions.{Edition}
 use Rattle.plans.specs.Lists.{rowsIn}
 use Rattle.log_writer.specs.FieldBytes.{settingsBytes, endBytes}
 use Rattle.log_writer.specs.Writings.{logBytes}
@@ -11,18 +12,18 @@ use Rattle.log_claims.specs.Claims.{PiecesAreTheLog, PiecesAreAccepted}
 use Rattle.log_claims.proofs.PutLaws.{settings-put, end-put, put-settings, put-end}
 use Rattle.log_claims.proofs.RowLaws.{accepted, pieces-are, rows-put}
 
-pub pieces-are-the-log : PiecesAreTheLog
+pub pieces-are-the-log : (ed : Edition) → PiecesAreTheLog ed
 unfolding logBytes
-pieces-are-the-log st ws bytes area a b w p m q h s k e =
+pieces-are-the-log ed st ws bytes area a b w p m q h s k e =
     let rs = rowsIn ws in
-    accepted st ws bytes area w h .written .same
-    ∙ sym (ap₂ (λ (u v : List ℕ). u ++ v) (settings-put st a p s .1 .same)
-    (ap₂ (λ (u v : List ℕ). u ++ v) (pieces-are st bytes rs m k) (end-put (length rs) b q e .1 .same)))
+    accepted ed st ws bytes area w h .written .same
+    ∙ sym (ap₂ (λ (u v : List ℕ). u ++ v) (settings-put ed st a p s .1 .same)
+    (ap₂ (λ (u v : List ℕ). u ++ v) (pieces-are ed st bytes rs m k) (end-put (length rs) b q e .1 .same)))
 
 -- Each piece is accepted in an area of the longest field's size
-pub pieces-are-accepted : PiecesAreAccepted
+pub pieces-are-accepted : (ed : Edition) → PiecesAreAccepted ed
 unfolding settingsBytes endBytes
-pieces-are-accepted st ws bytes area small w h l =
-    let a = accepted st ws bytes area w h in
+pieces-are-accepted ed st ws bytes area small w h l =
+    let a = accepted ed st ws bytes area w h in
     let rs = rowsIn ws in
-    (put-settings st small (a .ranged) (omega arith), rows-put st bytes (a .ranged) small l rs (a .inside) (a .fit), put-end (length rs) small (a .few) (omega arith))
+    (put-settings ed st small (a .ranged) (omega arith), rows-put ed st bytes (a .ranged) small l rs (a .inside) (a .fit), put-end (length rs) small (a .few) (omega arith))

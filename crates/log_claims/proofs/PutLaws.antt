@@ -7,6 +7,7 @@ use native.Mathlib.Omega.{arith}
 use lib.ListN.{length}
 use lib.Dec.{ltb}
 use borrow.Author.Tests.{ltb-false, le-ltb}
+use Rattle.rtp.specs.Editions.{Edition}
 use Rattle.rtp.specs.Ranges.{inRange}
 use Rattle.rtp.specs.declared.settings.Settings.{Settings}
 use Rattle.rtp.specs.declared.refusal.Refusal.{Refusal}
@@ -38,15 +39,15 @@ pub has-room : (area : ℕ) (q : List ℕ) → length q ≤ area → roomFor are
 has-room area q h = rw (le-ltb area (length q) h)
 
 -- the three fields
-pub settings-put : (st : Settings) (area : ℕ) (p : List ℕ) → settingsPut st area ≡ bytesOf p → (inRange st ≡ true) × Room area (settingsBytes st) p
+pub settings-put : (ed : Edition) (st : Settings) (area : ℕ) (p : List ℕ) → settingsPut ed st area ≡ bytesOf p → (inRange ed st ≡ true) × Room area (settingsBytes st) p
 unfolding settingsPut
-settings-put st area p h = let a = passing (inRange st) _ _ p h in (a .0, room area (settingsBytes st) p (a .1))
+settings-put ed st area p h = let a = passing (inRange ed st) _ _ p h in (a .0, room area (settingsBytes st) p (a .1))
 
-pub frame-put : (st : Settings) (time channel class : ℕ) (frame : List ℕ) (area : ℕ) (p : List ℕ) → framePut st time channel class frame area ≡ bytesOf p
+pub frame-put : (ed : Edition) (st : Settings) (time channel class : ℕ) (frame : List ℕ) (area : ℕ) (p : List ℕ) → framePut ed st time channel class frame area ≡ bytesOf p
     → (frameFits st channel class (length frame) ≡ true) × Room area (frameBytes time channel class frame) p
 unfolding framePut
-frame-put st time channel class frame area p h =
-    let a = passing (inRange st) _ _ p h in
+frame-put ed st time channel class frame area p h =
+    let a = passing (inRange ed st) _ _ p h in
     let b = passing (frameFits st channel class (length frame)) _ _ p (a .1) in
     (b .0, room area (frameBytes time channel class frame) p (b .1))
 
@@ -55,14 +56,14 @@ unfolding endPut
 end-put n area p h = let a = failing (ltb maxFrames n) _ _ p h in (ltb-false maxFrames n (a .0), room area (endBytes n) p (a .1))
 
 -- .. and the other way
-pub put-settings : (st : Settings) (area : ℕ) → inRange st ≡ true → length (settingsBytes st) ≤ area → settingsPut st area ≡ bytesOf (settingsBytes st)
+pub put-settings : (ed : Edition) (st : Settings) (area : ℕ) → inRange ed st ≡ true → length (settingsBytes st) ≤ area → settingsPut ed st area ≡ bytesOf (settingsBytes st)
 unfolding settingsPut
-put-settings st area i h = rw i (has-room area (settingsBytes st) h)
+put-settings ed st area i h = rw i (has-room area (settingsBytes st) h)
 
-pub put-frame : (st : Settings) (time channel class : ℕ) (frame : List ℕ) (area : ℕ) → inRange st ≡ true → frameFits st channel class (length frame) ≡ true
-    → length (frameBytes time channel class frame) ≤ area → framePut st time channel class frame area ≡ bytesOf (frameBytes time channel class frame)
+pub put-frame : (ed : Edition) (st : Settings) (time channel class : ℕ) (frame : List ℕ) (area : ℕ) → inRange ed st ≡ true → frameFits st channel class (length frame) ≡ true
+    → length (frameBytes time channel class frame) ≤ area → framePut ed st time channel class frame area ≡ bytesOf (frameBytes time channel class frame)
 unfolding framePut
-put-frame st time channel class frame area i f h = rw (i, f) (has-room area (frameBytes time channel class frame) h)
+put-frame ed st time channel class frame area i f h = rw (i, f) (has-room area (frameBytes time channel class frame) h)
 
 pub put-end : (n area : ℕ) → n ≤ maxFrames → length (endBytes n) ≤ area → endPut n area ≡ bytesOf (endBytes n)
 unfolding endPut

@@ -8,6 +8,7 @@ use lib.ListN.{length, drop, length-drop}
 use lib.Seq.{length-take-le}
 use lib.Dec.{ltb}
 use borrow.Author.Tests.{ltb-false}
+use Rattle.rtp.specs.Editions.{Edition}
 use Rattle.rtp.specs.Numbers.{Words}
 use Rattle.rtp.specs.Sizes.{maxFrame}
 use Rattle.rtp.specs.Ranges.{inRange}
@@ -23,17 +24,17 @@ use Rattle.log_claims.specs.Claims.{rowFrame, rowFrames, FramePieces, no
 use Rattle.log_claims.proofs.PutLaws.{passing, failing, Room, room, frame-put, put-frame}
 
 -- what writing that was accepted says
-pub record Accepted (st : Settings) (ws bytes : List ℕ) (area : ℕ) (p : List ℕ) : Type 0 where
-  pub ranged : inRange st ≡ true
+pub record Accepted (ed : Edition) (st : Settings) (ws bytes : List ℕ) (area : ℕ) (p : List ℕ) : Type 0 where
+  pub ranged : inRange ed st ≡ true
   pub inside : outside (length bytes) (rowsIn ws) ≡ false
   pub few : length (rowsIn ws) ≤ maxFrames
   pub fit : allFit st (rowsIn ws) ≡ true
   pub written : Room area (logBytes st bytes (rowsIn ws)) p
 
-pub accepted : (st : Settings) (ws bytes : List ℕ) (area : ℕ) (p : List ℕ) → writing st ws bytes area ≡ bytesOf p → Accepted st ws bytes area p
+pub accepted : (ed : Edition) (st : Settings) (ws bytes : List ℕ) (area : ℕ) (p : List ℕ) → writing ed st ws bytes area ≡ bytesOf p → Accepted ed st ws bytes area p
 unfolding writing loggable
-accepted st ws bytes area p h =
-    let a = passing (inRange st) _ _ p h in
+accepted ed st ws bytes area p h =
+    let a = passing (inRange ed st) _ _ p h in
     let b = failing (outside (length bytes) (rowsIn ws)) _ _ p (a .1) in
     let c = passing (loggable st ws) _ _ p (b .1) in
     let d = both (whole ws) _ (c .0) in
@@ -63,7 +64,7 @@ times (a ∷ b ∷ c ∷ d ∷ ws) h = (h 0, times ws (λ i. h (suc (suc (suc (s
 frame-length : (bytes : List ℕ) (r : Row) → r .start + r .length ≤ length bytes → length (frameIn bytes r) ≡ r .length
 frame-length bytes r h = length-take-le (r .length) (drop (r .start) bytes) (omega (arith, length-drop (r .start) bytes))
 
-module _ (st : Settings) (bytes : List ℕ) (ranged : inRange st ≡ true) where
+module _ (ed : Edition) (st : Settings) (bytes : List ℕ) (ranged : inRange ed st ≡ true) where
   -- the first row, and the others
   record Rest (r : Row) (rs : List Row) : Type 0 where
     fits : frameFits st (r .channel) (r .class) (length (frameIn bytes r)) ≡ true
@@ -79,18 +80,18 @@ module _ (st : Settings) (bytes : List ℕ) (ranged : inRange st ≡ true) where
       record { fits = rw l (b .0); fit = b .1; inside = a .1 }
 
   -- each row's field is accepted, so they are pieces
-  pub row-pieces : (rs : List Row) → outside (length bytes) rs ≡ false → allFit st rs ≡ true → Times rs → FramePieces st (rowFrames bytes rs) (rowsBytes bytes rs)
+  pub row-pieces : (rs : List Row) → outside (length bytes) rs ≡ false → allFit st rs ≡ true → Times rs → FramePieces ed st (rowFrames bytes rs) (rowsBytes bytes rs)
   unfolding rowsBytes rowFrames
   row-pieces [] o f t = none
   row-pieces (r ∷ rs) o f t =
       let x = rest r rs o f in
       let q = frameBytes (r .time) (r .channel) (r .class) (frameIn bytes r) in
       more (rowFrame bytes r) (rowFrames bytes rs) q (rowsBytes bytes rs) (length q) (t .0)
-      (put-frame st (r .time) (r .channel) (r .class) (frameIn bytes r) (length q) ranged (x .fits) (omega arith))
+      (put-frame ed st (r .time) (r .channel) (r .class) (frameIn bytes r) (length q) ranged (x .fits) (omega arith))
       (row-pieces rs (x .inside) (x .fit) (t .1))
 
   -- .. in any area of the longest field's size
-  pub rows-put : (small : ℕ) → longestField ≤ small → (rs : List Row) → outside (length bytes) rs ≡ false → allFit st rs ≡ true → AllPut st small (rowFrames bytes rs)
+  pub rows-put : (small : ℕ) → longestField ≤ small → (rs : List Row) → outside (length bytes) rs ≡ false → allFit st rs ≡ true → AllPut ed st small (rowFrames bytes rs)
   unfolding rowFrames frameBytes
   rows-put small h [] o f = tt
   rows-put small h (r ∷ rs) o f =
@@ -98,7 +99,7 @@ module _ (st : Settings) (bytes : List ℕ) (ranged : inRange st ≡ true) where
       let n = length (frameIn bytes r) in
       let a = both (ltb (r .channel) (st .channels)) _ (x .fits) in
       let l : n ≤ maxFrame = allowed-frame (st .format) (r .class) n (a .1) .1 in
-      (put-frame st (r .time) (r .channel) (r .class) (frameIn bytes r) small ranged (x .fits) (omega arith), rows-put small h rs (x .inside) (x .fit))
+      (put-frame ed st (r .time) (r .channel) (r .class) (frameIn bytes r) small ranged (x .fits) (omega arith), rows-put small h rs (x .inside) (x .fit))
 
 pub length-frames : (bytes : List ℕ) (rs : List Row) → length (rowFrames bytes rs) ≡ length rs
 unfolding rowFrames
@@ -106,8 +107,8 @@ length-frames bytes [] = refl
 length-frames bytes (r ∷ rs) = ap suc (length-frames bytes rs)
 
 -- pieces of the rows' frames are the rows' fields, whatever the areas
-pub pieces-are : (st : Settings) (bytes : List ℕ) (rs : List Row) (m : List ℕ) → FramePieces st (rowFrames bytes rs) m → m ≡ rowsBytes bytes rs
+pub pieces-are : (ed : Edition) (st : Settings) (bytes : List ℕ) (rs : List Row) (m : List ℕ) → FramePieces ed st (rowFrames bytes rs) m → m ≡ rowsBytes bytes rs
 unfolding rowFrames rowsBytes
-pieces-are st bytes [] m none = refl
-pieces-are st bytes (r ∷ rs) m (more f fs p k area t e q) =
-    ap₂ (λ (u v : List ℕ). u ++ v) (frame-put st (r .time) (r .channel) (r .class) (frameIn bytes r) area p e .1 .same) (pieces-are st bytes rs k q)
+pieces-are ed st bytes [] m none = refl
+pieces-are ed st bytes (r ∷ rs) m (more f fs p k area t e q) =
+    ap₂ (λ (u v : List ℕ). u ++ v) (frame-put ed st (r .time) (r .channel) (r .class) (frameIn bytes r) area p e .1 .same) (pieces-are ed st bytes rs k q)

@@ -4,6 +4,7 @@ use mathlib.Core.Path.{_≡_}
 use mathlib.Core.List.{List, [], _∷_, _++_}
 use mathlib.Core.Bool.{true, false}
 use lib.ListN.{length, take, drop}
+use Rattle.rtp.specs.Editions.{Edition}
 use Rattle.rtp.specs.Sizes.{maxFrame}
 use Rattle.rtp.specs.Ranges.{inRange}
 use Rattle.rtp.specs.Refusals.{number}
@@ -39,31 +40,31 @@ stepped go log c StepAnswer.End = ends 0
 stepped go log c (StepAnswer.Refused f) = ends (number (f .refusal))
 
 -- at most so many steps
-unfoldable pub stepsBy : ℕ → List ℕ → Cursor → Read
-stepsBy zero log c = ends 0
-stepsBy (suc k) log c = stepped (λ d. stepsBy k log d) log c (step c log)
+unfoldable pub stepsBy : Edition → ℕ → List ℕ → Cursor → Read
+stepsBy ed zero log c = ends 0
+stepsBy ed (suc k) log c = stepped (λ d. stepsBy ed k log d) log c (step ed c log)
 
 -- opened, and stepped through: a step reads a byte at least, so the log's length is steps enough
-abbrev pub walked : List ℕ → OpenAnswer → Log
-walked log (OpenAnswer.Refused r) = unopened (number r)
-walked log (OpenAnswer.Opened st) = opened st (stepsBy (suc (length log)) log (openedCursor (OpenAnswer.Opened st)))
+abbrev pub walked : Edition → List ℕ → OpenAnswer → Log
+walked ed log (OpenAnswer.Refused r) = unopened (number r)
+walked ed log (OpenAnswer.Opened st) = opened st (stepsBy ed (suc (length log)) log (openedCursor (OpenAnswer.Opened st)))
 
-abbrev pub ReadingIsExact : Type 0
-ReadingIsExact = (log : List ℕ) → walked log (opening log) ≡ readLog log
+abbrev pub ReadingIsExact : Edition → Type 0
+ReadingIsExact ed = (log : List ℕ) → walked ed log (opening ed log) ≡ readLog ed log
 
 -- No step leaves the log: what is shown lies inside it, behind the record's place, and the record stays fit for the next step
-abbrev pub StepsStayInside : Type 0
-StepsStayInside = (log : List ℕ) (c : Cursor) (f : Shown) → step c log ≡ StepAnswer.Frame f
+abbrev pub StepsStayInside : Edition → Type 0
+StepsStayInside ed = (log : List ℕ) (c : Cursor) (f : Shown) → step ed c log ≡ StepAnswer.Frame f
     → (c .place < f .start) × (f .start + f .length ≤ length log) × (c .count + 1 ≤ f .start + f .length)
-    × (inRange (c .settings) ≡ true) × (cursorFits (cursorAfter c (StepAnswer.Frame f)) (length log) ≡ true)
+    × (inRange ed (c .settings) ≡ true) × (cursorFits (cursorAfter c (StepAnswer.Frame f)) (length log) ≡ true)
 
 -- nor does the place of a field at fault
-abbrev pub FaultsStayInside : Type 0
-FaultsStayInside = (log : List ℕ) (c : Cursor) (g : Fault) → step c log ≡ StepAnswer.Refused g → g .offset ≤ length log
+abbrev pub FaultsStayInside : Edition → Type 0
+FaultsStayInside ed = (log : List ℕ) (c : Cursor) (g : Fault) → step ed c log ≡ StepAnswer.Refused g → g .offset ≤ length log
 
 -- the part of the log that a `LogReader` gives (log_reader: `frame`) is the frame that is shown
-abbrev pub FrameIsShown : Type 0
-FrameIsShown = (log : List ℕ) (c : Cursor) (f : Shown) → step c log ≡ StepAnswer.Frame f → partAt (f .start) (f .length) log ≡ partOf log f .bytes
+abbrev pub FrameIsShown : Edition → Type 0
+FrameIsShown ed = (log : List ℕ) (c : Cursor) (f : Shown) → step ed c log ≡ StepAnswer.Frame f → partAt (f .start) (f .length) log ≡ partOf log f .bytes
 
 -- A written log reads back to the same settings and frames, in turn, and then the end
 
@@ -75,23 +76,23 @@ unfoldable pub rowFrames : List ℕ → List Row → List Frame
 rowFrames bytes [] = []
 rowFrames bytes (r ∷ rs) = rowFrame bytes r ∷ rowFrames bytes rs
 
-abbrev pub RoundTrip : Type 0
-RoundTrip = (st : Settings) (ws bytes : List ℕ) (area : ℕ) (p : List ℕ) → Words ws
-    → writing st ws bytes area ≡ bytesOf p
-    → readLog p ≡ opened st (record { frames = rowFrames bytes (rowsIn ws); ending = 0 })
+abbrev pub RoundTrip : Edition → Type 0
+RoundTrip ed = (st : Settings) (ws bytes : List ℕ) (area : ℕ) (p : List ℕ) → Words ws
+    → writing ed st ws bytes area ≡ bytesOf p
+    → readLog ed p ≡ opened st (record { frames = rowFrames bytes (rowsIn ws); ending = 0 })
 
 -- A log written piece by piece, by the three field writers, each into whatever area, is the log that is written at once
 
 -- the fields of frames, each accepted; a time has four bytes
-pub data FramePieces (st : Settings) : List Frame → List ℕ → Type 0 where
-  none : FramePieces st [] []
-  more : (f : Frame) (fs : List Frame) (p m : List ℕ) (area : ℕ) → f .time < 2 ^ 32 → framePut st (f .time) (f .channel) (f .class) (f .bytes) area ≡ bytesOf p
-      → FramePieces st fs m → FramePieces st (f ∷ fs) (p ++ m)
+pub data FramePieces (ed : Edition) (st : Settings) : List Frame → List ℕ → Type 0 where
+  none : FramePieces ed st [] []
+  more : (f : Frame) (fs : List Frame) (p m : List ℕ) (area : ℕ) → f .time < 2 ^ 32 → framePut ed st (f .time) (f .channel) (f .class) (f .bytes) area ≡ bytesOf p
+      → FramePieces ed st fs m → FramePieces ed st (f ∷ fs) (p ++ m)
 
-abbrev pub PiecesAreTheLog : Type 0
-PiecesAreTheLog = (st : Settings) (ws bytes : List ℕ) (area a b : ℕ) (w p m q : List ℕ)
-    → writing st ws bytes area ≡ bytesOf w
-    → settingsPut st a ≡ bytesOf p → FramePieces st (rowFrames bytes (rowsIn ws)) m → endPut (length (rowsIn ws)) b ≡ bytesOf q
+abbrev pub PiecesAreTheLog : Edition → Type 0
+PiecesAreTheLog ed = (st : Settings) (ws bytes : List ℕ) (area a b : ℕ) (w p m q : List ℕ)
+    → writing ed st ws bytes area ≡ bytesOf w
+    → settingsPut ed st a ≡ bytesOf p → FramePieces ed st (rowFrames bytes (rowsIn ws)) m → endPut (length (rowsIn ws)) b ≡ bytesOf q
     → w ≡ p ++ (m ++ q)
 
 -- .. each piece is accepted in any area of the longest field's size, a frame's
@@ -99,31 +100,31 @@ PiecesAreTheLog = (st : Settings) (ws bytes : List ℕ) (area a b : ℕ) (w p m 
 abbrev pub longestField : ℕ
 longestField = headSize + (frameHead + maxFrame)
 
-abbrev pub AllPut : Settings → ℕ → List Frame → Type 0
-AllPut st small [] = Unit {0}
-AllPut st small (f ∷ fs) =
-    (framePut st (f .time) (f .channel) (f .class) (f .bytes) small ≡ bytesOf (frameBytes (f .time) (f .channel) (f .class) (f .bytes))) × AllPut st small fs
+abbrev pub AllPut : Edition → Settings → ℕ → List Frame → Type 0
+AllPut ed st small [] = Unit {0}
+AllPut ed st small (f ∷ fs) =
+    (framePut ed st (f .time) (f .channel) (f .class) (f .bytes) small ≡ bytesOf (frameBytes (f .time) (f .channel) (f .class) (f .bytes))) × AllPut ed st small fs
 
-abbrev pub PiecesAreAccepted : Type 0
-PiecesAreAccepted = (st : Settings) (ws bytes : List ℕ) (area small : ℕ) (w : List ℕ)
-    → writing st ws bytes area ≡ bytesOf w → longestField ≤ small
-    → (settingsPut st small ≡ bytesOf (settingsBytes st)) × AllPut st small (rowFrames bytes (rowsIn ws))
+abbrev pub PiecesAreAccepted : Edition → Type 0
+PiecesAreAccepted ed = (st : Settings) (ws bytes : List ℕ) (area small : ℕ) (w : List ℕ)
+    → writing ed st ws bytes area ≡ bytesOf w → longestField ≤ small
+    → (settingsPut ed st small ≡ bytesOf (settingsBytes st)) × AllPut ed st small (rowFrames bytes (rowsIn ws))
     × (endPut (length (rowsIn ws)) small ≡ bytesOf (endBytes (length (rowsIn ws))))
 
 -- .. and pieces that were each accepted read back to their settings and frames, with as many frames at the end as there were
-abbrev pub PiecesReadBack : Type 0
-PiecesReadBack = (st : Settings) (fs : List Frame) (a b : ℕ) (p m q : List ℕ)
-    → settingsPut st a ≡ bytesOf p → FramePieces st fs m → endPut (length fs) b ≡ bytesOf q
-    → readLog (p ++ (m ++ q)) ≡ opened st (record { frames = fs; ending = 0 })
+abbrev pub PiecesReadBack : Edition → Type 0
+PiecesReadBack ed = (st : Settings) (fs : List Frame) (a b : ℕ) (p m q : List ℕ)
+    → settingsPut ed st a ≡ bytesOf p → FramePieces ed st fs m → endPut (length fs) b ≡ bytesOf q
+    → readLog ed (p ++ (m ++ q)) ≡ opened st (record { frames = fs; ending = 0 })
 
 -- Marks that are ignored
 
 -- whether rows are given as heard first-hand makes no difference (document 02, P6): words are written as the same with bit 16 of each row's second word
 -- cleared are
-abbrev pub MarkIgnored : Type 0
-MarkIgnored = (st : Settings) (ws bytes : List ℕ) (area : ℕ) → writing st (cleared ws) bytes area ≡ writing st ws bytes area
+abbrev pub MarkIgnored : Edition → Type 0
+MarkIgnored ed = (st : Settings) (ws bytes : List ℕ) (area : ℕ) → writing ed st (cleared ws) bytes area ≡ writing ed st ws bytes area
 
 -- that one bit alone is: with a bit above it a row is of no class, and its list is 19
-abbrev pub BitAboveRefused : Type 0
-BitAboveRefused = (st : Settings) (ws bytes : List ℕ) (area : ℕ) → inRange st ≡ true → outside (length bytes) (rowsIn ws) ≡ false
-    → BitAbove ws → writing st ws bytes area ≡ noBytes NotAllowed
+abbrev pub BitAboveRefused : Edition → Type 0
+BitAboveRefused ed = (st : Settings) (ws bytes : List ℕ) (area : ℕ) → inRange ed st ≡ true → outside (length bytes) (rowsIn ws) ≡ false
+    → BitAbove ws → writing ed st ws bytes area ≡ noBytes NotAllowed

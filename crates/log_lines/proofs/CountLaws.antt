@@ -6,6 +6,7 @@ use Prim.Native.Nat.{ℕ, suc, _+_, _-_, _≤_}
 use native.Mathlib.Omega.{arith}
 use lib.ListN.{length}
 use lib.Dec.{eqb}
+use Rattle.rtp.specs.Editions.{current}
 use Rattle.rtp.proofs.RefusalLaws.{number-some}
 use Rattle.log.specs.declared.opening.Cursor.{Cursor}
 use Rattle.log.specs.declared.stepping.StepAnswer.{StepAnswer}
@@ -32,7 +33,7 @@ shown-frame (StepAnswer.Refused f) = rw (number-some (f .refusal))
 abbrev pub onward : Bool → ℕ → ℕ
 onward b n = cond b (suc n) 0
 
-pub by-step : (k : ℕ) (c d : Cursor) (log : List ℕ) (a : StepAnswer) → record { answer = stepNumbers a; cursor = d } ≡ stepCall c log
+pub by-step : (k : ℕ) (c d : Cursor) (log : List ℕ) (a : StepAnswer) → record { answer = stepNumbers a; cursor = d } ≡ stepCall current c log
     → framesBy (suc k) c log ≡ onward (isFrame a) (framesBy k d log)
 unfolding framesBy
 by-step k c d log a e =
@@ -42,7 +43,7 @@ by-step k c d log a e =
 one-left : (n l : ℕ) → n ≤ l → suc l - n ≡ suc (l - n)
 one-left n l h = omega arith
 
-left-step : (n : ℕ) (c d : Cursor) (log : List ℕ) (a : StepAnswer) → n ≤ length log → record { answer = stepNumbers a; cursor = d } ≡ stepCall c log
+left-step : (n : ℕ) (c d : Cursor) (log : List ℕ) (a : StepAnswer) → n ≤ length log → record { answer = stepNumbers a; cursor = d } ≡ stepCall current c log
     → left n c log ≡ onward (isFrame a) (framesBy (length log - n) d log)
 left-step n c d log a h e = ap (λ (k : ℕ). framesBy k c log) (one-left n (length log) h) ∙ by-step (length log - n) c d log a e
 
@@ -55,7 +56,7 @@ counts-start c log =
     plain ∙ ap (λ (k : ℕ). framesBy k c log) all
 
 -- a frame is counted
-pub counts-frame : (n : ℕ) (c d : Cursor) (log : List ℕ) (a : StepAnswer) → n ≤ length log → record { answer = stepNumbers a; cursor = d } ≡ stepCall c log
+pub counts-frame : (n : ℕ) (c d : Cursor) (log : List ℕ) (a : StepAnswer) → n ≤ length log → record { answer = stepNumbers a; cursor = d } ≡ stepCall current c log
     → isFrame a ≡ true → n + 1 + left (n + 1) d log ≡ n + left n c log
 counts-frame n c d log a h e shown =
     let same : length log - n ≡ suc (length log) - (n + 1) = omega arith in
@@ -64,7 +65,7 @@ counts-frame n c d log a h e shown =
     omega (arith, one)
 
 -- behind anything else there is none
-pub counts-none : (n : ℕ) (c d : Cursor) (log : List ℕ) (a : StepAnswer) → n ≤ length log → record { answer = stepNumbers a; cursor = d } ≡ stepCall c log
+pub counts-none : (n : ℕ) (c d : Cursor) (log : List ℕ) (a : StepAnswer) → n ≤ length log → record { answer = stepNumbers a; cursor = d } ≡ stepCall current c log
     → isFrame a ≡ false → n ≡ n + left n c log
 counts-none n c d log a h e shown =
     let none : left n c log ≡ 0 = left-step n c d log a h e ∙ ap (λ (b : Bool). onward b (framesBy (length log - n) d log)) shown in
@@ -91,7 +92,7 @@ opened-zero (OpenAnswer.Opened st) = refl
 opened-zero (OpenAnswer.Refused r) = number-some r
 
 -- opened, it has the frames behind its settings; else none
-pub counts-open : (log : List ℕ) (d : Cursor) (a : OpenAnswer) (b : Bool) → record { answer = openNumbers a; cursor = d } ≡ openCall log → isOpened a ≡ b
+pub counts-open : (log : List ℕ) (d : Cursor) (a : OpenAnswer) (b : Bool) → record { answer = openNumbers a; cursor = d } ≡ openCall current log → isOpened a ≡ b
     → cond b (framesFrom d log) 0 ≡ framesOf log
 unfolding framesOf
 counts-open log d a b e is =

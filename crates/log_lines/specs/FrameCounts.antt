@@ -5,6 +5,7 @@ use mathlib.Core.List.{List}
 use mathlib.Core.Bool.{Bool, false, cond}
 use lib.Dec.{eqb}
 use lib.ListN.{length}
+use Rattle.rtp.specs.Editions.{current}
 use Rattle.log.specs.declared.opening.Cursor.{Cursor}
 use Rattle.log.specs.Opening.{openCall}
 use Rattle.log.specs.Stepping.{StepNumbers, stepCall}
@@ -17,7 +18,7 @@ isShown n = cond (eqb (n .refusal) 0) (eqb (n .end) 0) false
 -- from a record on, in at most so many steps
 unfoldable pub framesBy : ℕ → Cursor → List ℕ → ℕ
 framesBy zero c log = 0
-framesBy (suc k) c log = cond (isShown (stepCall c log .answer)) (suc (framesBy k (stepCall c log .cursor) log)) 0
+framesBy (suc k) c log = cond (isShown (stepCall current c log .answer)) (suc (framesBy k (stepCall current c log .cursor) log)) 0
 
 -- from a record on: a log has fewer frames than bytes
 unfoldable pub framesFrom : Cursor → List ℕ → ℕ
@@ -26,11 +27,11 @@ framesFrom c log = framesBy (suc (length log)) c log
 -- .. so many steps are enough: where a step shows a frame, there is one more than from the record that it leaves
 abbrev pub StepsAreEnough : Type 0
 StepsAreEnough = (c : Cursor) (log : List ℕ) →
-    framesFrom c log ≡ cond (isShown (stepCall c log .answer)) (suc (framesFrom (stepCall c log .cursor) log)) 0
+    framesFrom c log ≡ cond (isShown (stepCall current c log .answer)) (suc (framesFrom (stepCall current c log .cursor) log)) 0
 
 -- of a whole log; one that is not opened shows none
 unfoldable pub framesOf : List ℕ → ℕ
-framesOf log = cond (eqb (openCall log .answer .refusal) 0) (framesFrom (openCall log .cursor) log) 0
+framesOf log = cond (eqb (openCall current log .answer .refusal) 0) (framesFrom (openCall current log .cursor) log) 0
 
 -- Whether standard output takes what is printed is the operating system's answer, and left open; but where all is printed, so are all n frames
 abbrev pub AllPrinted : Printed → ℕ → Type 0

@@ -5,6 +5,7 @@ use log::opening::Cursor;
 use log::stepping;
 use log::stepping::StepAnswer;
 ghost use mathlib.Core.Path.{_≡_};
+ghost use Rattle.rtp.specs.Editions.{current};
 ghost use Rattle.log.specs.Opening.{openCall};
 ghost use Rattle.log.specs.Stepping.{stepNumbers, stepCall};
 ghost use Rattle.log_reader.specs.Readers.{partAt};
@@ -17,7 +18,7 @@ pub struct LogReader<'a> {
 // A reader of a log: behind its settings, or with a cursor of zeros if its first field is refused
 // (the refusal of the first field is what `log::opening::open` answers; `next` then says 11).
 pub fn open<'a>(log: &'a [u8]) -> LogReader<'a>
-    ensures { λ r. ⌜ (r .log ≡ log .entry) × (r .cursor ≡ openCall (now (log .entry)) .cursor) ⌝ }
+    ensures { λ r. ⌜ (r .log ≡ log .entry) × (r .cursor ≡ openCall current (now (log .entry)) .cursor) ⌝ }
 {
     let opened = opening::open(log);
     LogReader {
@@ -28,7 +29,7 @@ pub fn open<'a>(log: &'a [u8]) -> LogReader<'a>
 
 // A step: the next frame, and the reader moves behind it; or the end or a refusal, and the reader stays.
 pub fn next<'s, 'a>(r: &'s mut LogReader<'a>) -> StepAnswer
-    ensures { λ s. ⌜ (now (r .exit) .log ≡ now (r .entry) .log) × (record { answer = stepNumbers s; cursor = now (r .exit) .cursor } ≡ stepCall (now (r .entry) .cursor) (now (now (r .entry) .log))) ⌝ }
+    ensures { λ s. ⌜ (now (r .exit) .log ≡ now (r .entry) .log) × (record { answer = stepNumbers s; cursor = now (r .exit) .cursor } ≡ stepCall current (now (r .entry) .cursor) (now (now (r .entry) .log))) ⌝ }
 {
     let stepped = stepping::step(r.cursor, r.log);
     r.cursor = stepped.cursor;

@@ -9,6 +9,7 @@ use native.Mathlib.Omega.{arith}
 use lib.ListN.{length, take, drop, set}
 use borrow.Author.Tests.{lt-ltb, le-ltb, ltb-true}
 use borrow.Rule.Slice.PartMut.{putMid}
+use Rattle.rtp.specs.Editions.{Edition}
 use Rattle.rtp.specs.Sizes.{maxFrame}
 use Rattle.rtp.specs.Areas.{over, fitted}
 use Rattle.rtp.specs.Numbers.{two, four}
@@ -101,16 +102,16 @@ room-short area p h = rw (lt-ltb area (length p) h)
 pub room-enough : (area : ℕ) (p : List ℕ) → length p ≤ area → roomFor area p ≡ bytesOf p
 room-enough area p h = rw (le-ltb area (length p) h)
 
-module _ (st : Settings) (area : ℕ) where
-  pub settings-refused : inRange st ≡ false → settingsPut st area ≡ noBytes SettingsOutOfRange
+module _ (ed : Edition) (st : Settings) (area : ℕ) where
+  pub settings-refused : inRange ed st ≡ false → settingsPut ed st area ≡ noBytes SettingsOutOfRange
   unfolding settingsPut
   settings-refused h = rw h
 
-  pub settings-short : inRange st ≡ true → area < firstSize → settingsPut st area ≡ noBytes AreaTooShort
+  pub settings-short : inRange ed st ≡ true → area < firstSize → settingsPut ed st area ≡ noBytes AreaTooShort
   unfolding settingsPut settingsBytes
   settings-short h s = rw (h, lt-ltb area 7 s)
 
-  pub settings-put : inRange st ≡ true → firstSize ≤ area → settingsPut st area ≡ bytesOf (settingsBytes st)
+  pub settings-put : inRange ed st ≡ true → firstSize ≤ area → settingsPut ed st area ≡ bytesOf (settingsBytes st)
   unfolding settingsPut settingsBytes
   settings-put h s = rw (h, le-ltb area 7 s)
 
@@ -149,25 +150,25 @@ long-unfit : (st : Settings) (channel class n : ℕ) → maxFrame < n → frameF
 long-unfit st channel class n l =
     by-test (frameFits st channel class n) (λ h. let s = fits-small st channel class n h in absurd (omega arith)) (λ h. h)
 
-module _ (st : Settings) (time channel class : ℕ) (frame : List ℕ) (area : ℕ) where
-  pub frame-refused : inRange st ≡ false → framePut st time channel class frame area ≡ noBytes SettingsOutOfRange
+module _ (ed : Edition) (st : Settings) (time channel class : ℕ) (frame : List ℕ) (area : ℕ) where
+  pub frame-refused : inRange ed st ≡ false → framePut ed st time channel class frame area ≡ noBytes SettingsOutOfRange
   unfolding framePut
   frame-refused h = rw h
 
-  pub frame-unfit : inRange st ≡ true → frameFits st channel class (length frame) ≡ false → framePut st time channel class frame area ≡ noBytes NotAllowed
+  pub frame-unfit : inRange ed st ≡ true → frameFits st channel class (length frame) ≡ false → framePut ed st time channel class frame area ≡ noBytes NotAllowed
   unfolding framePut
   frame-unfit h f = rw (h, f)
 
-  pub frame-long : inRange st ≡ true → maxFrame < length frame → framePut st time channel class frame area ≡ noBytes NotAllowed
+  pub frame-long : inRange ed st ≡ true → maxFrame < length frame → framePut ed st time channel class frame area ≡ noBytes NotAllowed
   frame-long h l = frame-unfit h (long-unfit st channel class (length frame) l)
 
-  module _ (h : inRange st ≡ true) (f : frameFits st channel class (length frame) ≡ true) where
-    roomy : framePut st time channel class frame area ≡ roomFor area (frameBytes time channel class frame)
+  module _ (h : inRange ed st ≡ true) (f : frameFits st channel class (length frame) ≡ true) where
+    roomy : framePut ed st time channel class frame area ≡ roomFor area (frameBytes time channel class frame)
     unfolding framePut
     roomy = rw (h, f)
 
-    pub frame-short : area < frameStart + length frame → framePut st time channel class frame area ≡ noBytes AreaTooShort
+    pub frame-short : area < frameStart + length frame → framePut ed st time channel class frame area ≡ noBytes AreaTooShort
     frame-short s = roomy ∙ room-short area (frameBytes time channel class frame) (rw (length-frame time channel class frame) s)
 
-    pub frame-put : frameStart + length frame ≤ area → framePut st time channel class frame area ≡ bytesOf (frameBytes time channel class frame)
+    pub frame-put : frameStart + length frame ≤ area → framePut ed st time channel class frame area ≡ bytesOf (frameBytes time channel class frame)
     frame-put s = roomy ∙ room-enough area (frameBytes time channel class frame) (rw (length-frame time channel class frame) s)

@@ -8,6 +8,7 @@ use lib.ListN.{length, take, drop, length-append}
 use lib.Dec.{ltb}
 use borrow.Author.Tests.{lt-ltb, le-ltb, eq-eqb, ne-eqb, ltb-false}
 use borrow.Rule.Slice.PartMut.{putMid}
+use Rattle.rtp.specs.Editions.{Edition}
 use Rattle.rtp.specs.Sizes.{rowWidth}
 use Rattle.rtp.specs.Areas.{over}
 use Rattle.rtp.specs.Ranges.{inRange}
@@ -64,18 +65,18 @@ module _ (st : Settings) (ws bytes l m e z : List ℕ) (inner : ℕ) (r : LogRoo
 
 -- What writing it comes to
 
-module _ (st : Settings) (ws bytes : List ℕ) (area : ℕ) where
-  pub log-refused : inRange st ≡ false → writing st ws bytes area ≡ noBytes SettingsOutOfRange
+module _ (ed : Edition) (st : Settings) (ws bytes : List ℕ) (area : ℕ) where
+  pub log-refused : inRange ed st ≡ false → writing ed st ws bytes area ≡ noBytes SettingsOutOfRange
   unfolding writing
   log-refused h = rw h
 
-  module _ (h : inRange st ≡ true) where
-    pub log-outside : outside (length bytes) (rowsIn ws) ≡ true → writing st ws bytes area ≡ noBytes RowOutsideBytes
+  module _ (h : inRange ed st ≡ true) where
+    pub log-outside : outside (length bytes) (rowsIn ws) ≡ true → writing ed st ws bytes area ≡ noBytes RowOutsideBytes
     unfolding writing
     log-outside o = rw (h, o)
 
     module _ (o : outside (length bytes) (rowsIn ws) ≡ false) where
-      pub log-unfit : loggable st ws ≡ false → writing st ws bytes area ≡ noBytes NotAllowed
+      pub log-unfit : loggable st ws ≡ false → writing ed st ws bytes area ≡ noBytes NotAllowed
       unfolding writing
       log-unfit k = rw (h, o, k)
 
@@ -97,12 +98,12 @@ module _ (st : Settings) (ws bytes : List ℕ) (area : ℕ) where
           pub length-whole : length (logBytes st bytes (rowsIn ws)) ≡ firstSize + inner + lastSize
           length-whole = length-log st bytes ws o ∙ rw i
 
-          roomy : writing st ws bytes area ≡ roomFor area (logBytes st bytes (rowsIn ws))
+          roomy : writing ed st ws bytes area ≡ roomFor area (logBytes st bytes (rowsIn ws))
           unfolding writing
           roomy = rw (h, o, k)
 
-          pub log-short : area < firstSize + inner + lastSize → writing st ws bytes area ≡ noBytes AreaTooShort
+          pub log-short : area < firstSize + inner + lastSize → writing ed st ws bytes area ≡ noBytes AreaTooShort
           log-short s = roomy ∙ room-short area (logBytes st bytes (rowsIn ws)) (rw length-whole s)
 
-          pub log-put : firstSize + inner + lastSize ≤ area → writing st ws bytes area ≡ bytesOf (logBytes st bytes (rowsIn ws))
+          pub log-put : firstSize + inner + lastSize ≤ area → writing ed st ws bytes area ≡ bytesOf (logBytes st bytes (rowsIn ws))
           log-put s = roomy ∙ room-enough area (logBytes st bytes (rowsIn ws)) (rw length-whole s)

@@ -4,6 +4,7 @@ use mathlib.Core.List.{List, [], _∷_, _++_}
 use mathlib.Core.Bool.{cond}
 use lib.ListN.{length}
 use lib.Dec.{ltb}
+use Rattle.rtp.specs.Editions.{Edition}
 use Rattle.rtp.specs.Numbers.{two, four}
 use Rattle.rtp.specs.Ranges.{inRange}
 use Rattle.rtp.specs.Refusals.{number}
@@ -40,12 +41,12 @@ abbrev pub roomFor : ℕ → List ℕ → Put
 roomFor area p = cond (ltb area (length p)) (noBytes AreaTooShort) (bytesOf p)
 
 -- each into an area of so many bytes: the order is 11, 19, 12
-unfoldable pub settingsPut : Settings → ℕ → Put
-settingsPut st area = cond (inRange st) (roomFor area (settingsBytes st)) (noBytes SettingsOutOfRange)
+unfoldable pub settingsPut : Edition → Settings → ℕ → Put
+settingsPut ed st area = cond (inRange ed st) (roomFor area (settingsBytes st)) (noBytes SettingsOutOfRange)
 
-unfoldable pub framePut : Settings → ℕ → ℕ → ℕ → List ℕ → ℕ → Put
-framePut st time channel class frame area =
-    cond (inRange st)
+unfoldable pub framePut : Edition → Settings → ℕ → ℕ → ℕ → List ℕ → ℕ → Put
+framePut ed st time channel class frame area =
+    cond (inRange ed st)
     (cond (frameFits st channel class (length frame)) (roomFor area (frameBytes time channel class frame)) (noBytes NotAllowed))
     (noBytes SettingsOutOfRange)
 

@@ -4,6 +4,7 @@ use mathlib.Core.List.{List, [], _∷_, _++_}
 use mathlib.Core.Bool.{Bool, true, false, cond}
 use lib.ListN.{length}
 use lib.Dec.{ltb}
+use Rattle.rtp.specs.Editions.{Edition}
 use Rattle.rtp.specs.Ranges.{inRange}
 use Rattle.rtp.specs.declared.settings.Settings.{Settings}
 use Rattle.rtp.specs.declared.refusal.Refusal.the-variants.{SettingsOutOfRange, RowOutsideBytes, NotAllowed}
@@ -39,9 +40,9 @@ unfoldable pub loggable : Settings → List ℕ → Bool
 loggable st ws = cond (whole ws) (cond (ltb maxFrames (length (rowsIn ws))) false (allFit st (rowsIn ws))) false
 
 -- writing the rows in ws, which point into bytes, into an area of so many bytes: the order is 11, 14, 19, 12
-unfoldable pub writing : Settings → List ℕ → List ℕ → ℕ → Put
-writing st ws bytes area =
-    cond (inRange st)
+unfoldable pub writing : Edition → Settings → List ℕ → List ℕ → ℕ → Put
+writing ed st ws bytes area =
+    cond (inRange ed st)
     (cond (outside (length bytes) (rowsIn ws)) (noBytes RowOutsideBytes)
     (cond (loggable st ws) (roomFor area (logBytes st bytes (rowsIn ws))) (noBytes NotAllowed)))
     (noBytes SettingsOutOfRange)

@@ -17,6 +17,7 @@ ghost use mathlib.Core.Path.{_≡_};
 ghost use mathlib.Core.List.{_∷_};
 ghost use Prim.Native.Nat.{_≤_};
 ghost use lib.ListN.{length};
+ghost use Rattle.rtp.specs.Editions.{current};
 ghost use Rattle.rtp.specs.Areas.{over};
 ghost use Rattle.rtp.specs.Numbers.{two};
 ghost use Rattle.log_fields.specs.Fields.{headSize, firstSize};
@@ -81,8 +82,8 @@ pub(crate) fn lay_end(count: u32, out: &mut [u8])
 
 // The first field of a log.
 pub fn put_settings(asked: Settings, out: &mut [u8]) -> LogWritten
-    ensures { λ r. ⌜ (writtenNumbers r ≡ putNumbers (settingsPut asked (length (now (out .entry)))))
-        × (now (out .exit) ≡ over (putBytes (settingsPut asked (length (now (out .entry))))) (now (out .entry))) ⌝ }
+    ensures { λ r. ⌜ (writtenNumbers r ≡ putNumbers (settingsPut current asked (length (now (out .entry)))))
+        × (now (out .exit) ≡ over (putBytes (settingsPut current asked (length (now (out .entry))))) (now (out .entry))) ⌝ }
 {
     if !settings::in_range(asked) {
         return LogWritten::Refused(Refusal::SettingsOutOfRange);
@@ -103,8 +104,8 @@ pub fn put_frame(
     frame: &[u8],
     out: &mut [u8],
 ) -> LogWritten
-    ensures { λ r. ⌜ (writtenNumbers r ≡ putNumbers (framePut asked time channel class (now (frame .entry)) (length (now (out .entry)))))
-        × (now (out .exit) ≡ over (putBytes (framePut asked time channel class (now (frame .entry)) (length (now (out .entry))))) (now (out .entry))) ⌝ }
+    ensures { λ r. ⌜ (writtenNumbers r ≡ putNumbers (framePut current asked time channel class (now (frame .entry)) (length (now (out .entry)))))
+        × (now (out .exit) ≡ over (putBytes (framePut current asked time channel class (now (frame .entry)) (length (now (out .entry))))) (now (out .entry))) ⌝ }
 {
     if !settings::in_range(asked) {
         return LogWritten::Refused(Refusal::SettingsOutOfRange);

@@ -16,6 +16,7 @@ use tags::tagging;
 ghost use mathlib.Core.Path.{_≡_};
 ghost use lib.ListN.{length};
 ghost use Prim.Native.Nat.{_<_, _^_};
+ghost use Rattle.rtp.specs.Editions.{current};
 ghost use Rattle.rtp.specs.Areas.{over};
 ghost use Rattle.plans.specs.Lists.{rowsIn};
 ghost use Rattle.plans.specs.Room.{rowAs};
@@ -116,9 +117,9 @@ fn lay_log(asked: Settings, rows: &[u32], bytes: &[u8], inner: usize, out: &mut 
 // The log of the rows, whose frames lie in `bytes`, over the front of the area; or a refusal and the area unchanged.
 pub fn write(asked: Settings, rows: &[u32], bytes: &[u8], out: &mut [u8]) -> LogWritten
     ensures { λ r. ⌜ (writtenNumbers r ≡
-        putNumbers (writing asked (now (rows .entry)) (now (bytes .entry)) (length (now (out .entry)))))
+        putNumbers (writing current asked (now (rows .entry)) (now (bytes .entry)) (length (now (out .entry)))))
         × (now (out .exit) ≡ over
-        (putBytes (writing asked (now (rows .entry)) (now (bytes .entry)) (length (now (out .entry))))) (now (out .entry))) ⌝ }
+        (putBytes (writing current asked (now (rows .entry)) (now (bytes .entry)) (length (now (out .entry))))) (now (out .entry))) ⌝ }
 {
     if !settings::in_range(asked) {
         return LogWritten::Refused(Refusal::SettingsOutOfRange);

@@ -6,6 +6,7 @@ use Prim.Native.Nat.{ℕ, _+_, _-_, _≤_, _<_}
 use native.Mathlib.Omega.{arith}
 use lib.ListN.{length, length-take, length-drop}
 use borrow.Author.Tests.{eq-eqb, ne-eqb, lt-ltb, le-ltb}
+use Rattle.rtp.specs.Editions.{Edition}
 use Rattle.rtp.specs.Areas.{over}
 use Rattle.rtp.specs.Sizes.{maxPacket, rowArea}
 use Rattle.rtp.specs.Ranges.{inRange}
@@ -34,41 +35,41 @@ use Rattle.red.proofs.AskedLaws.{redundant-in}
 pub payload-fits : (s : List ℕ) (h : Header) → header s ≡ HeaderRead.Header h → h .start + length (payloadIn s h) ≤ maxPacket
 payload-fits s h q = let w = within s h q in simp (length-take, length-drop) (omega arith)
 
-module _ (st : Settings) (h : Header) (s : List ℕ) where
-  pub typed-plain : inRange st ≡ true → (area : ℕ) → rowArea ≤ area → header s ≡ HeaderRead.Header h → h .«payload_type» ≡ st .«payload_type»
-      → askedRows primaryMark st 0 area (h .timestamp) (h .start) (payloadIn s h) ≡ typedRows st h (payloadIn s h)
+module _ (ed : Edition) (st : Settings) (h : Header) (s : List ℕ) where
+  pub typed-plain : inRange ed st ≡ true → (area : ℕ) → rowArea ed ≤ area → header s ≡ HeaderRead.Header h → h .«payload_type» ≡ st .«payload_type»
+      → askedRows ed primaryMark st 0 area (h .timestamp) (h .start) (payloadIn s h) ≡ typedRows ed st h (payloadIn s h)
   unfolding typedRows
-  typed-plain i area f q e = asked-in primaryMark st 0 area (h .timestamp) (h .start) (payloadIn s h) i (omega arith) (payload-fits s h q) ∙ rw (eq-eqb _ _ e)
+  typed-plain i area f q e = asked-in ed primaryMark st 0 area (h .timestamp) (h .start) (payloadIn s h) i (omega arith) (payload-fits s h q) ∙ rw (eq-eqb _ _ e)
 
   module _ (n : h .«payload_type» ≡ st .«payload_type» → ⊥) where
-    pub typed-redundant : inRange st ≡ true → (area : ℕ) → rowArea ≤ area → header s ≡ HeaderRead.Header h → h .«payload_type» ≡ st .«redundancy_type»
-        → askedRedundant st area (h .timestamp) (h .start) (payloadIn s h) ≡ typedRows st h (payloadIn s h)
+    pub typed-redundant : inRange ed st ≡ true → (area : ℕ) → rowArea ed ≤ area → header s ≡ HeaderRead.Header h → h .«payload_type» ≡ st .«redundancy_type»
+        → askedRedundant ed st area (h .timestamp) (h .start) (payloadIn s h) ≡ typedRows ed st h (payloadIn s h)
     unfolding typedRows
-    typed-redundant i area f q e = redundant-in st area (h .timestamp) (h .start) (payloadIn s h) i f (payload-fits s h q) ∙ rw (ne-eqb _ _ n, eq-eqb _ _ e)
+    typed-redundant i area f q e = redundant-in ed st area (h .timestamp) (h .start) (payloadIn s h) i f (payload-fits s h q) ∙ rw (ne-eqb _ _ n, eq-eqb _ _ e)
 
-    pub typed-other : (h .«payload_type» ≡ st .«redundancy_type» → ⊥) → typedRows st h (payloadIn s h) ≡ noRows (fault UnknownPayloadType)
+    pub typed-other : (h .«payload_type» ≡ st .«redundancy_type» → ⊥) → typedRows ed st h (payloadIn s h) ≡ noRows (fault UnknownPayloadType)
     unfolding typedRows
     typed-other e = rw (ne-eqb _ _ n, ne-eqb _ _ e)
 
 -- Reading a packet
 
-pub reading-out : (st : Settings) (area : ℕ) (s : List ℕ) → inRange st ≡ false → reading st area s ≡ refused (fault SettingsOutOfRange)
+pub reading-out : (ed : Edition) (st : Settings) (area : ℕ) (s : List ℕ) → inRange ed st ≡ false → reading ed st area s ≡ refused (fault SettingsOutOfRange)
 unfolding reading
-reading-out st area s i = rw i
+reading-out ed st area s i = rw i
 
-module _ (st : Settings) (area : ℕ) (s : List ℕ) (i : inRange st ≡ true) where
-  pub reading-short : area < rowArea → reading st area s ≡ refused (fault AreaTooShort)
+module _ (ed : Edition) (st : Settings) (area : ℕ) (s : List ℕ) (i : inRange ed st ≡ true) where
+  pub reading-short : area < rowArea ed → reading ed st area s ≡ refused (fault AreaTooShort)
   unfolding reading
   reading-short f = rw (i, lt-ltb _ _ f)
 
-  module _ (f : rowArea ≤ area) where
-    pub reading-refused : (r : Refusal) → header s ≡ HeaderRead.Refused r → reading st area s ≡ refused (fault r)
+  module _ (f : rowArea ed ≤ area) where
+    pub reading-refused : (r : Refusal) → header s ≡ HeaderRead.Refused r → reading ed st area s ≡ refused (fault r)
     unfolding reading
-    reading-refused r q = rw (i, le-ltb area rowArea f, q)
+    reading-refused r q = rw (i, le-ltb area (rowArea ed) f, q)
 
-    pub reading-headed : (h : Header) → header s ≡ HeaderRead.Header h → reading st area s ≡ outcomeOf h (typedRequest st (h .«payload_type») (payloadIn s h)) (typedRows st h (payloadIn s h))
+    pub reading-headed : (h : Header) → header s ≡ HeaderRead.Header h → reading ed st area s ≡ outcomeOf h (typedRequest st (h .«payload_type») (payloadIn s h)) (typedRows ed st h (payloadIn s h))
     unfolding reading
-    reading-headed h q = rw (i, le-ltb area rowArea f, q)
+    reading-headed h q = rw (i, le-ltb area (rowArea ed) f, q)
 
 -- The answer r, with the area l left as m, is what reading came to
 

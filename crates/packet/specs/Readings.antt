@@ -4,6 +4,7 @@ use mathlib.Core.List.{List, []}
 use mathlib.Core.Bool.{cond}
 use lib.ListN.{length, take, drop}
 use lib.Dec.{ltb, eqb}
+use Rattle.rtp.specs.Editions.{Edition}
 use Rattle.rtp.specs.Sizes.{rowArea}
 use Rattle.rtp.specs.Ranges.{inRange}
 use Rattle.rtp.specs.Refusals.{number}
@@ -26,10 +27,10 @@ abbrev pub payloadIn : List ℕ → Header → List ℕ
 payloadIn s h = take (h .end - h .start) (drop (h .start) s)
 
 -- the rows of a payload by the packet's type: the payload type, heard first-hand, the redundancy type, or neither
-unfoldable pub typedRows : Settings → Header → List ℕ → Rows
-typedRows st h p =
-    cond (eqb (h .«payload_type») (st .«payload_type»)) (payloadRows primaryMark (st .format) (st .channels) 0 (h .timestamp) (h .start) p)
-    (cond (eqb (h .«payload_type») (st .«redundancy_type»)) (redundantRows st (h .timestamp) (h .start) p) (noRows (fault UnknownPayloadType)))
+unfoldable pub typedRows : Edition → Settings → Header → List ℕ → Rows
+typedRows ed st h p =
+    cond (eqb (h .«payload_type») (st .«payload_type»)) (payloadRows ed primaryMark (st .format) (st .channels) 0 (h .timestamp) (h .start) p)
+    (cond (eqb (h .«payload_type») (st .«redundancy_type»)) (redundantRows ed st (h .timestamp) (h .start) p) (noRows (fault UnknownPayloadType)))
 
 -- what reading a packet comes to: a fault, its place in the whole packet, or the header, the rows and the mode request
 pub data Outcome : Type 0 where
@@ -41,15 +42,15 @@ outcomeOf h request (noRows f) = refused f
 outcomeOf h request (rowsOf rs) = readAs h rs request
 
 -- reading a packet under settings in range
-abbrev pub headedBy : Settings → List ℕ → HeaderRead → Outcome
-headedBy st s (HeaderRead.Refused r) = refused (fault r)
-headedBy st s (HeaderRead.Header h) = outcomeOf h (typedRequest st (h .«payload_type») (payloadIn s h)) (typedRows st h (payloadIn s h))
+abbrev pub headedBy : Edition → Settings → List ℕ → HeaderRead → Outcome
+headedBy ed st s (HeaderRead.Refused r) = refused (fault r)
+headedBy ed st s (HeaderRead.Header h) = outcomeOf h (typedRequest st (h .«payload_type») (payloadIn s h)) (typedRows ed st h (payloadIn s h))
 
 -- reading the packet s into an area of so many words
-unfoldable pub reading : Settings → ℕ → List ℕ → Outcome
-reading st area s =
-    cond (inRange st)
-    (cond (ltb area rowArea) (refused (fault AreaTooShort)) (headedBy st s (header s)))
+unfoldable pub reading : Edition → Settings → ℕ → List ℕ → Outcome
+reading ed st area s =
+    cond (inRange ed st)
+    (cond (ltb area (rowArea ed)) (refused (fault AreaTooShort)) (headedBy ed st s (header s)))
     (refused (fault SettingsOutOfRange))
 
 -- The answer in numbers: the refusal number or 0 and the place of the fault, then row count, M, sequence, timestamp, source and mode request, all 0 on refusal

@@ -15,6 +15,7 @@ ghost use mathlib.Core.Path.{_≡_};
 ghost use mathlib.Core.Bool.{true};
 ghost use Prim.Native.Nat.{_≤_};
 ghost use lib.ListN.{length};
+ghost use Rattle.rtp.specs.Editions.{current};
 ghost use Rattle.rtp.specs.Sizes.{rowArea};
 ghost use Rattle.rtp.specs.Areas.{over};
 ghost use Rattle.rtp.specs.Ranges.{inRange};
@@ -40,9 +41,9 @@ pub enum Reading {
 
 // The payload of a packet with this header, by the packet's type.
 fn read_typed(settings: Settings, head: Header, packet: &[u8], rows: &mut [u32]) -> PayloadRead
-    requires { ⌜ (inRange settings ≡ true) × (rowArea ≤ length (now rows)) × (header (now packet) ≡ HeaderRead.Header head) ⌝ }
-    ensures { λ r. ⌜ (r ≡ rowsAnswer (typedRows settings head (payloadIn (now (packet .entry)) head)))
-        × (now (rows .exit) ≡ over (rowsWords (typedRows settings head (payloadIn (now (packet .entry)) head))) (now (rows .entry))) ⌝ }
+    requires { ⌜ (inRange current settings ≡ true) × (rowArea current ≤ length (now rows)) × (header (now packet) ≡ HeaderRead.Header head) ⌝ }
+    ensures { λ r. ⌜ (r ≡ rowsAnswer (typedRows current settings head (payloadIn (now (packet .entry)) head)))
+        × (now (rows .exit) ≡ over (rowsWords (typedRows current settings head (payloadIn (now (packet .entry)) head))) (now (rows .entry))) ⌝ }
 {
     let start = head.start;
     let end = head.end;
@@ -69,8 +70,8 @@ fn read_typed(settings: Settings, head: Header, packet: &[u8], rows: &mut [u32])
 
 // The packet's rows at the front of the area, with the row count, the header and the mode request; or a refusal, and the area unchanged.
 pub fn read(settings: Settings, packet: &[u8], rows: &mut [u32]) -> Reading
-    ensures { λ r. ⌜ (readingNumbers r ≡ outcomeNumbers (reading settings (length (now (rows .entry))) (now (packet .entry))))
-        × (now (rows .exit) ≡ over (outcomeWords (reading settings (length (now (rows .entry))) (now (packet .entry)))) (now (rows .entry))) ⌝ }
+    ensures { λ r. ⌜ (readingNumbers r ≡ outcomeNumbers (reading current settings (length (now (rows .entry))) (now (packet .entry))))
+        × (now (rows .exit) ≡ over (outcomeWords (reading current settings (length (now (rows .entry))) (now (packet .entry)))) (now (rows .entry))) ⌝ }
 {
     if rtp::settings::in_range(settings) {
         if rows.len() < ROW_AREA {

@@ -7,6 +7,7 @@ use native.Mathlib.Omega.{arith}
 use lib.ListN.{length, take, drop}
 use lib.Dec.{ltb, eqb}
 use borrow.Author.Tests.{le-ltb}
+use Rattle.rtp.specs.Editions.{Edition}
 use Rattle.rtp.specs.Sizes.{minPacket, maxPacket, maxRows, rowArea}
 use Rattle.rtp.specs.Numbers.{byteAt}
 use Rattle.rtp.specs.Ranges.{inRange}
@@ -61,20 +62,20 @@ more-placed : (n : ℕ) (g : Group) (p : Contents) → TablePlaced p → TablePl
 more-placed n g (unread f) h = h
 more-placed n g (groups gs) h = tt
 
-step-placed : (format ch rows : ℕ) (s : List ℕ) (next : ℕ → List ℕ → Contents) → ((n : ℕ) (t : List ℕ) → TablePlaced (next n t))
-    → (r : EntryRead) → EntryPlaced r → TablePlaced (contentsStep format ch rows s next r)
+step-placed : (ed : Edition) (format ch rows : ℕ) (s : List ℕ) (next : ℕ → List ℕ → Contents) → ((n : ℕ) (t : List ℕ) → TablePlaced (next n t))
+    → (r : EntryRead) → EntryPlaced r → TablePlaced (contentsStep ed format ch rows s next r)
 unfolding meaning
-step-placed format ch rows s next ih (EntryRead.Refused r) h = h
-step-placed format ch rows s next ih (EntryRead.Entry e) h =
-    by-test (ltb maxRows (rows + e .blocks * ch)) (λ a. rw a (omega arith, omega arith))
+step-placed ed format ch rows s next ih (EntryRead.Refused r) h = h
+step-placed ed format ch rows s next ih (EntryRead.Entry e) h =
+    by-test (ltb (maxRows ed) (rows + e .blocks * ch)) (λ a. rw a (omega arith, omega arith))
     (λ a. by-test (e .more)
     (λ m. rw (a, m) (more-placed (e .size) (meaning format s e) (next (rows + e .blocks * ch) (drop (e .size) s)) (ih (rows + e .blocks * ch) (drop (e .size) s))))
     (λ m. rw (a, m) tt))
 
-table-by : (f format ch rows : ℕ) (s : List ℕ) → TablePlaced (contentsBy f format ch rows s)
+table-by : (ed : Edition) (f format ch rows : ℕ) (s : List ℕ) → TablePlaced (contentsBy ed f format ch rows s)
 unfolding contentsBy
-table-by zero format ch rows s = (omega arith, omega arith)
-table-by (suc f) format ch rows s = step-placed format ch rows s _ (λ n t. table-by f format ch n t) (entryOf format s) (entry-placed format s)
+table-by ed zero format ch rows s = (omega arith, omega arith)
+table-by ed (suc f) format ch rows s = step-placed ed format ch rows s _ (λ n t. table-by ed f format ch n t) (entryOf format s) (entry-placed format s)
 
 -- Those of a payload 6 to 10, and their place is where it stands or after
 
@@ -96,13 +97,13 @@ unfolding placedRows
 placed-after n mark format ch time at k l (unread f) h = (h, omega arith)
 placed-after n mark format ch time at k l (groups gs) h = tt
 
-payload-after : (n mark format ch done time at : ℕ) (s : List ℕ) → n ≤ at → RowsAfter n (payloadRows mark format ch done time at s)
+payload-after : (ed : Edition) (n mark format ch done time at : ℕ) (s : List ℕ) → n ≤ at → RowsAfter n (payloadRows ed mark format ch done time at s)
 unfolding payloadRows payload contents
-payload-after n mark format ch done time at s l =
+payload-after ed n mark format ch done time at s l =
     let b = body format s in
-    let p = contents format ch done b in
+    let p = contents ed format ch done b in
     placed-after n mark format ch time at (tableStart format s) l (exact format ch (length b) (passFirst p))
-    (exact-placed format ch (length b) (passFirst p) (passed-placed p (table-by (suc (length b)) format ch done b)))
+    (exact-placed format ch (length b) (passFirst p) (passed-placed p (table-by ed (suc (length b)) format ch done b)))
 
 -- The blocks of a redundancy payload
 
@@ -114,21 +115,21 @@ then-after n (rowsOf rs) next h k = rest (next (length rs)) (k (length rs))
     rest (noRows f) z = z
     rest (rowsOf qs) z = tt
 
-module _ (st : Settings) (n : ℕ) where
-  block-after : (done time : ℕ) (b : Block) → n ≤ b .at → RowsAfter n (typedBlockRows st done time b)
+module _ (ed : Edition) (st : Settings) (n : ℕ) where
+  block-after : (done time : ℕ) (b : Block) → n ≤ b .at → RowsAfter n (typedBlockRows ed st done time b)
   unfolding typedBlockRows
   block-after done time b l =
       by-test (eqb (b .type) (st .«payload_type»))
       (λ x. by-test (eqb (length (b .bytes)) 0)
       (λ y. rw (x, y) tt)
-      (λ y. rw (x, y) (payload-after n (b .primary) (st .format) (st .channels) done (difference time (b .offset)) (b .at) (b .bytes) l)))
+      (λ y. rw (x, y) (payload-after ed n (b .primary) (st .format) (st .channels) done (difference time (b .offset)) (b .at) (b .bytes) l)))
       (λ x. rw x tt)
 
-  cut-after : (bs : List Redundant) (done time type at : ℕ) (d : List ℕ) → n ≤ at → RowsAfter n (blocksRows st done time (cut bs type at d))
+  cut-after : (bs : List Redundant) (done time type at : ℕ) (d : List ℕ) → n ≤ at → RowsAfter n (blocksRows ed st done time (cut bs type at d))
   unfolding blocksRows cut
-  cut-after [] done time type at d l = then-after n (typedBlockRows st done time (block primaryMark type 0 at d)) _ (block-after done time (block primaryMark type 0 at d) l) (λ i. tt)
+  cut-after [] done time type at d l = then-after n (typedBlockRows ed st done time (block primaryMark type 0 at d)) _ (block-after done time (block primaryMark type 0 at d) l) (λ i. tt)
   cut-after (b ∷ bs) done time type at d l =
-      then-after n (typedBlockRows st done time (block redundantMark (b .«payload_type») (b .offset) at (take (b .length) d))) _
+      then-after n (typedBlockRows ed st done time (block redundantMark (b .«payload_type») (b .offset) at (take (b .length) d))) _
       (block-after done time (block redundantMark (b .«payload_type») (b .offset) at (take (b .length) d)) l)
       (λ i. cut-after bs (done + i) time type (at + b .length) (drop (b .length) d) (omega arith))
 
@@ -164,15 +165,15 @@ unfolding headersBy
 headers-by zero s = (omega arith, omega arith)
 headers-by (suc f) s = headers-step s _ (λ t. headers-by f t) (blockHeader s) (header-placed s)
 
-redundant-after : (n : ℕ) (st : Settings) (time at : ℕ) (s : List ℕ) → n ≤ at → length s ≤ maxPacket → RowsAfter n (redundantRows st time at s)
+redundant-after : (ed : Edition) (n : ℕ) (st : Settings) (time at : ℕ) (s : List ℕ) → n ≤ at → length s ≤ maxPacket → RowsAfter n (redundantRows ed st time at s)
 unfolding redundantRows redundancyHeaders headers
-redundant-after n st time at s l m = rw (le-ltb maxPacket (length s) m) (split (headersBy (suc (length s)) s) (headers-by (suc (length s)) s))
+redundant-after ed n st time at s l m = rw (le-ltb maxPacket (length s) m) (split (headersBy (suc (length s)) s) (headers-by (suc (length s)) s))
   where
-    split : (x : Headers) → HeadersPlaced x → RowsAfter n (splitRows st time at s x)
+    split : (x : Headers) → HeadersPlaced x → RowsAfter n (splitRows ed st time at s x)
     split (unheaded f) h = (h, omega arith)
     split (headersOf bs type) h =
         by-test (ltb (length s - headersSize bs) (redundantSize bs)) (λ a. rw a ((omega arith, omega arith), omega arith))
-        (λ a. rw a (cut-after st n bs 0 time type (at + headersSize bs) (drop (headersSize bs) s) (omega arith)))
+        (λ a. rw a (cut-after ed st n bs 0 time type (at + headersSize bs) (drop (headersSize bs) s) (omega arith)))
 
 -- Those of a header are 1 to 4
 
@@ -243,13 +244,13 @@ after-fit : (x : Rows) → RowsAfter minPacket x → RowsFit x
 after-fit (noRows f) h = fit-some (number (f .refusal)) (f .offset) (h .0) (h .1)
 after-fit (rowsOf rs) h = tt
 
-typed-fit : (st : Settings) (h : Header) (p : List ℕ) → minPacket ≤ h .start → length p ≤ maxPacket → RowsFit (typedRows st h p)
+typed-fit : (ed : Edition) (st : Settings) (h : Header) (p : List ℕ) → minPacket ≤ h .start → length p ≤ maxPacket → RowsFit (typedRows ed st h p)
 unfolding typedRows
-typed-fit st h p l m =
+typed-fit ed st h p l m =
     by-test (eqb (h .«payload_type») (st .«payload_type»))
-    (λ a. rw a (after-fit (payloadRows primaryMark (st .format) (st .channels) 0 (h .timestamp) (h .start) p) (payload-after minPacket primaryMark (st .format) (st .channels) 0 (h .timestamp) (h .start) p l)))
+    (λ a. rw a (after-fit (payloadRows ed primaryMark (st .format) (st .channels) 0 (h .timestamp) (h .start) p) (payload-after ed minPacket primaryMark (st .format) (st .channels) 0 (h .timestamp) (h .start) p l)))
     (λ a. by-test (eqb (h .«payload_type») (st .«redundancy_type»))
-    (λ b. rw (a, b) (after-fit (redundantRows st (h .timestamp) (h .start) p) (redundant-after minPacket st (h .timestamp) (h .start) p l m)))
+    (λ b. rw (a, b) (after-fit (redundantRows ed st (h .timestamp) (h .start) p) (redundant-after ed minPacket st (h .timestamp) (h .start) p l m)))
     (λ b. rw (a, b) (fit-none 5 (low 5 (omega arith)))))
 
 outcome-fit : (h : Header) (request : ℕ) (x : Rows) → RowsFit x → OutcomeFit (outcomeOf h request x)
@@ -257,17 +258,17 @@ unfolding outcomeNumbers
 outcome-fit h request (noRows f) k = k
 outcome-fit h request (rowsOf rs) k = fit-none 0 (low 0 (omega arith))
 
-headed-fit : (st : Settings) (s : List ℕ) (x : HeaderRead) → header s ≡ x → OutcomeFit (headedBy st s x)
+headed-fit : (ed : Edition) (st : Settings) (s : List ℕ) (x : HeaderRead) → header s ≡ x → OutcomeFit (headedBy ed st s x)
 unfolding outcomeNumbers
-headed-fit st s (HeaderRead.Refused r) q = fit-none (number r) (low (number r) (subst HeaderLow q (header-low s)))
-headed-fit st s (HeaderRead.Header h) q =
-    outcome-fit h _ (typedRows st h (payloadIn s h)) (typed-fit st h (payloadIn s h) (within s h q .after) (omega (arith, payload-fits s h q)))
+headed-fit ed st s (HeaderRead.Refused r) q = fit-none (number r) (low (number r) (subst HeaderLow q (header-low s)))
+headed-fit ed st s (HeaderRead.Header h) q =
+    outcome-fit h _ (typedRows ed st h (payloadIn s h)) (typed-fit ed st h (payloadIn s h) (within s h q .after) (omega (arith, payload-fits s h q)))
 
-reading-fit : (st : Settings) (area : ℕ) (s : List ℕ) → OutcomeFit (reading st area s)
+reading-fit : (ed : Edition) (st : Settings) (area : ℕ) (s : List ℕ) → OutcomeFit (reading ed st area s)
 unfolding reading outcomeNumbers
-reading-fit st area s =
-    by-test (inRange st)
-    (λ i. by-test (ltb area rowArea) (λ a. rw (i, a) (fit-none 12 (high 12 (omega arith)))) (λ a. rw (i, a) (headed-fit st s (header s) refl)))
+reading-fit ed st area s =
+    by-test (inRange ed st)
+    (λ i. by-test (ltb area (rowArea ed)) (λ a. rw (i, a) (fit-none 12 (high 12 (omega arith)))) (λ a. rw (i, a) (headed-fit ed st s (header s) refl)))
     (λ i. rw i (fit-none 11 (high 11 (omega arith))))
 
 inside-numbers : (n : ℕ) (x : Outcome) → OutcomeInside n x → outcomeNumbers x .offset ≤ n
@@ -275,9 +276,9 @@ unfolding outcomeNumbers
 inside-numbers n (refused f) h = h
 inside-numbers n (readAs h rs request) k = omega arith
 
-pub place-theorem : PlaceClaims
-place-theorem = record {
-  inside = λ st area s. inside-numbers (length s) (reading st area s) (reading-inside st area s .1);
-  placeless = λ st area s. reading-fit st area s .none;
-  placed = λ st area s. reading-fit st area s .some;
+pub place-theorem : (ed : Edition) → PlaceClaims ed
+place-theorem ed = record {
+  inside = λ st area s. inside-numbers (length s) (reading ed st area s) (reading-inside ed st area s .1);
+  placeless = λ st area s. reading-fit ed st area s .none;
+  placed = λ st area s. reading-fit ed st area s .some;
 }

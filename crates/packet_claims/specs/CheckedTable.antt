@@ -3,6 +3,7 @@ use Prim.Native.Nat.{ℕ, _/_, _%_, _^_}
 use mathlib.Core.Path.{_≡_}
 use mathlib.Core.List.{List, [], _∷_, _++_}
 use lib.ListN.{length, replicate}
+use Rattle.rtp.specs.Editions.{current}
 use Rattle.rtp.specs.Sizes.{rowArea}
 use Rattle.rtp.specs.Ranges.{g719, g719Interleaved, gsmHr}
 use Rattle.rtp.specs.Time.{difference}
@@ -47,7 +48,7 @@ rowsRead (readAs h rs request) = rowsOf rs
 
 -- the rows of a packet with this type, time and payload
 abbrev pub packetRows : ℕ → ℕ → ℕ → ℕ → List ℕ → Rows
-packetRows format channels type time payload = rowsRead (reading (settingsOf format channels) rowArea (packetOf type time payload))
+packetRows format channels type time payload = rowsRead (reading current (settingsOf format channels) (rowArea current) (packetOf type time payload))
 
 -- a row heard first-hand, and one of a redundant block
 abbrev pub row : ℕ → ℕ → ℕ → ℕ → ℕ → Row

@@ -3,6 +3,7 @@ use Prim.Native.Nat.{ℕ, _≤_}
 use mathlib.Core.Path.{_≡_}
 use mathlib.Core.List.{List, [], _∷_, _++_}
 use lib.ListN.{length}
+use Rattle.rtp.specs.Editions.{Edition, current}
 use Rattle.rtp.specs.Sizes.{minPacket, rowArea}
 use Rattle.rtp.specs.Ranges.{g719, amr, amrWb}
 use Rattle.rtp.specs.Faults.{faultAt, fault}
@@ -17,16 +18,16 @@ abbrev pub Placed : ℕ → Type 0
 Placed n = (6 ≤ n) × (n ≤ 10)
 
 -- the answer to a packet s, in numbers
-abbrev pub answer : Settings → ℕ → List ℕ → Numbers
-answer st area s = outcomeNumbers (reading st area s)
+abbrev pub answer : Edition → Settings → ℕ → List ℕ → Numbers
+answer ed st area s = outcomeNumbers (reading ed st area s)
 
-pub record PlaceClaims : Type 0 where
+pub record PlaceClaims (ed : Edition) : Type 0 where
   -- it is a byte of the packet, or its end
-  pub inside : (st : Settings) (area : ℕ) (s : List ℕ) → answer st area s .offset ≤ length s
+  pub inside : (st : Settings) (area : ℕ) (s : List ℕ) → answer ed st area s .offset ≤ length s
   -- an accepted packet, whose number is 0, and one that is refused for any other reason have none
-  pub placeless : (st : Settings) (area : ℕ) (s : List ℕ) → (Placed (answer st area s .refusal) → ⊥) → answer st area s .offset ≡ 0
+  pub placeless : (st : Settings) (area : ℕ) (s : List ℕ) → (Placed (answer ed st area s .refusal) → ⊥) → answer ed st area s .offset ≡ 0
   -- it is never in the fixed header
-  pub placed : (st : Settings) (area : ℕ) (s : List ℕ) → Placed (answer st area s .refusal) → minPacket ≤ answer st area s .offset
+  pub placed : (st : Settings) (area : ℕ) (s : List ℕ) → Placed (answer ed st area s .refusal) → minPacket ≤ answer ed st area s .offset
 
 -- Packets whose payload starts at 16, after a CSRC list of one; at 20, after an extension of one word; and with three bytes of padding
 
@@ -44,7 +45,7 @@ withPadding type payload = fronted 0xA0 type (payload ++ 0 ∷ 0 ∷ 3 ∷ [])
 
 -- a mono packet of this format is refused at this place
 abbrev pub RefusedAt : ℕ → List ℕ → ℕ → Refusal → Type 0
-RefusedAt format packet n r = reading (settingsOf format 1) rowArea packet ≡ refused (faultAt n r)
+RefusedAt format packet n r = reading current (settingsOf format 1) (rowArea current) packet ≡ refused (faultAt n r)
 
 pub record CheckedPlaces : Type 0 where
   -- 6 of an empty payload is where it would start, in AMR too
@@ -57,7 +58,7 @@ pub record CheckedPlaces : Type 0 where
   pub cut-short : RefusedAt g719 (withPadding plainType (0xA0 ∷ 0x01 ∷ 0x20 ∷ [])) 14 ContentsTruncated
   pub reserved : RefusedAt g719 (withExtension plainType (0xA0 ∷ 0x01 ∷ 0x1C ∷ 0x01 ∷ [])) 22 ReservedCode
   pub no-blocks : RefusedAt g719 (withSource plainType (0xA0 ∷ 0x01 ∷ 0x20 ∷ 0x00 ∷ [])) 18 NoFrameBlocks
-  pub too-many : RefusedAt g719 (withSource plainType (0x80 ∷ 0x40 ∷ 0x80 ∷ 0x41 ∷ 0x00 ∷ 0x01 ∷ [])) 18 TooManyRows
+  pub too-many : RefusedAt g719 (withSource plainType (0x80 ∷ 0xFF ∷ 0x80 ∷ 0x82 ∷ 0x00 ∷ 0x01 ∷ [])) 18 TooManyRows
   -- 10 is the first byte after the table
   pub mismatch : RefusedAt g719 (withPadding plainType (0x20 ∷ 0x01 ∷ filler 79)) 14 LengthMismatch × RefusedAt g719 (withSource plainType (0x20 ∷ 0x01 ∷ filler 81)) 18 LengthMismatch
   pub mismatch-amr : RefusedAt amr (withSource plainType (0xF0 ∷ 0x3C ∷ filler 30)) 18 LengthMismatch
@@ -68,4 +69,4 @@ pub record CheckedPlaces : Type 0 where
   pub second-block : RefusedAt g719 (withSource redundancyType (0xE1 ∷ 0x0F ∷ 0x00 ∷ 0x02 ∷ 0x61 ∷ 0x00 ∷ 0x01 ∷ 0x1C ∷ 0x01 ∷ [])) 23 ReservedCode
   pub block-mismatch : RefusedAt g719 (withSource redundancyType (0xE1 ∷ 0x0F ∷ 0x00 ∷ 0x03 ∷ 0x61 ∷ 0x00 ∷ 0x01 ∷ 0xFF ∷ 0x00 ∷ 0x01 ∷ [])) 23 LengthMismatch
   -- 4 and 5 have no place
-  pub elsewhere : (reading (settingsOf g719 1) rowArea (withSource 99 []) ≡ refused (fault UnknownPayloadType)) × (reading (settingsOf g719 1) rowArea (fronted 0xA0 plainType (0 ∷ [])) ≡ refused (fault PaddingCount))
+  pub elsewhere : (reading current (settingsOf g719 1) (rowArea current) (withSource 99 []) ≡ refused (fault UnknownPayloadType)) × (reading current (settingsOf g719 1) (rowArea current) (fronted 0xA0 plainType (0 ∷ [])) ≡ refused (fault PaddingCount))

@@ -7,6 +7,7 @@ use native.Mathlib.Omega.{arith}
 use lib.ListN.{length, getD, take, drop}
 use lib.Dec.{ltb, eqb}
 use borrow.Author.Tests.{lt-ltb, le-ltb, ltb-false}
+use Rattle.rtp.specs.Editions.{Edition}
 use Rattle.rtp.specs.Sizes.{rowWidth}
 use Rattle.rtp.specs.Ranges.{inRange}
 use Rattle.rtp.specs.Refusals.{number}
@@ -67,82 +68,82 @@ add-rest m n h = by-test (eqb (m .refusal) 0) (λ a. rw (a, h)) (λ a. rw a)
 pub add-both : (m n : Numbers) (j k : ℕ) → m ≡ record { refusal = 0; count = j } → n ≡ record { refusal = 0; count = k } → _≡_ {A = Numbers} (record { refusal = 0; count = j + k }) (addNumbers m n)
 add-both m n j k p q = rw (p, q)
 
-module _ (st : Settings) (time : ℕ) where
+module _ (ed : Edition) (st : Settings) (time : ℕ) where
   -- The sizes
 
-  pub lists-one : (counts ws : List ℕ) → length counts < 2 → listsNumbers st time counts ws ≡ measured st ws
+  pub lists-one : (counts ws : List ℕ) → length counts < 2 → listsNumbers ed st time counts ws ≡ measured ed st ws
   unfolding listsNumbers
   lists-one [] ws h = refl
   lists-one (n ∷ []) ws h = refl
   lists-one (n ∷ m ∷ ns) ws h = absurd (omega arith)
 
   pub lists-more : (counts ws : List ℕ) → 2 ≤ length counts → let n = rowWidth * getD counts 0 0 in
-      listsNumbers st time counts ws ≡ addNumbers (redundantNumbers st time (take n ws)) (listsNumbers st time (drop 1 counts) (drop n ws))
+      listsNumbers ed st time counts ws ≡ addNumbers (redundantNumbers ed st time (take n ws)) (listsNumbers ed st time (drop 1 counts) (drop n ws))
   unfolding listsNumbers
   lists-more [] ws h = absurd (omega arith)
   lists-more (n ∷ []) ws h = absurd (omega arith)
   lists-more (n ∷ m ∷ ns) ws h = refl
 
   pub lists-rest : (counts ws : List ℕ) → 2 ≤ length counts → let n = firstWords counts ws in
-      listsNumbers st time counts ws ≡ addNumbers (redundantNumbers st time (take n ws)) (listsNumbers st time (drop 1 counts) (drop n ws))
+      listsNumbers ed st time counts ws ≡ addNumbers (redundantNumbers ed st time (take n ws)) (listsNumbers ed st time (drop 1 counts) (drop n ws))
   lists-rest counts ws h = rw (take-words counts ws, drop-words counts ws) (lists-more counts ws h)
 
-  pub redundant-none : (ws : List ℕ) → eqb (measured st ws .refusal) 0 ≡ false → refusedNumbers Unwritable ≡ redundantNumbers st time ws
+  pub redundant-none : (ws : List ℕ) → eqb (measured ed st ws .refusal) 0 ≡ false → refusedNumbers Unwritable ≡ redundantNumbers ed st time ws
   unfolding redundantNumbers
   redundant-none ws h = rw h
 
-  module _ (ws : List ℕ) (k : ℕ) (h : measured st ws ≡ record { refusal = 0; count = k }) where
-    pub redundant-long : maxBlock < k → refusedNumbers Unwritable ≡ redundantNumbers st time ws
+  module _ (ws : List ℕ) (k : ℕ) (h : measured ed st ws ≡ record { refusal = 0; count = k }) where
+    pub redundant-long : maxBlock < k → refusedNumbers Unwritable ≡ redundantNumbers ed st time ws
     unfolding redundantNumbers
     redundant-long l = rw (h, lt-ltb maxBlock k l)
 
-    pub redundant-far : k ≤ maxBlock → maxOffset < offsetOf time ws → refusedNumbers Unwritable ≡ redundantNumbers st time ws
+    pub redundant-far : k ≤ maxBlock → maxOffset < offsetOf time ws → refusedNumbers Unwritable ≡ redundantNumbers ed st time ws
     unfolding redundantNumbers
     redundant-far l o = rw (h, le-ltb maxBlock k l, lt-ltb maxOffset (offsetOf time ws) o)
 
-    pub redundant-all : k ≤ maxBlock → offsetOf time ws ≤ maxOffset → _≡_ {A = Numbers} (record { refusal = 0; count = 4 + k }) (redundantNumbers st time ws)
+    pub redundant-all : k ≤ maxBlock → offsetOf time ws ≤ maxOffset → _≡_ {A = Numbers} (record { refusal = 0; count = 4 + k }) (redundantNumbers ed st time ws)
     unfolding redundantNumbers
     redundant-all l o = rw (h, le-ltb maxBlock k l, le-ltb maxOffset (offsetOf time ws) o)
 
   -- they are small
 
-  planned-small : (ws : List ℕ) (x : Contents) → plan (st .format) (st .channels) (rowsIn ws) ≡ x → plannedNumbers (st .format) (st .channels) x .count ≤ maxPayload
+  planned-small : (ws : List ℕ) (x : Contents) → plan ed (st .format) (st .channels) (rowsIn ws) ≡ x → plannedNumbers (st .format) (st .channels) x .count ≤ maxPayload
   planned-small ws (refused q) e = omega arith
-  planned-small ws (groups gs) e = listed (st .format) (st .channels) ws gs e .fits
+  planned-small ws (groups gs) e = listed ed (st .format) (st .channels) ws gs e .fits
 
-  pub measured-small : (ws : List ℕ) → measured st ws .count ≤ maxPayload
+  pub measured-small : (ws : List ℕ) → measured ed st ws .count ≤ maxPayload
   unfolding measured
   measured-small ws =
-      by-test (inRange st)
+      by-test (inRange ed st)
       (λ i. by-test (whole ws) (λ w. rw (i, w) (planned-small ws _ refl)) (λ w. rw (i, w) (omega arith)))
       (λ i. rw i (omega arith))
 
-  pub redundant-small : (ws : List ℕ) → redundantNumbers st time ws .count ≤ 4 + maxBlock
+  pub redundant-small : (ws : List ℕ) → redundantNumbers ed st time ws .count ≤ 4 + maxBlock
   unfolding redundantNumbers
   redundant-small ws =
-      by-test (eqb (measured st ws .refusal) 0)
-      (λ a. by-test (ltb maxBlock (measured st ws .count)) (λ b. rw (a, b) (omega arith))
-      (λ b. by-test (ltb maxOffset (offsetOf time ws)) (λ d. rw (a, b, d) (omega arith)) (λ d. rw (a, b, d) (omega (arith, ltb-false maxBlock (measured st ws .count) b)))))
+      by-test (eqb (measured ed st ws .refusal) 0)
+      (λ a. by-test (ltb maxBlock (measured ed st ws .count)) (λ b. rw (a, b) (omega arith))
+      (λ b. by-test (ltb maxOffset (offsetOf time ws)) (λ d. rw (a, b, d) (omega arith)) (λ d. rw (a, b, d) (omega (arith, ltb-false maxBlock (measured ed st ws .count) b)))))
       (λ a. rw a (omega arith))
 
   add-small : (m n : Numbers) (j k : ℕ) → m .count ≤ j → n .count ≤ k → addNumbers m n .count ≤ j + k
   add-small m n j k p q =
       by-test (eqb (m .refusal) 0) (λ a. by-test (eqb (n .refusal) 0) (λ b. rw (a, b) (omega arith)) (λ b. rw (a, b) (omega arith))) (λ a. rw a (omega arith))
 
-  pub lists-small : (counts ws : List ℕ) → listsNumbers st time counts ws .count ≤ (4 + maxBlock) * length counts + maxPayload
+  pub lists-small : (counts ws : List ℕ) → listsNumbers ed st time counts ws .count ≤ (4 + maxBlock) * length counts + maxPayload
   unfolding listsNumbers
   lists-small [] ws = omega (arith, measured-small ws)
   lists-small (n ∷ []) ws = omega (arith, measured-small ws)
   lists-small (n ∷ m ∷ ns) ws =
-      let a = add-small (redundantNumbers st time (take (rowWidth * n) ws)) (listsNumbers st time (m ∷ ns) (drop (rowWidth * n) ws)) _ _ (redundant-small (take (rowWidth * n) ws)) (lists-small (m ∷ ns) (drop (rowWidth * n) ws)) in
+      let a = add-small (redundantNumbers ed st time (take (rowWidth * n) ws)) (listsNumbers ed st time (m ∷ ns) (drop (rowWidth * n) ws)) _ _ (redundant-small (take (rowWidth * n) ws)) (lists-small (m ∷ ns) (drop (rowWidth * n) ws)) in
       omega (arith, a)
 
   -- A packet
 
-  pub size-many : (counts ws : List ℕ) → maxRedundant + 1 < length counts → refusedNumbers Unwritable ≡ sizeNumbers st time counts ws
+  pub size-many : (counts ws : List ℕ) → maxRedundant + 1 < length counts → refusedNumbers Unwritable ≡ sizeNumbers ed st time counts ws
   unfolding sizeNumbers
   size-many counts ws h = rw (lt-ltb (maxRedundant + 1) (length counts) h)
 
-  pub size-few : (counts ws : List ℕ) → length counts ≤ maxRedundant + 1 → sizeNumbers st time counts ws ≡ packetNumbers st (length counts) (listsNumbers st time counts ws)
+  pub size-few : (counts ws : List ℕ) → length counts ≤ maxRedundant + 1 → sizeNumbers ed st time counts ws ≡ packetNumbers st (length counts) (listsNumbers ed st time counts ws)
   unfolding sizeNumbers
   size-few counts ws h = rw (le-ltb (maxRedundant + 1) (length counts) h)

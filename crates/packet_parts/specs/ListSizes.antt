@@ -5,6 +5,7 @@ use mathlib.Core.List.{List, [], _∷_}
 use mathlib.Core.Bool.{cond}
 use lib.ListN.{length, getD, take, drop}
 use lib.Dec.{ltb, eqb}
+use Rattle.rtp.specs.Editions.{Edition}
 use Rattle.rtp.specs.Sizes.{minPacket, maxPacket, rowWidth}
 use Rattle.rtp.specs.Ranges.{noRedundancy}
 use Rattle.rtp.specs.Time.{difference}
@@ -27,22 +28,22 @@ abbrev pub offsetOf : ℕ → List ℕ → ℕ
 offsetOf time ws = difference time (firstTime (rowsIn ws))
 
 -- the bytes that a redundant list takes, its block header too
-unfoldable pub redundantNumbers : Settings → ℕ → List ℕ → Numbers
-redundantNumbers st time ws =
-    cond (eqb (measured st ws .refusal) 0)
-    (cond (ltb maxBlock (measured st ws .count)) (refusedNumbers Unwritable)
-    (cond (ltb maxOffset (offsetOf time ws)) (refusedNumbers Unwritable) (record { refusal = 0; count = 4 + measured st ws .count })))
+unfoldable pub redundantNumbers : Edition → Settings → ℕ → List ℕ → Numbers
+redundantNumbers ed st time ws =
+    cond (eqb (measured ed st ws .refusal) 0)
+    (cond (ltb maxBlock (measured ed st ws .count)) (refusedNumbers Unwritable)
+    (cond (ltb maxOffset (offsetOf time ws)) (refusedNumbers Unwritable) (record { refusal = 0; count = 4 + measured ed st ws .count })))
     (refusedNumbers Unwritable)
 
 abbrev pub addNumbers : Numbers → Numbers → Numbers
 addNumbers m n = cond (eqb (m .refusal) 0) (cond (eqb (n .refusal) 0) (record { refusal = 0; count = m .count + n .count }) (refusedNumbers Unwritable)) (refusedNumbers Unwritable)
 
 -- the bytes that the lists take, but for the primary block's header
-unfoldable pub listsNumbers : Settings → ℕ → List ℕ → List ℕ → Numbers
-listsNumbers st time [] ws = measured st ws
-listsNumbers st time (n ∷ []) ws = measured st ws
-listsNumbers st time (n ∷ m ∷ ns) ws =
-    addNumbers (redundantNumbers st time (take (rowWidth * n) ws)) (listsNumbers st time (m ∷ ns) (drop (rowWidth * n) ws))
+unfoldable pub listsNumbers : Edition → Settings → ℕ → List ℕ → List ℕ → Numbers
+listsNumbers ed st time [] ws = measured ed st ws
+listsNumbers ed st time (n ∷ []) ws = measured ed st ws
+listsNumbers ed st time (n ∷ m ∷ ns) ws =
+    addNumbers (redundantNumbers ed st time (take (rowWidth * n) ws)) (listsNumbers ed st time (m ∷ ns) (drop (rowWidth * n) ws))
 
 -- a packet of so many bytes is within 2,048
 abbrev pub withinNumbers : ℕ → Numbers
@@ -57,6 +58,6 @@ packetNumbers st k n =
     (refusedNumbers Unwritable)
 
 -- the bytes of a packet of the lists; with more than five of them it has none
-unfoldable pub sizeNumbers : Settings → ℕ → List ℕ → List ℕ → Numbers
-sizeNumbers st time counts ws =
-    cond (ltb (maxRedundant + 1) (length counts)) (refusedNumbers Unwritable) (packetNumbers st (length counts) (listsNumbers st time counts ws))
+unfoldable pub sizeNumbers : Edition → Settings → ℕ → List ℕ → List ℕ → Numbers
+sizeNumbers ed st time counts ws =
+    cond (ltb (maxRedundant + 1) (length counts)) (refusedNumbers Unwritable) (packetNumbers st (length counts) (listsNumbers ed st time counts ws))

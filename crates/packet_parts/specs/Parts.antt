@@ -4,6 +4,7 @@ use mathlib.Core.List.{List, [], _∷_}
 use mathlib.Core.Bool.{Bool, true, false, cond}
 use lib.ListN.{length, take, drop}
 use lib.Dec.{ltb, eqb}
+use Rattle.rtp.specs.Editions.{Edition}
 use Rattle.rtp.specs.Sizes.{maxRows, rowWidth}
 use Rattle.rtp.specs.Time.{difference}
 use Rattle.rtp.specs.declared.settings.Settings.{Settings}
@@ -26,12 +27,12 @@ unfoldable pub total : List ℕ → ℕ
 total [] = 0
 total (n ∷ ns) = n + total ns
 
--- one to five counts, which make up the area, and at most 128 rows in all
-abbrev pub countsFit : List ℕ → List ℕ → Bool
-countsFit counts ws =
+-- one to five counts, which make up the area, and no more rows in all than the edition has
+abbrev pub countsFit : Edition → List ℕ → List ℕ → Bool
+countsFit ed counts ws =
     cond (eqb (length counts) 0) false
     (cond (ltb (maxRedundant + 1) (length counts)) false
-    (cond (eqb (length ws) (rowWidth * total counts)) (cond (ltb maxRows (total counts)) false true) false))
+    (cond (eqb (length ws) (rowWidth * total counts)) (cond (ltb (maxRows ed) (total counts)) false true) false))
 
 -- the time of the primary list, the last: its first row's, which is the packet's timestamp
 unfoldable pub primaryTime : List ℕ → List Row → ℕ
@@ -64,8 +65,8 @@ redundantPart offset (bytesOf p) rest =
     cond (ltb maxBlock (length p)) noParts (cond (ltb maxOffset offset) noParts (prependPart (record { offset = offset; bytes = p }) rest))
 
 -- the parts of the lists, which have so many rows each, all with the same mode request; the packet's timestamp is `time`
-unfoldable pub parts : Settings → ℕ → List ℕ → ℕ → List ℕ → List Row → Parts
-parts st request bytes time [] rs = noParts
-parts st request bytes time (n ∷ []) rs = primaryPart (encoded st request bytes rs)
-parts st request bytes time (n ∷ m ∷ ns) rs =
-    redundantPart (difference time (firstTime (take n rs))) (encoded st request bytes (take n rs)) (parts st request bytes time (m ∷ ns) (drop n rs))
+unfoldable pub parts : Edition → Settings → ℕ → List ℕ → ℕ → List ℕ → List Row → Parts
+parts ed st request bytes time [] rs = noParts
+parts ed st request bytes time (n ∷ []) rs = primaryPart (encoded ed st request bytes rs)
+parts ed st request bytes time (n ∷ m ∷ ns) rs =
+    redundantPart (difference time (firstTime (take n rs))) (encoded ed st request bytes (take n rs)) (parts ed st request bytes time (m ∷ ns) (drop n rs))

@@ -12,6 +12,7 @@ use rtp::time;
 ghost use mathlib.Core.Path.{_≡_};
 ghost use Prim.Native.Nat.{_+_, _*_, _^_, _≤_};
 ghost use lib.ListN.{length};
+ghost use Rattle.rtp.specs.Editions.{current};
 ghost use Rattle.plans.specs.Lists.{rowsIn, firstTime};
 ghost use Rattle.payload_sizes.specs.Measures.{writtenNumbers};
 ghost use Rattle.packet_parts.specs.Parts.{maxRedundant, total, countsFit, primaryTime};
@@ -36,9 +37,9 @@ fn total_of(counts: &[u32]) -> usize
     counts[0] as usize + rest
 }
 
-// One to five counts, which make up the area, and at most 128 rows in all.
+// One to five counts, which make up the area, and at most 384 rows in all.
 pub fn counts_fit(counts: &[u32], rows: &[u32]) -> bool
-    ensures { λ r. ⌜ r ≡ countsFit (now (counts .entry)) (now (rows .entry)) ⌝ }
+    ensures { λ r. ⌜ r ≡ countsFit current (now (counts .entry)) (now (rows .entry)) ⌝ }
 {
     if counts.len() == 0 {
         return false;
@@ -103,7 +104,7 @@ pub fn primary_time(counts: &[u32], rows: &[u32]) -> u32
 
 // The bytes that a redundant list takes, its block header too.
 fn measure_redundant(asked: Settings, time: u32, rows: &[u32]) -> Written
-    ensures { λ r. ⌜ writtenNumbers r ≡ redundantNumbers asked time (now (rows .entry)) ⌝ }
+    ensures { λ r. ⌜ writtenNumbers r ≡ redundantNumbers current asked time (now (rows .entry)) ⌝ }
 {
     match measuring::measure_payload(asked, rows) {
         Written::Refused(_) => Written::Refused(Refusal::Unwritable),
@@ -122,7 +123,7 @@ fn measure_redundant(asked: Settings, time: u32, rows: &[u32]) -> Written
 // The bytes that the lists take, but for the primary block's header.
 fn measure_lists(asked: Settings, time: u32, counts: &[u32], rows: &[u32]) -> Written
     requires { ⌜ length (now counts) ≤ maxRedundant + 1 ⌝ }
-    ensures { λ r. ⌜ writtenNumbers r ≡ listsNumbers asked time (now (counts .entry)) (now (rows .entry)) ⌝ }
+    ensures { λ r. ⌜ writtenNumbers r ≡ listsNumbers current asked time (now (counts .entry)) (now (rows .entry)) ⌝ }
 {
     if counts.len() < 2 {
         return measuring::measure_payload(asked, rows);
@@ -149,7 +150,7 @@ fn within_packet(size: usize) -> Written
 
 // The bytes of a packet of the lists, which are at most five.
 pub fn packet_size(asked: Settings, time: u32, counts: &[u32], rows: &[u32]) -> Written
-    ensures { λ r. ⌜ writtenNumbers r ≡ sizeNumbers asked time (now (counts .entry)) (now (rows .entry)) ⌝ }
+    ensures { λ r. ⌜ writtenNumbers r ≡ sizeNumbers current asked time (now (counts .entry)) (now (rows .entry)) ⌝ }
 {
     if MAX_REDUNDANT + 1 < counts.len() {
         return Written::Refused(Refusal::Unwritable);

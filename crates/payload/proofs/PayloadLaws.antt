@@ -7,6 +7,7 @@ use native.Mathlib.Omega.{arith}
 use lib.ListN.{length, length-append, length-drop}
 use lib.Dec.{eqb}
 use borrow.Author.Tests.{eq-eqb, ne-eqb, eqb-true, eqb-false, lt-ltb, le-ltb}
+use Rattle.rtp.specs.Editions.{Edition}
 use Rattle.rtp.proofs.TestLaws.{by-test}
 use Rattle.rtp.specs.Sizes.{rowWidth, rowArea, maxPacket}
 use Rattle.rtp.specs.Numbers.{byteAt}
@@ -57,9 +58,9 @@ words-in mark format ch time at k (refused r) = refl
 words-in mark format ch time at k (groups gs) = refl
 
 -- the rows of a payload, by what reading its table answered
-module _ (mark format ch done time at : ℕ) (s : List ℕ) where
+module _ (ed : Edition) (mark format ch done time at : ℕ) (s : List ℕ) where
   abbrev Table : Contents
-  Table = contents format ch done (body format s)
+  Table = contents ed format ch done (body format s)
 
   -- where its table starts, if its header is there
   starts : formatOf format .header ≤ length s → tableStart format s ≡ formatOf format .header
@@ -72,30 +73,30 @@ module _ (mark format ch done time at : ℕ) (s : List ℕ) where
       (λ z. rw (z, length-drop) (omega (arith, eqb-true (length s) 0 z)))
       (λ z. rw (z, length-drop) (omega (arith, eqb-false (length s) 0 z, header-small format)))
 
-  pub at-fault : (r : Fault) → sizesAnswer format ch (contents format ch done (body format s)) ≡ ContentsRead.Refused r
-      → payloadRows mark format ch done time at s ≡ noRows (faultAt (at + (tableStart format s + r .offset)) (r .refusal))
+  pub at-fault : (r : Fault) → sizesAnswer format ch (contents ed format ch done (body format s)) ≡ ContentsRead.Refused r
+      → payloadRows ed mark format ch done time at s ≡ noRows (faultAt (at + (tableStart format s + r .offset)) (r .refusal))
   unfolding payloadRows payload placedRows
   at-fault r h = rw (exact-refused format ch (length (body format s)) r (passFirst Table) (sizes-passed format ch Table ∙ h))
 
   pub pay-refused : (r : Fault) (n : ℕ) → formatOf format .header ≤ length s → n ≡ at + formatOf format .header + r .offset
-      → sizesAnswer format ch (contents format ch done (body format s)) ≡ ContentsRead.Refused r → payloadRows mark format ch done time at s ≡ noRows (faultAt n (r .refusal))
+      → sizesAnswer format ch (contents ed format ch done (body format s)) ≡ ContentsRead.Refused r → payloadRows ed mark format ch done time at s ≡ noRows (faultAt n (r .refusal))
   pay-refused r n l e h = at-fault r h ∙ ap (λ (k : ℕ). noRows (faultAt k (r .refusal))) (omega (arith, e, starts l))
 
   -- the place at fault lies in the body
-  pub pay-place : (r : Fault) → sizesAnswer format ch (contents format ch done (body format s)) ≡ ContentsRead.Refused r → r .offset ≤ length (body format s)
-  pay-place r h = subst (λ (x : ContentsRead). Within done (length (body format s)) x) h (within format ch done (body format s))
+  pub pay-place : (r : Fault) → sizesAnswer format ch (contents ed format ch done (body format s)) ≡ ContentsRead.Refused r → r .offset ≤ length (body format s)
+  pay-place r h = subst (λ (x : ContentsRead). Within ed done (length (body format s)) x) h (within ed format ch done (body format s))
 
   -- no table follows a header that is cut short
-  pub pay-headless : length s < formatOf format .header → payloadRows mark format ch done time at s ≡ noRows (faultAt at ContentsTruncated)
+  pub pay-headless : length s < formatOf format .header → payloadRows ed mark format ch done time at s ≡ noRows (faultAt at ContentsTruncated)
   unfolding entryOf
   pay-headless l =
       let z : length (body format s) ≡ 0 = rw length-drop (omega arith) in
       let n : length s ≡ 0 = omega (arith, header-small format) in
       let b : tableStart format s ≡ 0 = rw (eq-eqb (length s) 0 n) in
-      at-fault (fault ContentsTruncated) (at-refused format ch done (body format s) ContentsTruncated (rw (lt-ltb (length (body format s)) (minEntry format) (omega (arith, min-some format)))))
+      at-fault (fault ContentsTruncated) (at-refused ed format ch done (body format s) ContentsTruncated (rw (lt-ltb (length (body format s)) (minEntry format) (omega (arith, min-some format)))))
       ∙ ap (λ (k : ℕ). noRows (faultAt k ContentsTruncated)) (omega (arith, b))
 
-  module _ (t : Sizes) (h : sizesAnswer format ch (contents format ch done (body format s)) ≡ ContentsRead.Contents t) where
+  module _ (t : Sizes) (h : sizesAnswer format ch (contents ed format ch done (body format s)) ≡ ContentsRead.Contents t) where
     passed : sizesAnswer format ch (passFirst Table) ≡ ContentsRead.Contents t
     passed = sizes-passed format ch Table ∙ h
 
@@ -103,62 +104,62 @@ module _ (mark format ch done time at : ℕ) (s : List ℕ) where
     table-is = exact-is mark format ch (length (body format s)) time at t (passFirst Table) passed
 
     pub part-fault : (t .size + t .frames ≡ length (body format s) → ⊥)
-        → payloadRows mark format ch done time at s ≡ noRows (faultAt (at + (tableStart format s + t .size)) LengthMismatch)
+        → payloadRows ed mark format ch done time at s ≡ noRows (faultAt (at + (tableStart format s + t .size)) LengthMismatch)
     unfolding payloadRows payload placedRows
     part-fault f = rw (table-is .part f)
 
     pub pay-part : (n : ℕ) → formatOf format .header ≤ length s → n ≡ at + formatOf format .header + t .size → (t .size + t .frames ≡ length (body format s) → ⊥)
-        → payloadRows mark format ch done time at s ≡ noRows (faultAt n LengthMismatch)
+        → payloadRows ed mark format ch done time at s ≡ noRows (faultAt n LengthMismatch)
     pay-part n l e f = part-fault f ∙ ap (λ (k : ℕ). noRows (faultAt k LengthMismatch)) (omega (arith, e, starts l))
 
-    pub pay-rows : t .size + t .frames ≡ length (body format s) → rowsAnswer (payloadRows mark format ch done time at s) ≡ PayloadRead.Rows (t .rows)
+    pub pay-rows : t .size + t .frames ≡ length (body format s) → rowsAnswer (payloadRows ed mark format ch done time at s) ≡ PayloadRead.Rows (t .rows)
     unfolding payloadRows payload
     pay-rows f = rw (table-is .whole f) (rows-in mark format ch time at (tableStart format s) t (passFirst Table) passed)
 
-    pub pay-small : Small done (length (body format s)) t
-    pay-small = subst (λ (r : ContentsRead). Within done (length (body format s)) r) h (within format ch done (body format s))
+    pub pay-small : Small ed done (length (body format s)) t
+    pay-small = subst (λ (r : ContentsRead). Within ed done (length (body format s)) r) h (within ed format ch done (body format s))
 
   -- The same by what putting its table and its frames answered, which stand after its header
 
   abbrev Put : Contents
   Put = exact format ch (length (body format s)) (passFirst Table)
 
-  pub put-words : fittingWords mark format ch time (at + formatOf format .header) Put ≡ rowsWords (payloadRows mark format ch done time at s)
+  pub put-words : fittingWords mark format ch time (at + formatOf format .header) Put ≡ rowsWords (payloadRows ed mark format ch done time at s)
   unfolding payloadRows payload
   put-words = words-in mark format ch time at (tableStart format s) Put
 
-  pub put-within : Within done (length (body format s)) (sizesAnswer format ch (exact format ch (length (body format s)) (passFirst (contents format ch done (body format s)))))
-  put-within = exact-within format ch done (body format s)
+  pub put-within : Within ed done (length (body format s)) (sizesAnswer format ch (exact format ch (length (body format s)) (passFirst (contents ed format ch done (body format s)))))
+  put-within = exact-within ed format ch done (body format s)
 
   pub put-refused : (r : Fault) (n : ℕ) → formatOf format .header ≤ length s → n ≡ at + formatOf format .header + r .offset
-      → sizesAnswer format ch (exact format ch (length (body format s)) (passFirst (contents format ch done (body format s)))) ≡ ContentsRead.Refused r
-      → payloadRows mark format ch done time at s ≡ noRows (faultAt n (r .refusal))
+      → sizesAnswer format ch (exact format ch (length (body format s)) (passFirst (contents ed format ch done (body format s)))) ≡ ContentsRead.Refused r
+      → payloadRows ed mark format ch done time at s ≡ noRows (faultAt n (r .refusal))
   unfolding payloadRows payload placedRows
   put-refused r n l e h = rw (answer-refused format ch r Put h) (ap (λ (k : ℕ). noRows (faultAt k (r .refusal))) (omega (arith, e, starts l)))
 
-  pub put-rows : (t : Sizes) → sizesAnswer format ch (exact format ch (length (body format s)) (passFirst (contents format ch done (body format s)))) ≡ ContentsRead.Contents t
-      → rowsAnswer (payloadRows mark format ch done time at s) ≡ PayloadRead.Rows (t .rows)
+  pub put-rows : (t : Sizes) → sizesAnswer format ch (exact format ch (length (body format s)) (passFirst (contents ed format ch done (body format s)))) ≡ ContentsRead.Contents t
+      → rowsAnswer (payloadRows ed mark format ch done time at s) ≡ PayloadRead.Rows (t .rows)
   unfolding payloadRows payload
   put-rows t h = rows-in mark format ch time at (tableStart format s) t Put h
 
 -- The payload of a call
 
-pub asked-out : (mark : ℕ) (st : Settings) (done area time at : ℕ) (s : List ℕ) → inRange st ≡ false → askedRows mark st done area time at s ≡ noRows (fault SettingsOutOfRange)
+pub asked-out : (ed : Edition) (mark : ℕ) (st : Settings) (done area time at : ℕ) (s : List ℕ) → inRange ed st ≡ false → askedRows ed mark st done area time at s ≡ noRows (fault SettingsOutOfRange)
 unfolding askedRows
-asked-out mark st done area time at s h = rw h
+asked-out ed mark st done area time at s h = rw h
 
-module _ (mark : ℕ) (st : Settings) (done area time at : ℕ) (s : List ℕ) (h : inRange st ≡ true) where
-  pub asked-short : rowWidth * done + area < rowArea → askedRows mark st done area time at s ≡ noRows (fault AreaTooShort)
+module _ (ed : Edition) (mark : ℕ) (st : Settings) (done area time at : ℕ) (s : List ℕ) (h : inRange ed st ≡ true) where
+  pub asked-short : rowWidth * done + area < rowArea ed → askedRows ed mark st done area time at s ≡ noRows (fault AreaTooShort)
   unfolding askedRows
-  asked-short a = rw (h, lt-ltb (rowWidth * done + area) rowArea a)
+  asked-short a = rw (h, lt-ltb (rowWidth * done + area) (rowArea ed) a)
 
-  pub asked-long : rowArea ≤ rowWidth * done + area → maxPacket < at + length s → askedRows mark st done area time at s ≡ noRows (fault PacketLength)
+  pub asked-long : rowArea ed ≤ rowWidth * done + area → maxPacket < at + length s → askedRows ed mark st done area time at s ≡ noRows (fault PacketLength)
   unfolding askedRows
-  asked-long a b = rw (h, le-ltb (rowWidth * done + area) rowArea a, lt-ltb maxPacket (at + length s) b)
+  asked-long a b = rw (h, le-ltb (rowWidth * done + area) (rowArea ed) a, lt-ltb maxPacket (at + length s) b)
 
-  pub asked-in : rowArea ≤ rowWidth * done + area → at + length s ≤ maxPacket → askedRows mark st done area time at s ≡ payloadRows mark (st .format) (st .channels) done time at s
+  pub asked-in : rowArea ed ≤ rowWidth * done + area → at + length s ≤ maxPacket → askedRows ed mark st done area time at s ≡ payloadRows ed mark (st .format) (st .channels) done time at s
   unfolding askedRows
-  asked-in a b = rw (h, le-ltb (rowWidth * done + area) rowArea a, le-ltb maxPacket (at + length s) b)
+  asked-in a b = rw (h, le-ltb (rowWidth * done + area) (rowArea ed) a, le-ltb maxPacket (at + length s) b)
 
 -- the answer and the words of a refusal
 pub answer-none : (x : Rows) (r : Fault) → x ≡ noRows r → PayloadRead.Refused r ≡ rowsAnswer x

@@ -8,6 +8,7 @@ use native.Mathlib.Nat.{suc-mul, add-mul}
 use lib.ListN.{length, drop, length-drop}
 use lib.Dec.{ltb, eqb}
 use borrow.Author.Tests.{ltb-true, ltb-false, eqb-true}
+use Rattle.rtp.specs.Editions.{Edition}
 use Rattle.rtp.specs.Sizes.{maxRows}
 use Rattle.rtp.specs.Numbers.{byteAt}
 use Rattle.rtp.proofs.TestLaws.{by-test}
@@ -80,22 +81,22 @@ coded-passed format (refused r) h = tt
 coded-passed format (groups []) h = tt
 coded-passed format (groups (g ∷ gs)) h = h
 
-coded-step : (format ch rows : ℕ) (s : List ℕ) → ((n : ℕ) (t : List ℕ) → length t < length s → CodedIn format (contents format ch n t))
-    → (r : EntryRead) → entryOf format s ≡ r → CodedIn format (contentsStep format ch rows s (λ n t. contents format ch n t) r)
+coded-step : (ed : Edition) (format ch rows : ℕ) (s : List ℕ) → ((n : ℕ) (t : List ℕ) → length t < length s → CodedIn format (contents ed format ch n t))
+    → (r : EntryRead) → entryOf format s ≡ r → CodedIn format (contentsStep ed format ch rows s (λ n t. contents ed format ch n t) r)
 unfolding meaning
-coded-step format ch rows s ih (EntryRead.Refused r) q = tt
-coded-step format ch rows s ih (EntryRead.Entry e) q =
+coded-step ed format ch rows s ih (EntryRead.Refused r) q = tt
+coded-step ed format ch rows s ih (EntryRead.Entry e) q =
     let c : codeFor format (e .class) (e .length) < noCode = subst (EntryCoded format) q (entry-coded format s) in
-    by-test (ltb maxRows (rows + e .blocks * ch)) (λ a. rw a tt)
+    by-test (ltb (maxRows ed) (rows + e .blocks * ch)) (λ a. rw a tt)
     (λ a. by-test (e .more)
-    (λ m. rw (a, m) (coded-more format (e .size) (meaning format s e) (contents format ch (rows + e .blocks * ch) (drop (e .size) s)) c
+    (λ m. rw (a, m) (coded-more format (e .size) (meaning format s e) (contents ed format ch (rows + e .blocks * ch) (drop (e .size) s)) c
     (ih (rows + e .blocks * ch) (drop (e .size) s) (shorter format s e q))))
     (λ m. rw (a, m) (c, tt)))
 
-coded-by : (f format ch rows : ℕ) (s : List ℕ) → length s < f → CodedIn format (contents format ch rows s)
-coded-by zero format ch rows s h = absurd (omega arith)
-coded-by (suc f) format ch rows s h =
-    rw contents-step (coded-step format ch rows s (λ n t l. coded-by f format ch n t (omega arith)) (entryOf format s) refl)
+coded-by : (ed : Edition) (f format ch rows : ℕ) (s : List ℕ) → length s < f → CodedIn format (contents ed format ch rows s)
+coded-by ed zero format ch rows s h = absurd (omega arith)
+coded-by ed (suc f) format ch rows s h =
+    rw (contents-step ed) (coded-step ed format ch rows s (λ n t l. coded-by ed f format ch n t (omega arith)) (entryOf format s) refl)
 
 -- The rows of a table whose frames end within n bytes
 
@@ -136,15 +137,15 @@ marked-fine format ch n mark (r ∷ rs) l h =
 
 -- The rows of a payload that ends within n bytes, after `done` rows of the same packet
 
-abbrev pub FineRows : ℕ → ℕ → ℕ → ℕ → Rows → Type 0
-FineRows format ch n done (noRows r) = Unit {0}
-FineRows format ch n done (rowsOf rs) = AllRows (RowFine format ch n) rs × (done + length rs ≤ maxRows)
+abbrev pub FineRows : Edition → ℕ → ℕ → ℕ → ℕ → Rows → Type 0
+FineRows ed format ch n done (noRows r) = Unit {0}
+FineRows ed format ch n done (rowsOf rs) = AllRows (RowFine format ch n) rs × (done + length rs ≤ maxRows ed)
 
-placed-fine : (mark format ch n done time at k size : ℕ) (p : Contents) → mark < 2 → at + formatOf format .header + size ≤ n → CodedIn format p → Within done size (sizesAnswer format ch p)
-    → FineRows format ch n done (placedRows mark format ch time at (startingAt k (exact format ch size p)))
+placed-fine : (ed : Edition) (mark format ch n done time at k size : ℕ) (p : Contents) → mark < 2 → at + formatOf format .header + size ≤ n → CodedIn format p → Within ed done size (sizesAnswer format ch p)
+    → FineRows ed format ch n done (placedRows mark format ch time at (startingAt k (exact format ch size p)))
 unfolding placedRows sizesAnswer
-placed-fine mark format ch n done time at k size (refused r) l e h w = tt
-placed-fine mark format ch n done time at k size (groups gs) l e h w =
+placed-fine ed mark format ch n done time at k size (refused r) l e h w = tt
+placed-fine ed mark format ch n done time at k size (groups gs) l e h w =
     by-test (eqb (sizeIn format gs + framesIn ch gs) size)
     (λ a.
     let m = eqb-true (sizeIn format gs + framesIn ch gs) size a in
@@ -152,13 +153,13 @@ placed-fine mark format ch n done time at k size (groups gs) l e h w =
     rw a (marked-fine format ch n mark rs l (table-fine format n (stepOf format) ch time (at + formatOf format .header + sizeIn format gs) gs h (omega arith)), rw (length-marked, length-table) (w .few)))
     (λ a. rw a tt)
 
-pub payload-fine : (mark format ch n done time at : ℕ) (s : List ℕ) → mark < 2 → at + length s ≤ n → FineRows format ch n done (payloadRows mark format ch done time at s)
+pub payload-fine : (ed : Edition) (mark format ch n done time at : ℕ) (s : List ℕ) → mark < 2 → at + length s ≤ n → FineRows ed format ch n done (payloadRows ed mark format ch done time at s)
 unfolding payloadRows payload
-payload-fine mark format ch n done time at s l e =
+payload-fine ed mark format ch n done time at s l e =
     let b = body format s in
-    let p = contents format ch done b in
+    let p = contents ed format ch done b in
     by-test (ltb (length s) (formatOf format .header))
-    (λ a. rw (pay-headless mark format ch done time at s (ltb-true (length s) (formatOf format .header) a)) tt)
-    (λ a. placed-fine mark format ch n done time at (tableStart format s) (length b) (passFirst p) l (rw length-drop (omega (arith, ltb-false (length s) (formatOf format .header) a)))
-    (coded-passed format p (coded-by (suc (length b)) format ch done b (omega arith)))
-    (subst (λ (x : ContentsRead). Within done (length b) x) (sym (sizes-passed format ch p)) (within format ch done b)))
+    (λ a. rw (pay-headless ed mark format ch done time at s (ltb-true (length s) (formatOf format .header) a)) tt)
+    (λ a. placed-fine ed mark format ch n done time at (tableStart format s) (length b) (passFirst p) l (rw length-drop (omega (arith, ltb-false (length s) (formatOf format .header) a)))
+    (coded-passed format p (coded-by ed (suc (length b)) format ch done b (omega arith)))
+    (subst (λ (x : ContentsRead). Within ed done (length b) x) (sym (sizes-passed format ch p)) (within ed format ch done b)))

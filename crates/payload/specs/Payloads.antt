@@ -4,6 +4,7 @@ use mathlib.Core.List.{List, []}
 use mathlib.Core.Bool.{cond}
 use lib.ListN.{length, drop}
 use lib.Dec.{ltb, eqb}
+use Rattle.rtp.specs.Editions.{Edition}
 use Rattle.rtp.specs.Sizes.{maxPacket, rowWidth, rowArea}
 use Rattle.rtp.specs.Numbers.{byteAt}
 use Rattle.rtp.specs.Ranges.{inRange}
@@ -33,9 +34,9 @@ startingAt n (refused f) = refused (shifted n f)
 startingAt n (groups gs) = groups gs
 
 -- the payload s after `rows` rows of the same packet; a fault is counted from the payload's front
-unfoldable pub payload : ℕ → ℕ → ℕ → List ℕ → Contents
-payload format ch rows s =
-    startingAt (tableStart format s) (exact format ch (length (body format s)) (passFirst (contents format ch rows (body format s))))
+unfoldable pub payload : Edition → ℕ → ℕ → ℕ → List ℕ → Contents
+payload ed format ch rows s =
+    startingAt (tableStart format s) (exact format ch (length (body format s)) (passFirst (contents ed format ch rows (body format s))))
 
 -- Document 02, P1: a payload header is the byte of the mode request, which is its high half; the low half is ignored. Without a header there is no request.
 abbrev pub noRequest : ℕ
@@ -55,8 +56,8 @@ placedRows mark format ch time at (refused f) = noRows (shifted at f)
 placedRows mark format ch time at (groups gs) = rowsOf (marked mark (tableRows (stepOf format) ch time (at + formatOf format .header + sizeIn format gs) gs))
 
 -- the rows of the payload s that stands at `at` and is heard with this mark
-unfoldable pub payloadRows : ℕ → ℕ → ℕ → ℕ → ℕ → ℕ → List ℕ → Rows
-payloadRows mark format ch rows time at s = placedRows mark format ch time at (payload format ch rows s)
+unfoldable pub payloadRows : Edition → ℕ → ℕ → ℕ → ℕ → ℕ → ℕ → List ℕ → Rows
+payloadRows ed mark format ch rows time at s = placedRows mark format ch time at (payload ed format ch rows s)
 
 -- the words of rows that were read: none of a refusal
 unfoldable pub rowsWords : Rows → List ℕ
@@ -85,10 +86,10 @@ rowsAnswer (noRows f) = PayloadRead.Refused f
 rowsAnswer (rowsOf rs) = PayloadRead.Rows (length rs)
 
 -- the payload of a call: the settings are asked first, then the area of so many words for all the rows that a packet may have, then the payload's length
-unfoldable pub askedRows : ℕ → Settings → ℕ → ℕ → ℕ → ℕ → List ℕ → Rows
-askedRows mark st rows area time at s =
-    cond (inRange st)
-    (cond (ltb (rowWidth * rows + area) rowArea) (noRows (fault AreaTooShort))
+unfoldable pub askedRows : Edition → ℕ → Settings → ℕ → ℕ → ℕ → ℕ → List ℕ → Rows
+askedRows ed mark st rows area time at s =
+    cond (inRange ed st)
+    (cond (ltb (rowWidth * rows + area) (rowArea ed)) (noRows (fault AreaTooShort))
     (cond (ltb maxPacket (at + length s)) (noRows (fault PacketLength))
-    (payloadRows mark (st .format) (st .channels) rows time at s)))
+    (payloadRows ed mark (st .format) (st .channels) rows time at s)))
     (noRows (fault SettingsOutOfRange))

@@ -12,6 +12,7 @@ use rtp::sizes::ROW_AREA;
 use rtp::sizes::ROW_WIDTH;
 ghost use mathlib.Core.Path.{_≡_};
 ghost use lib.ListN.{length};
+ghost use Rattle.rtp.specs.Editions.{current};
 ghost use Rattle.rtp.specs.Sizes.{rowArea};
 ghost use Rattle.rtp.specs.Areas.{over};
 ghost use Rattle.tags.specs.Tags.{redundantMark};
@@ -28,7 +29,7 @@ pub enum PayloadRead {
 
 // Whether a payload can be read after `done` rows of its packet, and how many rows it gives.
 pub fn check_payload(asked: Settings, done: u32, s: &[u8]) -> PayloadRead
-    ensures { λ r. ⌜ payloadNumbers r ≡ rowsNumbers (askedRows redundantMark asked done rowArea 0 0 (now (s .entry))) ⌝ }
+    ensures { λ r. ⌜ payloadNumbers r ≡ rowsNumbers (askedRows current redundantMark asked done (rowArea current) 0 0 (now (s .entry))) ⌝ }
 {
     if settings::in_range(asked) {
         if MAX_PACKET < s.len() {
@@ -82,8 +83,8 @@ pub fn read_payload(
     s: &[u8],
     area: &mut [u32],
 ) -> PayloadRead
-    ensures { λ r. ⌜ (payloadNumbers r ≡ rowsNumbers (askedRows mark asked done (length (now (area .entry))) time at (now (s .entry))))
-        × (now (area .exit) ≡ over (rowsWords (askedRows mark asked done (length (now (area .entry))) time at (now (s .entry)))) (now (area .entry))) ⌝ }
+    ensures { λ r. ⌜ (payloadNumbers r ≡ rowsNumbers (askedRows current mark asked done (length (now (area .entry))) time at (now (s .entry))))
+        × (now (area .exit) ≡ over (rowsWords (askedRows current mark asked done (length (now (area .entry))) time at (now (s .entry)))) (now (area .entry))) ⌝ }
 {
     if settings::in_range(asked) {
         if ROW_WIDTH * (done as usize) + area.len() < ROW_AREA {

@@ -6,6 +6,7 @@ use Prim.Native.Nat.{ℕ, _%_}
 use native.Mathlib.Omega.{arith}
 use lib.ListN.{length}
 use borrow.Author.Tests.{eq-eqb, ne-eqb}
+use Rattle.rtp.specs.Editions.{Edition}
 use Rattle.rtp.specs.Sizes.{rowWidth}
 use Rattle.rtp.specs.Ranges.{inRange}
 use Rattle.rtp.specs.declared.settings.Settings.{Settings}
@@ -41,31 +42,31 @@ unfolding listAnswer
 answered format ch (refused q) s e = let z : _≡_ {A = ℕ} 0 1 = cc in absurd (omega arith)
 answered format ch (groups gs) s e = record { table-groups = gs; planned = refl; table = ap tableOf e; payload = ap payloadOf e }
 
-pub unanswered : (format ch : ℕ) (ws : List ℕ) → ListPlan.Unwritable ≡ listAnswer format ch (plan format ch (rowsIn ws)) → plan format ch (rowsIn ws) ≡ refused unwritable
-unanswered format ch ws e = by-plan (plan format ch (rowsIn ws)) refl e
+pub unanswered : (ed : Edition) (format ch : ℕ) (ws : List ℕ) → ListPlan.Unwritable ≡ listAnswer format ch (plan ed format ch (rowsIn ws)) → plan ed format ch (rowsIn ws) ≡ refused unwritable
+unanswered ed format ch ws e = by-plan (plan ed format ch (rowsIn ws)) refl e
   where
-    by-plan : (x : Contents) → plan format ch (rowsIn ws) ≡ x → ListPlan.Unwritable ≡ listAnswer format ch x → plan format ch (rowsIn ws) ≡ refused unwritable
-    by-plan (refused q) x y = x ∙ ap refused (plan-refused format ch (rowsIn ws) q x)
+    by-plan : (x : Contents) → plan ed format ch (rowsIn ws) ≡ x → ListPlan.Unwritable ≡ listAnswer format ch x → plan ed format ch (rowsIn ws) ≡ refused unwritable
+    by-plan (refused q) x y = x ∙ ap refused (plan-refused ed format ch (rowsIn ws) q x)
     by-plan (groups gs) x y = let z : _≡_ {A = ℕ} 0 1 = unfold listAnswer in cc in absurd (omega arith)
 
 -- Measuring
 
-pub measured-out : (st : Settings) (ws : List ℕ) → inRange st ≡ false → refusedNumbers SettingsOutOfRange ≡ measured st ws
+pub measured-out : (ed : Edition) (st : Settings) (ws : List ℕ) → inRange ed st ≡ false → refusedNumbers SettingsOutOfRange ≡ measured ed st ws
 unfolding measured
-measured-out st ws h = rw h
+measured-out ed st ws h = rw h
 
-module _ (st : Settings) (ws : List ℕ) (i : inRange st ≡ true) where
-  pub measured-cut : (length ws % rowWidth ≡ 0 → ⊥) → refusedNumbers Unwritable ≡ measured st ws
+module _ (ed : Edition) (st : Settings) (ws : List ℕ) (i : inRange ed st ≡ true) where
+  pub measured-cut : (length ws % rowWidth ≡ 0 → ⊥) → refusedNumbers Unwritable ≡ measured ed st ws
   unfolding measured
   measured-cut w = rw (i, ne-eqb (length ws % rowWidth) 0 w)
 
   module _ (w : length ws % rowWidth ≡ 0) where
-    pub measured-plan : measured st ws ≡ plannedNumbers (st .format) (st .channels) (plan (st .format) (st .channels) (rowsIn ws))
+    pub measured-plan : measured ed st ws ≡ plannedNumbers (st .format) (st .channels) (plan ed (st .format) (st .channels) (rowsIn ws))
     unfolding measured
     measured-plan = rw (i, eq-eqb (length ws % rowWidth) 0 w)
 
-    pub measured-none : plan (st .format) (st .channels) (rowsIn ws) ≡ refused unwritable → refusedNumbers Unwritable ≡ measured st ws
+    pub measured-none : plan ed (st .format) (st .channels) (rowsIn ws) ≡ refused unwritable → refusedNumbers Unwritable ≡ measured ed st ws
     measured-none e = sym (measured-plan ∙ ap (plannedNumbers (st .format) (st .channels)) e)
 
-    pub measured-all : (s : Sizes) → Answered (st .format) (st .channels) (plan (st .format) (st .channels) (rowsIn ws)) s → writtenNumbers (Written.Bytes (s .payload)) ≡ measured st ws
+    pub measured-all : (s : Sizes) → Answered (st .format) (st .channels) (plan ed (st .format) (st .channels) (rowsIn ws)) s → writtenNumbers (Written.Bytes (s .payload)) ≡ measured ed st ws
     measured-all s d = sym (measured-plan ∙ ap (plannedNumbers (st .format) (st .channels)) (d .planned) ∙ rw (← (d .payload)))

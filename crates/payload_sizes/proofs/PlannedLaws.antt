@@ -4,12 +4,14 @@ use mathlib.Core.List.{List, [], _∷_}
 use Prim.Native.Nat.{ℕ}
 use lib.ListN.{length}
 use lib.Dec.{ltb, leb, eqb}
+use Rattle.rtp.specs.Editions.{Edition}
 use Rattle.rtp.specs.Sizes.{maxRows}
 use Rattle.rtp.specs.declared.refusal.Fault.{Fault}
 use Rattle.rtp.proofs.TestLaws.{by-test}
 use Rattle.formats.specs.Formats.{maxGap}
 use Rattle.contents.specs.Contents.{Contents, refused, groups}
 use Rattle.frame_rows.specs.Rows.{Row}
+use Rattle.plans.specs.Entries.{entriesOf, inEntries}
 use Rattle.plans.specs.Plans.{maxPayload, unwritable, headGap, joins, attach, follows, nextChannel, planFrom, stepBefore, payloadSize, fitting, plan}
 
 -- Where there is no plan, the reason is 13
@@ -33,15 +35,15 @@ plain-from format ch c p (r ∷ rs) =
     (λ a. by-test (eqb c 0) (λ b. rw (a, b) (plain-attach format r _ (planFrom format ch (nextChannel ch c) r rs) i)) (λ b. rw (a, b) i))
     (λ a. rw a refl)
 
-plain-fitting : (format ch : ℕ) (x : Contents) → Plain x → Plain (fitting format ch x)
+plain-fitting : (format ch : ℕ) (x : Contents) → Plain x → Plain (fitting format ch (inEntries x))
 plain-fitting format ch (refused q) h = h
-plain-fitting format ch (groups gs) h = by-test (ltb maxPayload (payloadSize format ch gs)) (λ a. rw a refl) (λ a. rw a tt)
+plain-fitting format ch (groups gs) h = by-test (ltb maxPayload (payloadSize format ch (entriesOf gs))) (λ a. rw a refl) (λ a. rw a tt)
 
-plain-plan : (format ch : ℕ) (rs : List Row) → Plain (plan format ch rs)
+plain-plan : (ed : Edition) (format ch : ℕ) (rs : List Row) → Plain (plan ed format ch rs)
 unfolding plan
-plain-plan format ch [] = refl
-plain-plan format ch (r ∷ rs) =
-    by-test (ltb maxRows (length (r ∷ rs))) (λ a. rw a refl) (λ a. rw a (plain-fitting format ch (planFrom format ch 0 (stepBefore format r) (r ∷ rs)) (plain-from format ch 0 (stepBefore format r) (r ∷ rs))))
+plain-plan ed format ch [] = refl
+plain-plan ed format ch (r ∷ rs) =
+    by-test (ltb (maxRows ed) (length (r ∷ rs))) (λ a. rw a refl) (λ a. rw a (plain-fitting format ch (planFrom format ch 0 (stepBefore format r) (r ∷ rs)) (plain-from format ch 0 (stepBefore format r) (r ∷ rs))))
 
-pub plan-refused : (format ch : ℕ) (rs : List Row) (q : Fault) → plan format ch rs ≡ refused q → q ≡ unwritable
-plan-refused format ch rs q e = subst (λ (x : Contents). Plain x) e (plain-plan format ch rs)
+pub plan-refused : (ed : Edition) (format ch : ℕ) (rs : List Row) (q : Fault) → plan ed format ch rs ≡ refused q → q ≡ unwritable
+plan-refused ed format ch rs q e = subst (λ (x : Contents). Plain x) e (plain-plan ed format ch rs)

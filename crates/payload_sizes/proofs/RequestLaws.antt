@@ -7,6 +7,7 @@ use native.Mathlib.Omega.{arith}
 use lib.ListN.{length, set}
 use lib.Dec.{ltb, eqb}
 use borrow.Author.Tests.{ltb-false, eqb-true, eqb-false, eq-eqb, ne-eqb}
+use Rattle.rtp.specs.Editions.{Edition}
 use Rattle.rtp.specs.Areas.{over, fitted}
 use Rattle.rtp.specs.Ranges.{inRange}
 use Rattle.rtp.specs.declared.settings.Settings.{Settings}
@@ -53,13 +54,13 @@ four-bits request h = omega arith
 
 -- what is asked for is in range
 
-pub record Askable (st : Settings) (request : ℕ) : Type 0 where
+pub record Askable (ed : Edition) (st : Settings) (request : ℕ) : Type 0 where
   pub small : request ≤ maxRequest
-  pub settings : inRange st ≡ true
+  pub settings : inRange ed st ≡ true
 
-pub asked : (st : Settings) (request : ℕ) → askable st request ≡ true → Askable st request
+pub asked : (ed : Edition) (st : Settings) (request : ℕ) → askable ed st request ≡ true → Askable ed st request
 unfolding askable
-asked st request h =
+asked ed st request h =
     by-test (ltb maxRequest request)
     (λ a. not-both false (rw a at h) refl)
     (λ a. record { small = ltb-false maxRequest request a; settings = rw a at h })

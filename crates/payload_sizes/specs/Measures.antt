@@ -2,6 +2,7 @@
 use Prim.Native.Nat.{ℕ}
 use mathlib.Core.List.{List}
 use mathlib.Core.Bool.{cond}
+use Rattle.rtp.specs.Editions.{Edition}
 use Rattle.rtp.specs.Ranges.{inRange}
 use Rattle.rtp.specs.Refusals.{number}
 use Rattle.rtp.specs.declared.settings.Settings.{Settings}
@@ -32,8 +33,8 @@ abbrev pub plannedNumbers : ℕ → ℕ → Contents → Numbers
 plannedNumbers format ch (refused f) = refusedNumbers (f .refusal)
 plannedNumbers format ch (groups gs) = record { refusal = 0; count = payloadSize format ch gs }
 
-unfoldable pub measured : Settings → List ℕ → Numbers
-measured st ws =
-    cond (inRange st)
-    (cond (whole ws) (plannedNumbers (st .format) (st .channels) (plan (st .format) (st .channels) (rowsIn ws))) (refusedNumbers Unwritable))
+unfoldable pub measured : Edition → Settings → List ℕ → Numbers
+measured ed st ws =
+    cond (inRange ed st)
+    (cond (whole ws) (plannedNumbers (st .format) (st .channels) (plan ed (st .format) (st .channels) (rowsIn ws))) (refusedNumbers Unwritable))
     (refusedNumbers SettingsOutOfRange)

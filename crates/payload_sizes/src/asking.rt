@@ -4,6 +4,7 @@ use rtp::settings;
 use rtp::settings::Settings;
 ghost use mathlib.Core.Path.{_≡_};
 ghost use Prim.Native.Nat.{_%_};
+ghost use Rattle.rtp.specs.Editions.{current};
 ghost use Rattle.rtp.specs.Areas.{fitted};
 ghost use Rattle.formats.specs.Formats.{formatOf};
 ghost use Rattle.payload_sizes.specs.Asking.{askable, requestBytes};
@@ -13,7 +14,7 @@ pub const MAX_REQUEST: u8 = 15;
 
 // Whether the settings and the mode request that a writer is asked with are in range.
 pub fn in_range(asked: Settings, mode_request: u8) -> bool
-    ensures { λ r. ⌜ r ≡ askable asked «mode_request» ⌝ }
+    ensures { λ r. ⌜ r ≡ askable current asked «mode_request» ⌝ }
 {
     if MAX_REQUEST < mode_request {
         return false;

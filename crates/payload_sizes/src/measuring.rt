@@ -6,6 +6,7 @@ use rtp::settings;
 use rtp::settings::Settings;
 use rtp::sizes::ROW_WIDTH;
 ghost use mathlib.Core.Path.{_≡_};
+ghost use Rattle.rtp.specs.Editions.{current};
 ghost use Rattle.payload_sizes.specs.Measures.{writtenNumbers, measured};
 
 // The number of bytes written, or why there are none.
@@ -16,7 +17,7 @@ pub enum Written {
 
 // The bytes that a list's payload takes, where its rows lie inside the bytes that they point into.
 pub fn measure_payload(asked: Settings, rows: &[u32]) -> Written
-    ensures { λ r. ⌜ writtenNumbers r ≡ measured asked (now (rows .entry)) ⌝ }
+    ensures { λ r. ⌜ writtenNumbers r ≡ measured current asked (now (rows .entry)) ⌝ }
 {
     if settings::in_range(asked) {
         if rows.len() % ROW_WIDTH == 0 {

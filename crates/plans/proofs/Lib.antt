@@ -1,4 +1,5 @@
 pub mod ListLaws
 pub mod NumberLaws
+pub mod EntriesLaws
 pub mod PlanLaws
 pub mod BlockLaws

@@ -9,38 +9,31 @@ use lib.ListN.{length, getD, drop}
 use lib.Dec.{ltb, leb, eqb}
 use native.Mathlib.Numerals.{add-one}
 use borrow.Author.Tests.{lt-ltb, le-ltb, ltb-true, leb-true, eqb-true, eqb-false, eq-eqb, ne-eqb}
+use Rattle.rtp.specs.Editions.{Edition, current}
 use Rattle.rtp.specs.Sizes.{maxRows, maxFrame, rowWidth}
 use Rattle.rtp.proofs.TestLaws.{by-test, not-both, both}
-use Rattle.contents.specs.Contents.{Group, Contents, refused, groups, gapsSize, entrySize, sizeIn, framesIn}
+use Rattle.contents.specs.Contents.{Group, Contents, refused, groups, sizeIn, framesIn}
 use Rattle.frame_rows.specs.Rows.{Row}
 use Rattle.plans.specs.declared.planning.Plan.{Plan}
 use Rattle.plans.specs.declared.planning.Planned.{Planned}
 use Rattle.plans.specs.declared.planning.ListPlan.{ListPlan}
 use Rattle.formats.specs.Formats.{formatOf, stepOf, maxGap}
 use Rattle.codes.specs.Codes.{noCode, codeFor}
-use Rattle.contents.proofs.EntryLaws.{min-few}
 use Rattle.formats.proofs.FormatLaws.{header-small}
 use Rattle.codes.proofs.CodeLaws.{code-small}
-use Rattle.plans.specs.Plans.{maxPayload, gapBetween, starts, headGap, joinsRun, joins, attach, follows, planFrom, plan, nextChannel, stepBefore, payloadSize, fitting}
+use Rattle.plans.specs.Plans.{maxPayload, gapBetween, starts, headGap, single, joinsRun, joins, attach, follows, planFrom, plan, nextChannel, stepBefore, fitting}
+use Rattle.plans.specs.Entries.{entriesOf, inEntries}
 use Rattle.plans.specs.Lists.{rowsIn}
 use Rattle.plans.proofs.ListLaws.{rows-none, rows-more, length-rows}
-use Rattle.plans.specs.Room.{rowAs, wordsAt, planAnswer, attachPlan, SmallPlan, Small, listAnswer}
+use Rattle.plans.proofs.EntriesLaws.{run-first, run-next, size-entries, frames-entries}
+use Rattle.plans.specs.Room.{rowAs, wordsAt, runSize, planAnswer, attachPlan, SmallPlan, Small, listAnswer}
 
 -- the bytes of a frame-block stay small
 pub block-frames : (ch n : ℕ) → ch < 256 → n ≤ maxFrame → ch * n ≤ 81600
 block-frames ch n c s = let h : ch ≤ 255 = omega arith in omega (arith, mul-le-mul-left ch s, mul-le-mul-right {m = ch} {n = 255} maxFrame h)
 
-pub plan-frames : (format ch : ℕ) (p : Plan) → SmallPlan format ch maxRows p → ch < 256 → p .frames ≤ 10444800
+pub plan-frames : (format ch : ℕ) (p : Plan) → SmallPlan format ch (maxRows current) p → ch < 256 → p .frames ≤ maxRows current * 81600
 plan-frames format ch p s c = omega (arith, block-frames ch maxFrame c (omega arith), s .framed)
-
--- an entry has at most three bytes for its first frame-block, and at most one more for each other
-pub size-grows : (format n : ℕ) → entrySize format n ≤ 2 + n
-unfolding entrySize gapsSize
-size-grows format n = let m = min-few format in by-test (formatOf format .displaced) (λ a. rw a (omega arith)) (λ a. rw a (omega arith))
-
-pub size-next : (format n : ℕ) → entrySize format (n + 1) ≤ entrySize format n + 1
-unfolding entrySize gapsSize
-size-next format n = by-test (formatOf format .displaced) (λ a. rw a (omega arith)) (λ a. rw a (omega arith))
 
 -- a frame-block before a plan, in the plan's numbers
 
@@ -61,49 +54,49 @@ pub frames-more : (n ch len : ℕ) → suc n * ch * len ≡ ch * len + n * ch * 
 frames-more n ch len = rw (suc-mul n ch, add-mul (n * ch) ch len) (omega arith)
 
 pub answer-attach : (format ch : ℕ) (r : Row) (gap : ℕ) (x : Contents) → planAnswer format ch (attach format r gap x) ≡ attachPlan format ch r gap (planAnswer format ch x)
-unfolding planAnswer sizeIn framesIn
+unfolding planAnswer framesIn
 answer-attach format ch r gap (refused q) = refl
-answer-attach format ch r gap (groups []) = rw (one-mul ch, add-zero, add-zero)
+answer-attach format ch r gap (groups []) = unfold entriesOf sizeIn in rw (size-entries format (single r gap) [], one-mul ch, add-zero, add-zero)
 answer-attach format ch r gap (groups (g ∷ gs)) =
     by-test (joins format r g)
     (λ a.
     let n = length (g .gaps) in
-    let t : entrySize format (suc n) + sizeIn format gs ≡ entrySize format (n + 1) + (entrySize format n + sizeIn format gs - entrySize format n) =
+    let t : runSize format (suc n) + sizeIn format (entriesOf gs) ≡ runSize format (n + 1) + (runSize format n + sizeIn format (entriesOf gs) - runSize format n) =
     rw (add-one (length (g .gaps))) (omega arith) in
     let f : suc n * ch * g .length + framesIn ch gs ≡ ch * r .length + (n * ch * g .length + framesIn ch gs) =
     rw (joins-true format r g a .length, frames-more n ch (g .length)) (omega arith) in
-    rw (a, t, f, add-one n))
-    (λ a. by-test (leb (headGap g) (maxGap format)) (λ b. rw (a, b, one-mul ch)) (λ b. rw (a, b)))
+    rw (a, size-entries, size-entries, t, f, add-one n))
+    (λ a. by-test (leb (headGap g) (maxGap format)) (λ b. rw (a, b, size-entries format (single r gap) (g ∷ gs), one-mul ch)) (λ b. rw (a, b)))
 
 -- Bounds
 
 pub small-more : (format ch n : ℕ) (x : Planned) → Small format ch n x → Small format ch (suc n) x
-small-more format ch n (Planned.Table p) s = record { few = omega arith; entry = s .entry; tabled = omega arith; framed = rw suc-mul (omega arith) }
+small-more format ch n (Planned.Table p) s = record { few = omega arith; run = s .run; tabled = omega arith; framed = rw suc-mul (omega arith) }
 small-more format ch n Planned.Empty s = tt
 small-more format ch n Planned.Unwritable s = tt
 
 pub small-weaker : (format ch m n : ℕ) (x : Planned) → m ≤ n → Small format ch m x → Small format ch n x
-small-weaker format ch m n (Planned.Table p) l s = record { few = omega arith; entry = s .entry; tabled = omega arith; framed = omega (arith, mul-le-mul-right {m = m} {n = n} (ch * maxFrame) l) }
+small-weaker format ch m n (Planned.Table p) l s = record { few = omega arith; run = s .run; tabled = omega arith; framed = omega (arith, mul-le-mul-right {m = m} {n = n} (ch * maxFrame) l) }
 small-weaker format ch m n Planned.Empty l s = tt
 small-weaker format ch m n Planned.Unwritable l s = tt
 
 small-attach : (format ch n : ℕ) (r : Row) (gap : ℕ) (x : Planned) → r .length ≤ maxFrame → Small format ch n x → Small format ch (suc n) (attachPlan format ch r gap x)
 small-attach format ch n r gap Planned.Unwritable l s = tt
 small-attach format ch n r gap Planned.Empty l s =
-    record { few = omega arith; entry = omega arith; tabled = omega (arith, size-grows format 1); framed = rw suc-mul (omega (arith, mul-le-mul-left ch l)) }
+    record { few = omega arith; run = omega arith; tabled = omega (arith, run-first format); framed = rw suc-mul (omega (arith, mul-le-mul-left ch l)) }
 small-attach format ch n r gap (Planned.Table p) l s =
     by-test (joinsRun format r (p .class) (p .length) (p .gap))
     (λ a. rw a (record {
       few = omega arith;
-      entry = omega arith;
-      tabled = omega (arith, size-next format (p .blocks), s .entry, s .tabled);
+      run = omega arith;
+      tabled = omega (arith, run-next format (p .blocks), s .run, s .tabled);
       framed = rw suc-mul (omega (arith, mul-le-mul-left ch l, s .framed));
     }))
     (λ a. by-test (leb (p .gap) (maxGap format))
     (λ b. rw (a, b) (record {
       few = omega arith;
-      entry = omega arith;
-      tabled = omega (arith, size-grows format 1, s .tabled);
+      run = omega arith;
+      tabled = omega (arith, run-first format, s .tabled);
       framed = rw suc-mul (omega (arith, mul-le-mul-left ch l, s .framed));
     }))
     (λ b. rw (a, b) tt))
@@ -172,12 +165,13 @@ fittingPlan format (Planned.Table p) =
     cond (ltb maxPayload (formatOf format .header + p .table + p .frames)) ListPlan.Unwritable
     (ListPlan.Fits (record { table = p .table; payload = formatOf format .header + p .table + p .frames }))
 
-answer-fitting : (format ch : ℕ) (x : Contents) → listAnswer format ch (fitting format ch x) ≡ fittingPlan format (planAnswer format ch x)
+answer-fitting : (format ch : ℕ) (x : Contents) → listAnswer format ch (fitting format ch (inEntries x)) ≡ fittingPlan format (planAnswer format ch x)
 unfolding planAnswer listAnswer
 answer-fitting format ch (refused q) = refl
-answer-fitting format ch (groups []) = unfold sizeIn framesIn in rw (le-ltb maxPayload (formatOf format .header + 0 + 0) (omega (arith, header-small format)))
+answer-fitting format ch (groups []) = unfold entriesOf sizeIn framesIn in rw (le-ltb maxPayload (formatOf format .header + 0 + 0) (omega (arith, header-small format)))
 answer-fitting format ch (groups (g ∷ gs)) =
-    by-test (ltb maxPayload (payloadSize format ch (g ∷ gs))) (λ a. rw a) (λ a. rw a)
+    rw (frames-entries ch (g ∷ gs))
+    (by-test (ltb maxPayload (formatOf format .header + sizeIn format (entriesOf (g ∷ gs)) + framesIn ch (g ∷ gs))) (λ a. rw a) (λ a. rw (a, frames-entries ch (g ∷ gs))))
 
 -- no list of no channels has a plan: after its first row none stands at the first channel again
 no-channels : (format c : ℕ) (p : Row) (rs : List Row) → (c ≡ 0 → ⊥) → planAnswer format 0 (planFrom format 0 c p rs) ≡ Planned.Unwritable
@@ -195,30 +189,30 @@ first-channel format p r rs =
     (λ a. rw a (answer-attach format 0 r _ (planFrom format 0 1 r rs) ∙ ap (attachPlan format 0 r _) (no-channels format 1 r rs (λ x. omega arith))))
     (λ a. rw a (unfold planAnswer in refl))
 
-pub no-channels-plan : (format ch : ℕ) (rs : List Row) → ch ≡ 0 → listAnswer format ch (plan format ch rs) ≡ ListPlan.Unwritable
+pub no-channels-plan : (ed : Edition) (format ch : ℕ) (rs : List Row) → ch ≡ 0 → listAnswer format ch (plan ed format ch rs) ≡ ListPlan.Unwritable
 unfolding plan
-no-channels-plan format ch [] z = unfold listAnswer in refl
-no-channels-plan format ch (r ∷ rs) z =
-    by-test (ltb maxRows (length (r ∷ rs)))
+no-channels-plan ed format ch [] z = unfold listAnswer in refl
+no-channels-plan ed format ch (r ∷ rs) z =
+    by-test (ltb (maxRows ed) (length (r ∷ rs)))
     (λ a. rw a (unfold listAnswer in refl))
     (λ a. rw (z, a) (answer-fitting format 0 (planFrom format 0 0 (stepBefore format r) (r ∷ rs)) ∙ ap (fittingPlan format) (first-channel format (stepBefore format r) r rs)))
 
-module _ (format ch : ℕ) (ws : List ℕ) where
-  pub list-none : length ws < rowWidth → listAnswer format ch (plan format ch (rowsIn ws)) ≡ ListPlan.Unwritable
+module _ (ed : Edition) (format ch : ℕ) (ws : List ℕ) where
+  pub list-none : length ws < rowWidth → listAnswer format ch (plan ed format ch (rowsIn ws)) ≡ ListPlan.Unwritable
   unfolding plan listAnswer
   list-none h = rw (rows-none ws h)
 
   module _ (h : rowWidth ≤ length ws) where
-    pub list-many : maxRows < length ws / rowWidth → listAnswer format ch (plan format ch (rowsIn ws)) ≡ ListPlan.Unwritable
+    pub list-many : maxRows ed < length ws / rowWidth → listAnswer format ch (plan ed format ch (rowsIn ws)) ≡ ListPlan.Unwritable
     unfolding plan listAnswer
-    list-many m = rw (rows-more ws h, lt-ltb maxRows (length (rowAs (wordsAt ws 0) ∷ rowsIn (drop rowWidth ws))) (omega (arith, length-rows ws, ap (λ (l : List Row). length l) (rows-more ws h))))
+    list-many m = rw (rows-more ws h, lt-ltb (maxRows ed) (length (rowAs (wordsAt ws 0) ∷ rowsIn (drop rowWidth ws))) (omega (arith, length-rows ws, ap (λ (l : List Row). length l) (rows-more ws h))))
 
-    pub list-plan : length ws / rowWidth ≤ maxRows → plan format ch (rowsIn ws) ≡ fitting format ch (planFrom format ch 0 (stepBefore format (rowAs (wordsAt ws 0))) (rowsIn ws))
+    pub list-plan : length ws / rowWidth ≤ maxRows ed → plan ed format ch (rowsIn ws) ≡ fitting format ch (inEntries (planFrom format ch 0 (stepBefore format (rowAs (wordsAt ws 0))) (rowsIn ws)))
     unfolding plan
     list-plan m =
-        let l : length (rowAs (wordsAt ws 0) ∷ rowsIn (drop rowWidth ws)) ≤ maxRows = omega (arith, length-rows ws, ap (λ (l : List Row). length l) (rows-more ws h)) in
-        rw (rows-more ws h, le-ltb maxRows (length (rowAs (wordsAt ws 0) ∷ rowsIn (drop rowWidth ws))) l)
+        let l : length (rowAs (wordsAt ws 0) ∷ rowsIn (drop rowWidth ws)) ≤ maxRows ed = omega (arith, length-rows ws, ap (λ (l : List Row). length l) (rows-more ws h)) in
+        rw (rows-more ws h, le-ltb (maxRows ed) (length (rowAs (wordsAt ws 0) ∷ rowsIn (drop rowWidth ws))) l)
 
-    pub list-answer : length ws / rowWidth ≤ maxRows → (x : Planned) → x ≡ planAnswer format ch (planFrom format ch 0 (stepBefore format (rowAs (wordsAt ws 0))) (rowsIn ws))
-        → listAnswer format ch (plan format ch (rowsIn ws)) ≡ fittingPlan format x
+    pub list-answer : length ws / rowWidth ≤ maxRows ed → (x : Planned) → x ≡ planAnswer format ch (planFrom format ch 0 (stepBefore format (rowAs (wordsAt ws 0))) (rowsIn ws))
+        → listAnswer format ch (plan ed format ch (rowsIn ws)) ≡ fittingPlan format x
     list-answer m x e = ap (listAnswer format ch) (list-plan m) ∙ answer-fitting format ch (planFrom format ch 0 (stepBefore format (rowAs (wordsAt ws 0))) (rowsIn ws)) ∙ ap (fittingPlan format) (sym e)

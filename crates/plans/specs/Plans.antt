@@ -1,10 +1,11 @@
 -- The table of contents that a frame list is written with: one entry for each longest run of frame-blocks of equal length (GSM-HR: one
--- entry a frame), or none. A plan is a table as reading has it: a list of groups.
+-- entry a frame), two where it is longer than an entry can count, or none. A plan is a table as reading has it: a list of groups.
 use Prim.Native.Nat.{ℕ, _+_, _-_, _/_, _%_}
 use mathlib.Core.List.{List, [], _∷_}
 use mathlib.Core.Bool.{Bool, false, cond}
 use lib.ListN.{length, getD}
 use lib.Dec.{ltb, leb, eqb}
+use Rattle.rtp.specs.Editions.{Edition}
 use Rattle.rtp.specs.Sizes.{maxRows, minPacket, maxPacket}
 use Rattle.rtp.specs.Time.{difference}
 use Rattle.rtp.specs.Faults.{fault}
@@ -14,6 +15,7 @@ use Rattle.formats.specs.Formats.{formatOf, stepOf, maxGap}
 use Rattle.contents.specs.Contents.{Group, Contents, refused, groups, sizeIn, framesIn}
 use Rattle.frame_rows.specs.Rows.{Row}
 use Rattle.codes.specs.Codes.{noCode, codeFor}
+use Rattle.plans.specs.Entries.{inEntries}
 
 -- the longest payload that is written alone: what a packet has room for after its header
 abbrev pub maxPayload : ℕ
@@ -73,7 +75,7 @@ attach format r gap (groups (g ∷ gs)) =
     cond (joins format r g) (groups (record { class = g .class; length = g .length; gaps = gap ∷ g .gaps } ∷ gs))
     (cond (leb (headGap g) (maxGap format)) (groups (single r gap ∷ g ∷ gs)) (refused unwritable))
 
--- the plan of the rows from channel c on, after the row p
+-- the runs of the rows from channel c on, after the row p
 unfoldable pub planFrom : ℕ → ℕ → ℕ → Row → List Row → Contents
 planFrom format ch c p [] = cond (eqb c 0) (groups []) (refused unwritable)
 planFrom format ch c p (r ∷ rs) =
@@ -95,8 +97,8 @@ fitting format ch (refused q) = refused q
 fitting format ch (groups gs) = cond (ltb maxPayload (payloadSize format ch gs)) (refused unwritable) (groups gs)
 
 -- the plan of a whole list: an empty one has none, nor has one of too many rows
-unfoldable pub plan : ℕ → ℕ → List Row → Contents
-plan format ch [] = refused unwritable
-plan format ch (r ∷ rs) =
-    cond (ltb maxRows (length (r ∷ rs))) (refused unwritable)
-    (fitting format ch (planFrom format ch 0 (stepBefore format r) (r ∷ rs)))
+unfoldable pub plan : Edition → ℕ → ℕ → List Row → Contents
+plan ed format ch [] = refused unwritable
+plan ed format ch (r ∷ rs) =
+    cond (ltb (maxRows ed) (length (r ∷ rs))) (refused unwritable)
+    (fitting format ch (inEntries (planFrom format ch 0 (stepBefore format r) (r ∷ rs))))

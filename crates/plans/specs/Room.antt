@@ -4,6 +4,7 @@ use mathlib.Core.List.{List, [], _∷_}
 use mathlib.Core.Bool.{cond}
 use lib.ListN.{length, getD}
 use lib.Dec.{leb}
+use Rattle.rtp.specs.Editions.{Edition}
 use Rattle.rtp.specs.Sizes.{maxRows, maxFrame}
 use Rattle.rtp.specs.Refusals.{number}
 use Rattle.rtp.specs.declared.refusal.Refusal.the-variants.{Unwritable}
@@ -15,6 +16,7 @@ use Rattle.plans.specs.declared.planning.Plan.{Plan}
 use Rattle.plans.specs.declared.planning.Planned.{Planned}
 use Rattle.plans.specs.declared.planning.ListPlan.{ListPlan}
 use Rattle.plans.specs.Lists.{rowOf}
+use Rattle.plans.specs.Entries.{maxBlocks, firstPart, entriesOf}
 use Rattle.plans.specs.Plans.{headGap, joinsRun, payloadSize}
 
 -- the words of the row at a word of the area, with 0 for one past the end
@@ -24,7 +26,11 @@ wordsAt ws at = record { time = getD ws at 0; tag = getD ws (at + 1) 0; start = 
 abbrev pub rowAs : RowWords → Row
 rowAs w = rowOf (w .time) (w .tag) (w .start) (w .length)
 
--- a plan by its first run
+-- the bytes of the entries of a run of n frame-blocks
+unfoldable pub runSize : ℕ → ℕ → ℕ
+runSize format n = cond (leb n maxBlocks) (entrySize format n) (entrySize format firstPart + entrySize format (n - firstPart))
+
+-- a plan by its first run; the bytes are those of its entries
 unfoldable pub planAnswer : ℕ → ℕ → Contents → Planned
 planAnswer format ch (refused q) = Planned.Unwritable
 planAnswer format ch (groups []) = Planned.Empty
@@ -33,7 +39,7 @@ planAnswer format ch (groups (g ∷ gs)) = Planned.Table (record {
   length = g .length;
   gap = headGap g;
   blocks = length (g .gaps);
-  table = sizeIn format (g ∷ gs);
+  table = sizeIn format (entriesOf (g ∷ gs));
   frames = framesIn ch (g ∷ gs);
 })
 
@@ -45,7 +51,7 @@ attachPlan format ch r gap Planned.Empty = Planned.Table (record {
   length = r .length;
   gap = gap;
   blocks = 1;
-  table = entrySize format 1;
+  table = runSize format 1;
   frames = ch * r .length;
 })
 attachPlan format ch r gap (Planned.Table p) =
@@ -55,7 +61,7 @@ attachPlan format ch r gap (Planned.Table p) =
       length = p .length;
       gap = gap;
       blocks = p .blocks + 1;
-      table = entrySize format (p .blocks + 1) + (p .table - entrySize format (p .blocks));
+      table = runSize format (p .blocks + 1) + (p .table - runSize format (p .blocks));
       frames = ch * r .length + p .frames;
     }))
     (cond (leb (p .gap) (maxGap format))
@@ -64,7 +70,7 @@ attachPlan format ch r gap (Planned.Table p) =
       length = r .length;
       gap = gap;
       blocks = 1;
-      table = entrySize format 1 + p .table;
+      table = runSize format 1 + p .table;
       frames = ch * r .length + p .frames;
     }))
     Planned.Unwritable)
@@ -72,7 +78,7 @@ attachPlan format ch r gap (Planned.Table p) =
 -- the numbers of a plan of at most n frame-blocks stay small
 pub record SmallPlan (format ch n : ℕ) (p : Plan) : Type 0 where
   pub few : p .blocks ≤ n
-  pub entry : entrySize format (p .blocks) ≤ p .table
+  pub run : runSize format (p .blocks) ≤ p .table
   pub tabled : p .table ≤ 3 * n
   pub framed : p .frames ≤ n * (ch * maxFrame)
 
@@ -82,10 +88,10 @@ Small format ch n Planned.Empty = Unit {0}
 Small format ch n Planned.Unwritable = Unit {0}
 
 -- a frame-block of a frame that the format has, before a plan of at most as many frame-blocks as a packet has rows
-pub record Attachable (format ch : ℕ) (r : Row) (rest : Planned) : Type 0 where
+pub record Attachable (ed : Edition) (format ch : ℕ) (r : Row) (rest : Planned) : Type 0 where
   pub channels : ch < 256
   pub short : r .length ≤ maxFrame
-  pub small : Small format ch maxRows rest
+  pub small : Small format ch (maxRows ed) rest
 
 -- The answer on a whole list in numbers: the refusal number or 0, and the bytes of the table and of the payload, zeros on refusal
 pub record ListNumbers : Type 0 where

@@ -15,11 +15,13 @@ ghost use mathlib.Core.Path.{_≡_};
 ghost use Prim.Native.Nat.{_+_, _*_, _/_, _%_, _^_, _<_};
 ghost use lib.Dec.{eqb};
 ghost use lib.ListN.{length};
+ghost use Rattle.rtp.specs.Editions.{current};
 ghost use Rattle.rtp.specs.Sizes.{rowWidth, maxRows};
 ghost use Rattle.formats.specs.Formats.{formatOf, stepOf, maxGap};
+ghost use Rattle.plans.specs.Entries.{firstBlocks};
 ghost use Rattle.plans.specs.Lists.{rowsIn};
 ghost use Rattle.plans.specs.Plans.{ticksAfter, gapBetween, nextChannel, starts, continues, follows, joinsRun, planFrom, plan};
-ghost use Rattle.plans.specs.Room.{rowAs, planAnswer, attachPlan, Attachable, listPlanNumbers, listNumbers};
+ghost use Rattle.plans.specs.Room.{rowAs, runSize, planAnswer, attachPlan, Attachable, listPlanNumbers, listNumbers};
 
 // A plan by its first run: class, length, the gap before it and its frame-blocks; and the bytes of the whole table and of all frames.
 pub struct Plan {
@@ -134,9 +136,36 @@ pub fn joins_run(format: u8, row: RowWords, class: u32, length: u32, gap: u32) -
     false
 }
 
+// The most frame-blocks that an entry counts, and those of the first entry of a longer run.
+const MAX_BLOCKS: usize = 255;
+
+const FIRST_PART: usize = 254;
+
+// The frame-blocks of the first entry of a run of so many.
+pub fn first_blocks(blocks: usize) -> usize
+    ensures { λ r. ⌜ r ≡ firstBlocks blocks ⌝ }
+{
+    if blocks <= MAX_BLOCKS {
+        blocks
+    } else {
+        FIRST_PART
+    }
+}
+
+// The bytes of the entries of a run of so many frame-blocks.
+fn run_size(format: u8, blocks: usize) -> usize
+    ensures { λ r. ⌜ r ≡ runSize format blocks ⌝ }
+{
+    if blocks <= MAX_BLOCKS {
+        return entries::entry_size(format, blocks);
+    }
+    let first = entries::entry_size(format, FIRST_PART);
+    first + entries::entry_size(format, blocks - FIRST_PART)
+}
+
 // A frame-block before a plan.
 fn attach_block(format: u8, channels: u32, row: RowWords, gap: u32, rest: Planned) -> Planned
-    requires { ⌜ Attachable format channels (rowAs row) rest ⌝ }
+    requires { ⌜ Attachable current format channels (rowAs row) rest ⌝ }
     ensures { λ r. ⌜ r ≡ attachPlan format channels (rowAs row) gap rest ⌝ }
 {
     let class = tagging::tag_class(row.tag);
@@ -149,19 +178,19 @@ fn attach_block(format: u8, channels: u32, row: RowWords, gap: u32, rest: Planne
             length,
             gap,
             blocks: 1,
-            table: entries::entry_size(format, 1),
+            table: run_size(format, 1),
             frames,
         }),
         Planned::Table(plan) => {
             let all = frames + plan.frames;
             if joins_run(format, row, plan.class, plan.length, plan.gap) {
-                let others = plan.table - entries::entry_size(format, plan.blocks);
+                let others = plan.table - run_size(format, plan.blocks);
                 return Planned::Table(Plan {
                     class: plan.class,
                     length: plan.length,
                     gap,
                     blocks: plan.blocks + 1,
-                    table: entries::entry_size(format, plan.blocks + 1) + others,
+                    table: run_size(format, plan.blocks + 1) + others,
                     frames: all,
                 });
             }
@@ -171,7 +200,7 @@ fn attach_block(format: u8, channels: u32, row: RowWords, gap: u32, rest: Planne
                     length,
                     gap,
                     blocks: 1,
-                    table: entries::entry_size(format, 1) + plan.table,
+                    table: run_size(format, 1) + plan.table,
                     frames: all,
                 });
             }
@@ -180,9 +209,9 @@ fn attach_block(format: u8, channels: u32, row: RowWords, gap: u32, rest: Planne
     }
 }
 
-// The plan of the rows from channel c on, after a row.
+// The runs of the rows from channel c on, after a row.
 fn plan_from(format: u8, channels: u32, c: u32, previous: RowWords, rows: &[u32]) -> Planned
-    requires { ⌜ (channels < 256) × (c < channels) × (length (now rows) < rowWidth * maxRows + rowWidth) ⌝ }
+    requires { ⌜ (channels < 256) × (c < channels) × (length (now rows) < rowWidth * maxRows current + rowWidth) ⌝ }
     ensures { λ r. ⌜ r ≡ planAnswer format channels (planFrom format channels c (rowAs previous) (rowsIn (now (rows .entry)))) ⌝ }
 {
     if rows.len() < ROW_WIDTH {
@@ -234,7 +263,7 @@ pub enum ListPlan {
 
 // The plan of a whole list, by its sizes.
 pub fn plan_list(format: u8, channels: u8, rows: &[u32]) -> ListPlan
-    ensures { λ r. ⌜ listPlanNumbers r ≡ listNumbers format channels (plan format channels (rowsIn (now (rows .entry)))) ⌝ }
+    ensures { λ r. ⌜ listPlanNumbers r ≡ listNumbers format channels (plan current format channels (rowsIn (now (rows .entry)))) ⌝ }
 {
     if channels == 0 {
         return ListPlan::Unwritable;

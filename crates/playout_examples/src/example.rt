@@ -146,8 +146,11 @@ pub(crate) fn draw_number(buffer: Buffer, store: &[u8; STORE_SIZE], base: u32) -
     drawn.buffer
 }
 
-// Whether a frame drawn was heard first-hand.
-fn print_heard(primary: u32) {
+// The channel of a frame drawn, if it is not the first, and whether the frame was heard first-hand.
+fn print_heard(channel: u32, primary: u32) {
+    if 0 < channel {
+        print(b" channel ", channel);
+    }
     if primary == PRIMARY as u32 {
         io::write_all(1, b" first-hand: ");
     } else {
@@ -155,12 +158,12 @@ fn print_heard(primary: u32) {
     }
 }
 
-// The time and class of a frame drawn, whether it was heard first-hand, and its bytes.
+// The time, class and channel of a frame drawn, whether it was heard first-hand, and its bytes.
 fn print_frame(frame: DrawnFrame, area: &[u8]) {
     let length = frame.length as usize;
     print(b" ", frame.time);
     print(b" ", frame.class);
-    print_heard(frame.primary);
+    print_heard(frame.channel, frame.primary);
     if length <= area.len() {
         io::write_all(1, &area[..length]);
     }

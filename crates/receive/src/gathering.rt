@@ -1,8 +1,10 @@
-// The stream through a reorder buffer: each packet is offered, and frames are drawn so that the next packet's have room.
+// The stream through a reorder buffer: frames are drawn so that a packet's have room, as far as the order allows, then it is offered.
 use crate::gaps;
 use crate::gaps::Gaps;
 use crate::logging;
 use crate::printing;
+use crate::room;
+use crate::room::Wanted;
 use crate::sources;
 use crate::sources::Sources;
 use crate::totals;
@@ -23,12 +25,11 @@ use reorder::calls;
 use reorder::calls::NewAnswer;
 use reorder::calls::OfferAnswer;
 use rtp::settings::Settings;
-use rtp::sizes::MAX_ROWS;
 use rtp::sizes::ROW_AREA;
 use slot_marks::bits::SLOTS;
 
-// The frames kept between packets: with the most that a packet can bring they fill the buffer, so that none is turned away for want of room.
-const KEPT: usize = SLOTS - MAX_ROWS;
+// The frames kept between packets, for those that are still to come between them.
+const KEPT: usize = 64;
 
 // The buffer, the ticks of a frame-block, whether the frames go to a log, what was counted, whether the input may have more, and whether all that was
 // to be written is.
@@ -41,6 +42,12 @@ struct State {
     sources: Sources,
     more: bool,
     written: bool,
+}
+
+// The state after a frame was drawn, or as it stood.
+struct Advance {
+    state: State,
+    more: bool,
 }
 
 fn zero_store() -> [u8; STORE_SIZE] {
@@ -125,6 +132,22 @@ fn draw_one(state: State, store: &[u8]) -> State {
     }
 }
 
+// The earliest frame, drawn and handed out if it comes before all that are wanted; or else the state as it stands.
+fn draw_earlier(state: State, wanted: Wanted, store: &[u8]) -> Advance {
+    let mut area = zero_frame();
+    let drawn = draws::draw(state.buffer, store, &mut area);
+    let answer = drawn.answer;
+    if let DrawAnswer::Frame(frame) = answer {
+        if room::comes_first(frame.time, wanted) {
+            return Advance {
+                state: add_drawn(state, drawn.buffer, frame, &area),
+                more: true,
+            };
+        }
+    }
+    Advance { state, more: false }
+}
+
 fn must_draw(state: State, kept: usize) -> bool {
     if state.written {
         return (kept as u64) < totals::held(state.totals);
@@ -140,6 +163,28 @@ fn draw_down(state: State, store: &[u8], kept: usize) -> State {
         if must_draw(left, kept) {
             let next = draw_one(left, store);
             left = next;
+        } else {
+            break;
+        }
+        turns -= 1;
+    }
+    left
+}
+
+// Draws before a packet is offered until those of its frames that need a slot have one, but no frame that one of them could come before: that one would
+// be late. What has no room then is counted as such.
+fn make_room(state: State, packet: &[u8], store: &[u8]) -> State {
+    let wanted = room::find_wanted(state.buffer, packet);
+    let kept = room::kept_for(wanted.count);
+    let mut left = state;
+    let mut turns = SLOTS;
+    while turns > 0 {
+        if must_draw(left, kept) {
+            let next = draw_earlier(left, wanted, store);
+            left = next.state;
+            if !next.more {
+                break;
+            }
         } else {
             break;
         }
@@ -200,10 +245,12 @@ fn offer(state: State, packet: &[u8], store: &mut [u8]) -> State {
     print_answer(next, answer)
 }
 
-// The packet in the first n bytes of the area offered, and room made for the next. n is never more than the area has.
+// The packet in the first n bytes of the area: room is made for it, it is offered, and no more frames are kept than need be. n is never more than the
+// area has.
 fn pass_on(state: State, n: usize, area: &[u8], store: &mut [u8]) -> State {
     if n <= area.len() {
-        let offered = offer(state, &area[..n], store);
+        let ready = make_room(state, &area[..n], store);
+        let offered = offer(ready, &area[..n], store);
         return draw_down(offered, store, KEPT);
     }
     end(state)

@@ -5,6 +5,7 @@ mod gaps;
 mod gathering;
 mod logging;
 mod printing;
+mod room;
 mod sources;
 mod totals;
 

@@ -4,6 +4,7 @@ use mathlib.Core.List.{List, [], _++_, append-nil}
 use Prim.Native.Nat.{ℕ, _+_, _*_, _≤_}
 use native.Mathlib.Omega.{arith}
 use lib.ListN.{length, length-append}
+use Rattle.rtp.specs.Editions.{Edition}
 use Rattle.rtp.specs.Sizes.{maxRows, rowWidth}
 use Rattle.rtp.specs.Areas.{over}
 use Rattle.rtp.specs.Faults.{shifted}
@@ -112,17 +113,17 @@ then-taken p f n h k = found (f n) (rw h at k)
 
 -- No more rows than a packet has, where `done` came before
 
-abbrev pub Few : ℕ → PayloadRead → Type 0
-Few done (PayloadRead.Refused r) = Unit {0}
-Few done (PayloadRead.Rows n) = done + n ≤ maxRows
+abbrev pub Few : Edition → ℕ → PayloadRead → Type 0
+Few ed done (PayloadRead.Refused r) = Unit {0}
+Few ed done (PayloadRead.Rows n) = done + n ≤ maxRows ed
 
-add-few : (done n : ℕ) (p : PayloadRead) → Few (done + n) p → Few done (addAnswer n p)
-add-few done n (PayloadRead.Refused r) h = tt
-add-few done n (PayloadRead.Rows m) h = omega arith
+add-few : (ed : Edition) (done n : ℕ) (p : PayloadRead) → Few ed (done + n) p → Few ed done (addAnswer n p)
+add-few ed done n (PayloadRead.Refused r) h = tt
+add-few ed done n (PayloadRead.Rows m) h = omega arith
 
-pub then-few : (done : ℕ) (p : PayloadRead) (f : ℕ → PayloadRead) → Few done p → ((n : ℕ) → done + n ≤ maxRows → Few (done + n) (f n)) → Few done (thenAnswer p f)
-then-few done (PayloadRead.Refused r) f h k = tt
-then-few done (PayloadRead.Rows n) f h k = add-few done n (f n) (k n h)
+pub then-few : (ed : Edition) (done : ℕ) (p : PayloadRead) (f : ℕ → PayloadRead) → Few ed done p → ((n : ℕ) → done + n ≤ maxRows ed → Few ed (done + n) (f n)) → Few ed done (thenAnswer p f)
+then-few ed done (PayloadRead.Refused r) f h k = tt
+then-few ed done (PayloadRead.Rows n) f h k = add-few ed done n (f n) (k n h)
 
 -- The words
 

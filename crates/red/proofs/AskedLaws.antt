@@ -5,6 +5,7 @@ use mathlib.Core.Bool.{true, false}
 use Prim.Native.Nat.{ℕ, _+_, _≤_, _<_}
 use lib.ListN.{length}
 use borrow.Author.Tests.{lt-ltb, le-ltb}
+use Rattle.rtp.specs.Editions.{Edition}
 use Rattle.rtp.specs.Sizes.{maxPacket, rowArea}
 use Rattle.rtp.specs.Ranges.{inRange}
 use Rattle.rtp.specs.Faults.{fault}
@@ -13,21 +14,21 @@ use Rattle.rtp.specs.declared.refusal.Refusal.the-variants.{PacketLength, Setti
 use Rattle.payload.specs.Payloads.{noRows}
 use Rattle.red.specs.Blocks.{redundantRows, askedRedundant}
 
-module _ (st : Settings) (area time at : ℕ) (s : List ℕ) where
-  pub redundant-out : inRange st ≡ false → askedRedundant st area time at s ≡ noRows (fault SettingsOutOfRange)
+module _ (ed : Edition) (st : Settings) (area time at : ℕ) (s : List ℕ) where
+  pub redundant-out : inRange ed st ≡ false → askedRedundant ed st area time at s ≡ noRows (fault SettingsOutOfRange)
   unfolding askedRedundant
   redundant-out h = rw h
 
-  module _ (h : inRange st ≡ true) where
-    pub redundant-short : area < rowArea → askedRedundant st area time at s ≡ noRows (fault AreaTooShort)
+  module _ (h : inRange ed st ≡ true) where
+    pub redundant-short : area < rowArea ed → askedRedundant ed st area time at s ≡ noRows (fault AreaTooShort)
     unfolding askedRedundant
-    redundant-short a = rw (h, lt-ltb area rowArea a)
+    redundant-short a = rw (h, lt-ltb area (rowArea ed) a)
 
-    module _ (a : rowArea ≤ area) where
-      pub redundant-long : maxPacket < at + length s → askedRedundant st area time at s ≡ noRows (fault PacketLength)
+    module _ (a : rowArea ed ≤ area) where
+      pub redundant-long : maxPacket < at + length s → askedRedundant ed st area time at s ≡ noRows (fault PacketLength)
       unfolding askedRedundant
-      redundant-long b = rw (h, le-ltb area rowArea a, lt-ltb maxPacket (at + length s) b)
+      redundant-long b = rw (h, le-ltb area (rowArea ed) a, lt-ltb maxPacket (at + length s) b)
 
-      pub redundant-in : at + length s ≤ maxPacket → askedRedundant st area time at s ≡ redundantRows st time at s
+      pub redundant-in : at + length s ≤ maxPacket → askedRedundant ed st area time at s ≡ redundantRows ed st time at s
       unfolding askedRedundant
-      redundant-in b = rw (h, le-ltb area rowArea a, le-ltb maxPacket (at + length s) b)
+      redundant-in b = rw (h, le-ltb area (rowArea ed) a, le-ltb maxPacket (at + length s) b)

@@ -4,6 +4,7 @@ use mathlib.Core.List.{List, [], _∷_, _++_}
 use mathlib.Core.Bool.{cond}
 use lib.ListN.{length, take, drop}
 use lib.Dec.{ltb, eqb}
+use Rattle.rtp.specs.Editions.{Edition}
 use Rattle.rtp.specs.Sizes.{maxPacket, rowArea}
 use Rattle.rtp.specs.Ranges.{inRange}
 use Rattle.rtp.specs.Time.{difference}
@@ -31,10 +32,10 @@ cut (b ∷ bs) type at d =
     record { type = b .«payload_type»; offset = b .offset; at = at; bytes = take (b .length) d; primary = redundantMark } ∷ cut bs type (at + b .length) (drop (b .length) d)
 
 -- a block's rows after `done` rows of the packet: none of another type, and none of a block of length 0
-unfoldable pub typedBlockRows : Settings → ℕ → ℕ → Block → Rows
-typedBlockRows st done time b =
+unfoldable pub typedBlockRows : Edition → Settings → ℕ → ℕ → Block → Rows
+typedBlockRows ed st done time b =
     cond (eqb (b .type) (st .«payload_type»))
-    (cond (eqb (length (b .bytes)) 0) (rowsOf []) (payloadRows (b .primary) (st .format) (st .channels) done (difference time (b .offset)) (b .at) (b .bytes)))
+    (cond (eqb (length (b .bytes)) 0) (rowsOf []) (payloadRows ed (b .primary) (st .format) (st .channels) done (difference time (b .offset)) (b .at) (b .bytes)))
     (rowsOf [])
 
 abbrev pub prependRows : List Row → Rows → Rows
@@ -47,28 +48,28 @@ thenRows (noRows f) next = noRows f
 thenRows (rowsOf rs) next = prependRows rs (next (length rs))
 
 -- the blocks' rows, one after another; the first refusal decides
-unfoldable pub blocksRows : Settings → ℕ → ℕ → List Block → Rows
-blocksRows st done time [] = rowsOf []
-blocksRows st done time (b ∷ bs) = thenRows (typedBlockRows st done time b) (λ n. blocksRows st (done + n) time bs)
+unfoldable pub blocksRows : Edition → Settings → ℕ → ℕ → List Block → Rows
+blocksRows ed st done time [] = rowsOf []
+blocksRows ed st done time (b ∷ bs) = thenRows (typedBlockRows ed st done time b) (λ n. blocksRows ed st (done + n) time bs)
 
 -- the payload s at `at`, whose block headers are these: their lengths are summed before any block is read, and if they do not add up, the first byte after
 -- the block headers is at fault
-abbrev pub splitRows : Settings → ℕ → ℕ → List ℕ → Headers → Rows
-splitRows st time at s (refused f) = noRows (shifted at f)
-splitRows st time at s (headersOf bs type) =
+abbrev pub splitRows : Edition → Settings → ℕ → ℕ → List ℕ → Headers → Rows
+splitRows ed st time at s (refused f) = noRows (shifted at f)
+splitRows ed st time at s (headersOf bs type) =
     cond (ltb (length s - headersSize bs) (redundantSize bs)) (noRows (faultAt (at + headersSize bs) LengthMismatch))
-    (blocksRows st 0 time (cut bs type (at + headersSize bs) (drop (headersSize bs) s)))
+    (blocksRows ed st 0 time (cut bs type (at + headersSize bs) (drop (headersSize bs) s)))
 
 -- a redundancy payload: all block headers are walked first
-unfoldable pub redundantRows : Settings → ℕ → ℕ → List ℕ → Rows
-redundantRows st time at s = splitRows st time at s (redundancyHeaders s)
+unfoldable pub redundantRows : Edition → Settings → ℕ → ℕ → List ℕ → Rows
+redundantRows ed st time at s = splitRows ed st time at s (redundancyHeaders s)
 
 -- the redundancy payload of a call: the settings are asked first, then the area of so many words for all the rows that a packet may have, then the
 -- payload's place in its packet
-unfoldable pub askedRedundant : Settings → ℕ → ℕ → ℕ → List ℕ → Rows
-askedRedundant st area time at s =
-    cond (inRange st)
-    (cond (ltb area rowArea) (noRows (fault AreaTooShort))
+unfoldable pub askedRedundant : Edition → Settings → ℕ → ℕ → ℕ → List ℕ → Rows
+askedRedundant ed st area time at s =
+    cond (inRange ed st)
+    (cond (ltb area (rowArea ed)) (noRows (fault AreaTooShort))
     (cond (ltb maxPacket (at + length s)) (noRows (fault PacketLength))
-    (redundantRows st time at s)))
+    (redundantRows ed st time at s)))
     (noRows (fault SettingsOutOfRange))

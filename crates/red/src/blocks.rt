@@ -17,6 +17,7 @@ ghost use mathlib.Core.Path.{_≡_};
 ghost use mathlib.Core.Bool.{true};
 ghost use Prim.Native.Nat.{_+_, _≤_};
 ghost use lib.ListN.{length};
+ghost use Rattle.rtp.specs.Editions.{current};
 ghost use Rattle.rtp.specs.Sizes.{rowArea, maxPacket};
 ghost use Rattle.rtp.specs.Areas.{over};
 ghost use Rattle.rtp.specs.Ranges.{inRange};
@@ -27,7 +28,7 @@ ghost use Rattle.red.specs.Room.{askedBlock, blocksFrom, BlocksAsked, Bl
 
 // The rows of one block after `done` rows: none of another type, and none of an empty block.
 fn check_block(settings: Settings, done: u32, block_type: u8, s: &[u8]) -> PayloadRead
-    ensures { λ r. ⌜ r ≡ rowsAnswer (askedBlock redundantMark settings done rowArea 0 «block_type» 0 0 (now (s .entry))) ⌝ }
+    ensures { λ r. ⌜ r ≡ rowsAnswer (askedBlock current redundantMark settings done (rowArea current) 0 «block_type» 0 0 (now (s .entry))) ⌝ }
 {
     if block_type == settings.payload_type {
         if s.len() == 0 {
@@ -50,9 +51,9 @@ fn put_block(
     s: &[u8],
     rows: &mut [u32],
 ) -> PayloadRead
-    ensures { λ r. ⌜ (r ≡ rowsAnswer (askedBlock mark settings done (length (now (rows .entry))) time «block_type» offset at (now (s .entry))))
+    ensures { λ r. ⌜ (r ≡ rowsAnswer (askedBlock current mark settings done (length (now (rows .entry))) time «block_type» offset at (now (s .entry))))
         × (now (rows .exit) ≡
-        over (rowsWords (askedBlock mark settings done (length (now (rows .entry))) time «block_type» offset at (now (s .entry)))) (now (rows .entry)))
+        over (rowsWords (askedBlock current mark settings done (length (now (rows .entry))) time «block_type» offset at (now (s .entry)))) (now (rows .entry)))
         ⌝ }
 {
     if block_type == settings.payload_type {
@@ -75,8 +76,8 @@ fn put_block(
 // The blocks whose headers stand at the front of `headers` and whose bytes are s: how many rows they give after `done` rows, or
 // the first refusal.
 fn check_blocks(settings: Settings, done: u32, headers: &[u8], s: &[u8]) -> PayloadRead
-    requires { ⌜ BlocksAsked settings done 0 (now headers) (length (now s)) ⌝ }
-    ensures { λ r. ⌜ r ≡ rowsAnswer (blocksFrom settings done 0 0 (now (headers .entry)) (now (s .entry))) ⌝ }
+    requires { ⌜ BlocksAsked current settings done 0 (now headers) (length (now s)) ⌝ }
+    ensures { λ r. ⌜ r ≡ rowsAnswer (blocksFrom current settings done 0 0 (now (headers .entry)) (now (s .entry))) ⌝ }
 {
     match redundancy::read_block_header(headers) {
         BlockHeader::Refused(refusal) => PayloadRead::Refused(Fault { refusal, offset: 0 }),
@@ -112,8 +113,8 @@ fn put_blocks(
     s: &[u8],
     rows: &mut [u32],
 )
-    requires { ⌜ BlocksRoom settings done time at (now headers) (now s) (length (now rows)) ⌝ }
-    ensures { λ _. ⌜ now (rows .exit) ≡ over (rowsWords (blocksFrom settings done time at (now (headers .entry)) (now (s .entry)))) (now (rows .entry)) ⌝ }
+    requires { ⌜ BlocksRoom current settings done time at (now headers) (now s) (length (now rows)) ⌝ }
+    ensures { λ _. ⌜ now (rows .exit) ≡ over (rowsWords (blocksFrom current settings done time at (now (headers .entry)) (now (s .entry)))) (now (rows .entry)) ⌝ }
 {
     match redundancy::read_block_header(headers) {
         BlockHeader::Refused(_) => {}
@@ -159,9 +160,9 @@ fn read_blocks(
     s: &[u8],
     rows: &mut [u32],
 ) -> PayloadRead
-    requires { ⌜ (inRange settings ≡ true) × (rowArea ≤ length (now rows)) × (at + length (now s) ≤ maxPacket) ⌝ }
-    ensures { λ r. ⌜ (r ≡ rowsAnswer (redundantRows settings timestamp at (now (s .entry))))
-        × (now (rows .exit) ≡ over (rowsWords (redundantRows settings timestamp at (now (s .entry)))) (now (rows .entry))) ⌝ }
+    requires { ⌜ (inRange current settings ≡ true) × (rowArea current ≤ length (now rows)) × (at + length (now s) ≤ maxPacket) ⌝ }
+    ensures { λ r. ⌜ (r ≡ rowsAnswer (redundantRows current settings timestamp at (now (s .entry))))
+        × (now (rows .exit) ≡ over (rowsWords (redundantRows current settings timestamp at (now (s .entry)))) (now (rows .entry))) ⌝ }
 {
     match redundancy::read_headers(s) {
         HeadersRead::Refused(fault) => {
@@ -212,8 +213,8 @@ pub fn read_redundant(
     s: &[u8],
     rows: &mut [u32],
 ) -> PayloadRead
-    ensures { λ r. ⌜ (payloadNumbers r ≡ rowsNumbers (askedRedundant settings (length (now (rows .entry))) timestamp at (now (s .entry))))
-        × (now (rows .exit) ≡ over (rowsWords (askedRedundant settings (length (now (rows .entry))) timestamp at (now (s .entry)))) (now (rows .entry))) ⌝ }
+    ensures { λ r. ⌜ (payloadNumbers r ≡ rowsNumbers (askedRedundant current settings (length (now (rows .entry))) timestamp at (now (s .entry))))
+        × (now (rows .exit) ≡ over (rowsWords (askedRedundant current settings (length (now (rows .entry))) timestamp at (now (s .entry)))) (now (rows .entry))) ⌝ }
 {
     if rtp::settings::in_range(settings) {
         if rows.len() < ROW_AREA {

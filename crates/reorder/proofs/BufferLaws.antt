@@ -6,6 +6,7 @@ use Prim.Native.Nat.{ℕ, zero, suc, _≤_, _<_, _^_}
 use native.Mathlib.Omega.{arith}
 use lib.ListN.{length, getD}
 use lib.Dec.{eqb}
+use Rattle.rtp.specs.Editions.{Edition}
 use Rattle.rtp.specs.Ranges.{inRange}
 use Rattle.rtp.specs.declared.settings.Settings.{Settings}
 use Rattle.rtp.proofs.TestLaws.{by-test}
@@ -23,12 +24,12 @@ use Rattle.reorder.proofs.StateLaws.{Good, good-facts}
 
 -- a well-formed buffer's model
 
-module _ (b : Buffer) (m : Machine b) (r : inRange (b .settings) ≡ true) (w : wellFormed b ≡ true) where
+module _ (ed : Edition) (b : Buffer) (m : Machine b) (r : inRange ed (b .settings) ≡ true) (w : wellFormed b ≡ true) where
   last-octet : b .«last_channel» < 256
   last-octet =
       let F = facts b m w in
       by-test (eqb (b .drawn) 1)
-      (λ d. omega (arith, F .last-channel d, few-channels (b .settings) r))
+      (λ d. omega (arith, F .last-channel d, few-channels ed (b .settings) r))
       (λ d. omega (arith, F .no-last d .1))
 
   pub buffer-good : (s : List ℕ) → storeSize ≤ length s → Good (b .settings) (decode b) s

@@ -7,6 +7,7 @@ use native.Mathlib.Omega.{arith}
 use lib.ListN.{length}
 use lib.Dec.{eqb}
 use borrow.Author.Tests.{lt-ltb, eqb-false, ne-eqb}
+use Rattle.rtp.specs.Editions.{Edition}
 use Rattle.rtp.specs.Ranges.{inRange}
 use Rattle.rtp.specs.declared.settings.Settings.{Settings}
 use Rattle.rtp.proofs.TestLaws.{by-test}
@@ -26,7 +27,7 @@ use Rattle.reorder.proofs.StateLaws.{Fit, Fits, fit-frame}
 use Rattle.reorder.proofs.RowStepLaws.{frame-size}
 use Rattle.reorder.specs.ModelCalls.{readReceived}
 
-module _ (st : Settings) (few : st .channels ≤ 2) (packet : List ℕ) where
+module _ (st : Settings) (few : st .channels ≤ 255) (packet : List ℕ) where
   row-allowed : (r : Row) → RowFine (st .format) (st .channels) (length packet) r → RowAllowed st (length packet) r
   row-allowed r f n = (rw (ne-eqb (r .class) noData n) (lt-ltb _ _ (f .coded)), f .channel, f .inside)
 
@@ -51,10 +52,10 @@ module _ (st : Settings) (few : st .channels ≤ 2) (packet : List ℕ) where
       (λ a. rw a (copy-fit r (f .0) (eqb-false (r .class) noData a), f .0 .mark, received-fit rs (f .1)))
 
 -- the copies of a packet that is read
-pub read-fit : (st : Settings) → inRange st ≡ true → (area : ℕ) (packet : List ℕ) (o : Outcome) → reading st area packet ≡ o → Fits st (readReceived packet o)
+pub read-fit : (ed : Edition) (st : Settings) → inRange ed st ≡ true → (area : ℕ) (packet : List ℕ) (o : Outcome) → reading ed st area packet ≡ o → Fits st (readReceived packet o)
 unfolding Fits
-read-fit st h area packet (refused f) q = tt
-read-fit st h area packet (readAs x rs request) q = received-fit st (few-channels st h) packet rs (rows-fine st area packet x rs request q .0)
+read-fit ed st h area packet (refused f) q = tt
+read-fit ed st h area packet (readAs x rs request) q = received-fit st (few-channels ed st h) packet rs (rows-fine ed st area packet x rs request q .0)
 
 pub fits-frames : (st : Settings) (xs : List Received) → Fits st xs → Frames (copiesOf xs)
 unfolding Fits

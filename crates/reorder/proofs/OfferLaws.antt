@@ -6,6 +6,7 @@ use Prim.Native.Nat.{ℕ, _*_, _≤_}
 use native.Mathlib.Omega.{arith}
 use lib.ListN.{length, take, drop}
 use lib.Seq.{take-append-seam}
+use Rattle.rtp.specs.Editions.{Edition}
 use Rattle.rtp.specs.Sizes.{rowWidth, rowArea, maxRows}
 use Rattle.rtp.specs.Ranges.{inRange}
 use Rattle.rtp.specs.Refusals.{number}
@@ -78,7 +79,7 @@ rows-offer at occupied sum e b' packet rs t store store' k =
     record { answer = ap countNumbers (j .counts); buffer = j .buffer; store-left = j .store-left }
 
 -- the tags of rows that were read hold all of their parts
-tags-fit : (format ch n : ℕ) (rs : List Row) → ch ≤ 2 → AllRows (RowFine format ch n) rs → TagsFit rs
+tags-fit : (format ch n : ℕ) (rs : List Row) → ch ≤ 255 → AllRows (RowFine format ch n) rs → TagsFit rs
 tags-fit format ch n [] few f = tt
 tags-fit format ch n (r ∷ rs) few f = (
   record {
@@ -89,17 +90,17 @@ tags-fit format ch n (r ∷ rs) few f = (
   tags-fit format ch n rs few (f .1),
 )
 
-module _ (b : Buffer) (packet rows store : List ℕ) (h : inRange (b .settings) ≡ true) (w : wellFormed b ≡ true) (area : rowArea ≤ length rows) (room : storeSize ≤ length store)
-    (p : Packet) (e : readingNumbers (Reading.Read p) ≡ outcomeNumbers (reading (b .settings) (length rows) packet))
-    (rows' : List ℕ) (q : rows' ≡ over (outcomeWords (reading (b .settings) (length rows) packet)) rows) where
-  abbrev is : IsRead (reading (b .settings) (length rows) packet) (p .rows)
-  is = is-read (reading (b .settings) (length rows) packet) p e
+module _ (ed : Edition) (b : Buffer) (packet rows store : List ℕ) (h : inRange ed (b .settings) ≡ true) (w : wellFormed b ≡ true) (area : rowArea ed ≤ length rows) (room : storeSize ≤ length store)
+    (p : Packet) (e : readingNumbers (Reading.Read p) ≡ outcomeNumbers (reading ed (b .settings) (length rows) packet))
+    (rows' : List ℕ) (q : rows' ≡ over (outcomeWords (reading ed (b .settings) (length rows) packet)) rows) where
+  abbrev is : IsRead (reading ed (b .settings) (length rows) packet) (p .rows)
+  is = is-read (reading ed (b .settings) (length rows) packet) p e
 
   abbrev rs : List Row
   rs = is .rows
 
-  fine : AllRows (RowFine (b .settings .format) (b .settings .channels) (length packet)) rs × (length rs ≤ maxRows)
-  fine = rows-fine (b .settings) (length rows) packet (is .head) rs (is .request) (is .same)
+  fine : AllRows (RowFine (b .settings .format) (b .settings .channels) (length packet)) rs × (length rs ≤ maxRows ed)
+  fine = rows-fine ed (b .settings) (length rows) packet (is .head) rs (is .request) (is .same)
 
   pub words-fit : rowWidth * p .rows ≤ length rows
   words-fit = omega (arith, fine .1, is .count)
@@ -114,21 +115,21 @@ module _ (b : Buffer) (packet rows store : List ℕ) (h : inRange (b .settings) 
       let n : rowWidth * p .rows ≡ length (words rs) = omega (arith, is .count, length-words rs) in
       ap₂ (λ (k : ℕ) (x : List ℕ). rowsIn (take k x)) n rows-are
       ∙ ap rowsIn (take-append-seam (words rs) (drop (length (words rs)) rows))
-      ∙ rows-words rs (tags-fit (b .settings .format) (b .settings .channels) (length packet) rs (few-channels (b .settings) h) (fine .0))
+      ∙ rows-words rs (tags-fit (b .settings .format) (b .settings .channels) (length packet) rs (few-channels ed (b .settings) h) (fine .0))
 
-  pub offer-asks : Machine b → RowsJudgeable b packet (rowsIn (take (rowWidth * p .rows) rows')) noTally store
+  pub offer-asks : Machine b → RowsJudgeable ed b packet (rowsIn (take (rowWidth * p .rows) rows')) noTally store
   offer-asks m =
-      subst (λ (l : List Row). RowsJudgeable b packet l noTally store) (sym rows-back) (record {
+      subst (λ (l : List Row). RowsJudgeable ed b packet l noTally store) (sym rows-back) (record {
         machine = m;
         settings = h;
         fine = w;
-        rows = rows-allowed (b .settings) (few-channels (b .settings) h) packet rs (fine .0);
+        rows = rows-allowed (b .settings) (few-channels ed (b .settings) h) packet rs (fine .0);
         small = omega (arith, fine .1);
         room = room;
       })
 
   pub offer-gives : (a : OfferAnswer) (b' : Buffer) (store' : List ℕ) → OfferJudged b b' packet (rowsIn (take (rowWidth * p .rows) rows')) a store store'
-      → record { answer = offerNumbers a; buffer = b'; rows = rows'; store = store' } ≡ offerCall b packet rows store
+      → record { answer = offerNumbers a; buffer = b'; rows = rows'; store = store' } ≡ offerCall ed b packet rows store
   offer-gives a b' store' j =
       let g : judgeAll (decode b) store (receivedIn packet (rowsIn (take (rowWidth * p .rows) rows'))) ≡ judgeAll (decode b) store (receivedIn packet rs) =
       ap (λ (l : List Row). judgeAll (decode b) store (receivedIn packet l)) rows-back in
@@ -138,4 +139,4 @@ module _ (b : Buffer) (packet rows store : List ℕ) (h : inRange (b .settings) 
       let s : store' ≡ judgeAll (decode b) store (receivedIn packet rs) .store = j .store-left ∙ ap (λ (x : Gathered). x .store) g in
       let z : record { answer = offerNumbers a; buffer = b'; rows = rows'; store = store' } ≡ offerRead b packet rows store (readAs (is .head) rs (is .request)) =
       λ i. record { answer = c i; buffer = u i; rows = rows-are i; store = s i } in
-      z ∙ sym (offer-reads b packet rows store h w area room ∙ ap (offerRead b packet rows store) (is .same))
+      z ∙ sym (offer-reads ed b packet rows store h w area room ∙ ap (offerRead b packet rows store) (is .same))

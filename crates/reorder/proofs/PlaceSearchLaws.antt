@@ -6,6 +6,7 @@ use Prim.Native.Nat.{ℕ, zero, suc, _^_, _≤_, _<_, compare, Ordering, Orderin
 use native.Mathlib.Nat.{not-suc-le-zero, le-of-suc-le-suc, zero-add}
 use native.Mathlib.Omega.{arith}
 use lib.ListN.{length, getD}
+use Rattle.rtp.specs.Editions.{Edition}
 use Rattle.playout.specs.Pairs.{order}
 use Rattle.playout.specs.Entries.{Entry}
 use Rattle.playout.specs.Verdicts.{isLate, isFar}
@@ -50,13 +51,13 @@ sorted-parted b t c es S N i j l h n =
     let v = S .near (getD es j noEntry) (at-member es j h) in
     order-after b (S .base) N u (omega (arith, asc-at (entryPlace b) es (S .asc) i j l h, not-before b t c _ _ (S .base) N v n))
 
-module _ (b : Buffer) (head : FrameHead) (frame store : List ℕ) (ask : Judgeable b head frame store) (word : head .time < 2 ^ 32) where
+module _ (ed : Edition) (b : Buffer) (head : FrameHead) (frame store : List ℕ) (ask : Judgeable ed b head frame store) (word : head .time < 2 ^ 32) where
   -- the stretch is from the last time drawn; where nothing was drawn, from the first time held or from the pair's own
   pub parts : isLate (decode b) (copyIn head frame) ≡ false → isFar (decode b) (copyIn head frame) ≡ false → (n : ℕ) → n ≡ heldIn (b .occupied)
       → Parted (b .times) (b .tags) (head .time) (channelIn head) n
   parts late far n count i j l h k =
-      let few = few-channels (b .settings) (ask .settings) in
-      let S = good-facts (b .settings) (decode b) store (buffer-good b (ask .machine) (ask .settings) (ask .fine) store (ask .room)) in
+      let few = few-channels ed (b .settings) (ask .settings) in
+      let S = good-facts (b .settings) (decode b) store (buffer-good ed b (ask .machine) (ask .settings) (ask .fine) store (ask .room)) in
       let F = fit-frame (b .settings) (copyIn head frame) (record { frame = ask .class; channel = ask .channel; octet = omega (arith, ask .channel, few); word = word }) in
       let T = sorted-with (decode b) store (copyIn head frame) S F late far in
       let size = decode-length b (ask .machine) (ask .fine) in

@@ -7,6 +7,7 @@ use native.Mathlib.Omega.{arith}
 use lib.ListN.{length, take, drop, length-drop}
 use lib.Seq.{length-take-le}
 use borrow.Author.Tests.{eq-eqb, ne-eqb}
+use Rattle.rtp.specs.Editions.{Edition}
 use Rattle.rtp.specs.Sizes.{rowWidth}
 use Rattle.rtp.specs.Ranges.{inRange}
 use Rattle.rtp.proofs.AreaLaws.{part-to-end}
@@ -55,9 +56,9 @@ total-counted n Better = omega arith
 total-counted n NoRoom = omega arith
 total-counted n Inserted = omega arith
 
-module _ (b : Buffer) (packet : List ℕ) (t : Tally) (store : List ℕ) where
+module _ (ed : Edition) (b : Buffer) (packet : List ℕ) (t : Tally) (store : List ℕ) where
   -- no row is left
-  pub rows-over : (rs : List Row) → RowsJudgeable b packet rs t store → rs ≡ [] → RowsJudged b b packet rs t t store store
+  pub rows-over : (rs : List Row) → RowsJudgeable ed b packet rs t store → rs ≡ [] → RowsJudged b b packet rs t t store store
   unfolding judgeAll tally receivedIn
   rows-over rs p e =
       let q : judgeAll (decode b) store (receivedIn packet rs) ≡ record { held = decode b; store = store; judgements = [] } =
@@ -75,7 +76,7 @@ module _ (b : Buffer) (packet : List ℕ) (t : Tally) (store : List ℕ) where
 
   module _ (r : Row) (rs : List Row) where
     -- a row of no data
-    pub skip-asks : RowsJudgeable b packet (r ∷ rs) t store → RowsJudgeable b packet rs t store
+    pub skip-asks : RowsJudgeable ed b packet (r ∷ rs) t store → RowsJudgeable ed b packet rs t store
     skip-asks p = record { machine = p .machine; settings = p .settings; fine = p .fine; rows = p .rows .1; small = omega (arith, p .small); room = p .room }
 
     pub skip-gives : r .class ≡ noData → (b' : Buffer) (t' : Tally) (store' : List ℕ) → RowsJudged b b' packet rs t t' store store' → RowsJudged b b' packet (r ∷ rs) t t' store store'
@@ -94,12 +95,12 @@ module _ (b : Buffer) (packet : List ℕ) (t : Tally) (store : List ℕ) where
     abbrev r : Row
     r = rowOf (head .time) (head .tag) start size
 
-    module _ (p : RowsJudgeable b packet (r ∷ rs) t store) (z : r .class ≡ noData → ⊥) (frame : List ℕ) (cut : frame ≡ take (r .length) (drop (r .start) packet)) where
+    module _ (p : RowsJudgeable ed b packet (r ∷ rs) t store) (z : r .class ≡ noData → ⊥) (frame : List ℕ) (cut : frame ≡ take (r .length) (drop (r .start) packet)) where
       frame-allowed : allowed (b .settings .format) (r .class) (length frame) ≡ true
       frame-allowed =
           ap (allowed (b .settings .format) (r .class)) (ap length cut ∙ frame-size packet (r .start) (r .length) (p .rows .0 z .2)) ∙ p .rows .0 z .0
 
-      pub copy-asks : Judgeable b head frame store
+      pub copy-asks : Judgeable ed b head frame store
       copy-asks = record { machine = p .machine; settings = p .settings; fine = p .fine; class = frame-allowed; channel = p .rows .0 z .1; room = p .room }
 
       module _ (word : r .time < 2 ^ 32) (b' : Buffer) (store' : List ℕ) (v : Verdict) (j : JudgedAs b b' (copyIn head frame) (markIn head) store store' v) (t' : Tally) (summed : countsOf t' ≡ tallied (countsOf t) v) where
@@ -110,17 +111,17 @@ module _ (b : Buffer) (packet : List ℕ) (t : Tally) (store : List ℕ) where
         next = judge (decode b) store (copyIn head frame) (markIn head) .held
 
         good : Good (b .settings) next (judge (decode b) store (copyIn head frame) (markIn head) .store)
-        good = judge-good (b .settings) (decode b) store (copyIn head frame) (markIn head) (buffer-good b (p .machine) (p .settings) (p .fine) store (p .room)) (record {
+        good = judge-good (b .settings) (decode b) store (copyIn head frame) (markIn head) (buffer-good ed b (p .machine) (p .settings) (p .fine) store (p .room)) (record {
           frame = frame-allowed;
           channel = p .rows .0 z .1;
-          octet = omega (arith, p .rows .0 z .1, few-channels (b .settings) (p .settings));
+          octet = omega (arith, p .rows .0 z .1, few-channels ed (b .settings) (p .settings));
           word = word;
         }) (mark-small (head .tag))
 
-        pub next-asks : RowsJudgeable b' packet rs t' store'
+        pub next-asks : RowsJudgeable ed b' packet rs t' store'
         next-asks = record {
           machine = subst Machine (sym (j .buffer)) (good-machine (b .settings) next _ good);
-          settings = subst (λ (x : Buffer). inRange (x .settings) ≡ true) (sym (j .buffer)) (p .settings);
+          settings = subst (λ (x : Buffer). inRange ed (x .settings) ≡ true) (sym (j .buffer)) (p .settings);
           fine = subst (λ (x : Buffer). wellFormed x ≡ true) (sym (j .buffer)) (good-fine (b .settings) next _ good);
           rows = subst (λ (x : Buffer). RowsAllowed (x .settings) (length packet) rs) (sym (j .buffer)) (p .rows .1);
           small = let s : total (countsOf t') ≡ total (countsOf t) + 1 = ap total more ∙ total-counted (countsOf t) v in omega (arith, p .small);

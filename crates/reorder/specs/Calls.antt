@@ -3,6 +3,7 @@ use Prim.Native.Nat.{ℕ}
 use mathlib.Core.List.{List}
 use mathlib.Core.Bool.{cond}
 use lib.ListN.{length}
+use Rattle.rtp.specs.Editions.{Edition}
 use Rattle.rtp.specs.Ranges.{inRange}
 use Rattle.rtp.specs.Refusals.{number}
 use Rattle.rtp.specs.Faults.{fault}
@@ -36,8 +37,8 @@ pub record NewOutcome : Type 0 where
   pub refusal : ℕ
   pub buffer : Buffer
 
-unfoldable pub newCall : Settings → NewOutcome
-newCall st = cond (inRange st) (record { refusal = 0; buffer = fresh st }) (record { refusal = number SettingsOutOfRange; buffer = fresh noSettings })
+unfoldable pub newCall : Edition → Settings → NewOutcome
+newCall ed st = cond (inRange ed st) (record { refusal = 0; buffer = fresh st }) (record { refusal = number SettingsOutOfRange; buffer = fresh noSettings })
 
 -- Offer
 
@@ -93,9 +94,9 @@ offerDone b rows store (done o) = record {
 }
 
 -- an offer of a packet: 11, 15, then what it does to the model
-unfoldable pub offerCall : Buffer → List ℕ → List ℕ → List ℕ → OfferOutcome
-offerCall b packet rows store =
-    cond (inRange (b .settings))
-    (cond (wellFormed b) (offerDone b rows store (offerTo (model b) packet (length rows) store))
+unfoldable pub offerCall : Edition → Buffer → List ℕ → List ℕ → List ℕ → OfferOutcome
+offerCall ed b packet rows store =
+    cond (inRange ed (b .settings))
+    (cond (wellFormed b) (offerDone b rows store (offerTo ed (model b) packet (length rows) store))
     (offerRefused (fault Malformed) b rows store))
     (offerRefused (fault SettingsOutOfRange) b rows store)

@@ -5,6 +5,7 @@ use mathlib.Core.List.{List, [], _∷_}
 use mathlib.Core.Bool.{Bool, true, false, cond, not}
 use lib.ListN.{length}
 use lib.Dec.{eqb}
+use Rattle.rtp.specs.Editions.{Edition}
 use Rattle.rtp.specs.Ranges.{inRange}
 use Rattle.rtp.specs.declared.settings.Settings.{Settings}
 use Rattle.formats.specs.Frames.{noData}
@@ -34,9 +35,9 @@ isLateOf f h = cond (eqb (f .drawn) 1) (not (isAfter (order (h .time) (channelIn
 abbrev pub isFarOf : List ℕ → ℕ → Fixed → ℕ → Bool
 isFarOf times n f t = cond (eqb (f .drawn) 0) (not (fitsFrom times t n)) false
 
-pub record Judgeable (b : Buffer) (h : FrameHead) (frame store : List ℕ) : Type 0 where
+pub record Judgeable (ed : Edition) (b : Buffer) (h : FrameHead) (frame store : List ℕ) : Type 0 where
   pub machine : Machine b
-  pub settings : inRange (b .settings) ≡ true
+  pub settings : inRange ed (b .settings) ≡ true
   pub fine : wellFormed b ≡ true
   pub class : allowed (b .settings .format) (classIn h) (length frame) ≡ true
   pub channel : channelIn h < b .settings .channels
@@ -64,9 +65,9 @@ abbrev pub RowsAllowed : Settings → ℕ → List Row → Type 0
 RowsAllowed st n [] = Unit {0}
 RowsAllowed st n (r ∷ rs) = RowAllowed st n r × RowsAllowed st n rs
 
-pub record RowsJudgeable (b : Buffer) (packet : List ℕ) (rs : List Row) (t : Tally) (store : List ℕ) : Type 0 where
+pub record RowsJudgeable (ed : Edition) (b : Buffer) (packet : List ℕ) (rs : List Row) (t : Tally) (store : List ℕ) : Type 0 where
   pub machine : Machine b
-  pub settings : inRange (b .settings) ≡ true
+  pub settings : inRange ed (b .settings) ≡ true
   pub fine : wellFormed b ≡ true
   pub rows : RowsAllowed (b .settings) (length packet) rs
   pub small : TallySmall t (length rs)
@@ -78,6 +79,6 @@ pub record RowsJudged (b b' : Buffer) (packet : List ℕ) (rs : List Row) (t t' 
   pub store-left : store' ≡ judgeAll (decode b) store (receivedIn packet rs) .store
 
 -- the first of the rows judged, or passed over: the others can be judged then, and so all are
-pub record RowJudged (b b' : Buffer) (packet : List ℕ) (r : Row) (rs : List Row) (t t' : Tally) (store store' : List ℕ) : Type 0 where
-  pub others : RowsJudgeable b' packet rs t' store'
+pub record RowJudged (ed : Edition) (b b' : Buffer) (packet : List ℕ) (r : Row) (rs : List Row) (t t' : Tally) (store store' : List ℕ) : Type 0 where
+  pub others : RowsJudgeable ed b' packet rs t' store'
   pub all : (b'' : Buffer) (t'' : Tally) (store'' : List ℕ) → RowsJudged b' b'' packet rs t' t'' store' store'' → RowsJudged b b'' packet (r ∷ rs) t t'' store store''

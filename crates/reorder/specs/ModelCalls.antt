@@ -4,6 +4,7 @@ use mathlib.Core.List.{List, []}
 use mathlib.Core.Bool.{cond}
 use lib.ListN.{length}
 use lib.Dec.{ltb}
+use Rattle.rtp.specs.Editions.{Edition}
 use Rattle.rtp.specs.Sizes.{rowArea}
 use Rattle.rtp.specs.Faults.{fault}
 use Rattle.rtp.specs.declared.refusal.Fault.{Fault}
@@ -40,8 +41,8 @@ judgeRead h packet store (unread f) = refused f
 judgeRead h packet store (readAs x rs request) = done (record { rows = rs; gathered = judgeAll h store (receivedIn packet rs) })
 
 -- a packet offered with a row area of so many words: 12, then reading's own refusals
-unfoldable pub offerTo : Model → List ℕ → ℕ → List ℕ → Result Offered
-offerTo m packet area store =
-    cond (ltb area rowArea) (refused (fault AreaTooShort))
+unfoldable pub offerTo : Edition → Model → List ℕ → ℕ → List ℕ → Result Offered
+offerTo ed m packet area store =
+    cond (ltb area (rowArea ed)) (refused (fault AreaTooShort))
     (cond (ltb (length store) storeSize) (refused (fault AreaTooShort))
-    (judgeRead (m .held) packet store (reading (m .settings) area packet)))
+    (judgeRead (m .held) packet store (reading ed (m .settings) area packet)))

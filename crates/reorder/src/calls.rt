@@ -16,6 +16,7 @@ use rtp::sizes::ROW_AREA;
 use rtp::sizes::ROW_WIDTH;
 ghost use mathlib.Core.Path.{_≡_};
 ghost use mathlib.Core.Bool.{true};
+ghost use Rattle.rtp.specs.Editions.{current};
 ghost use Rattle.rtp.specs.Ranges.{inRange};
 ghost use Rattle.rtp.specs.Faults.{faultAt};
 ghost use Rattle.frame_rows.specs.Rows.{rowsIn};
@@ -47,7 +48,7 @@ pub struct Offered {
 
 // A fresh buffer. Settings out of range are refused, and the buffer is all zero.
 pub fn new(settings: Settings) -> Fresh
-    ensures { λ r. ⌜ record { refusal = newNumber (r .answer); buffer = r .buffer } ≡ newCall settings ⌝ }
+    ensures { λ r. ⌜ record { refusal = newNumber (r .answer); buffer = r .buffer } ≡ newCall current settings ⌝ }
 {
     if settings::in_range(settings) {
         return Fresh {
@@ -84,7 +85,7 @@ fn offer_rows(
     rows: &[u32],
     store: &mut [u8],
 ) -> Offered
-    requires { ⌜ RowsJudgeable (assembled (buffer .times) (buffer .tags) (buffer .lengths) (buffer .slots) (buffer .occupied) fixed)
+    requires { ⌜ RowsJudgeable current (assembled (buffer .times) (buffer .tags) (buffer .lengths) (buffer .slots) (buffer .occupied) fixed)
         (now packet) (rowsIn (now rows)) noTally (now store) ⌝ }
     ensures { λ r. ⌜ OfferJudged (assembled (buffer .times) (buffer .tags) (buffer .lengths) (buffer .slots) (buffer .occupied) fixed) (r .buffer)
         (now (packet .entry)) (rowsIn (now (rows .entry))) (r .answer) (now (store .entry)) (now (store .exit)) ⌝ }
@@ -126,9 +127,9 @@ fn offer_rows(
 
 // An offer under settings in range.
 fn offer_checked(buffer: Buffer, packet: &[u8], rows: &mut [u32], store: &mut [u8]) -> Offered
-    requires { ⌜ inRange (buffer .settings) ≡ true ⌝ }
+    requires { ⌜ inRange current (buffer .settings) ≡ true ⌝ }
     ensures { λ r. ⌜ record { answer = offerNumbers (r .answer); buffer = r .buffer; rows = now (rows .exit); store = now (store .exit) }
-        ≡ offerCall buffer (now (packet .entry)) (now (rows .entry)) (now (store .entry)) ⌝ }
+        ≡ offerCall current buffer (now (packet .entry)) (now (rows .entry)) (now (store .entry)) ⌝ }
 {
     let times = buffer.times;
     let tags = buffer.tags;
@@ -166,7 +167,7 @@ fn offer_checked(buffer: Buffer, packet: &[u8], rows: &mut [u32], store: &mut [u
 // A packet offered: its rows are read into the row area and judged in order; or a refusal, and everything as it stood.
 pub fn offer(buffer: Buffer, packet: &[u8], rows: &mut [u32], store: &mut [u8]) -> Offered
     ensures { λ r. ⌜ record { answer = offerNumbers (r .answer); buffer = r .buffer; rows = now (rows .exit); store = now (store .exit) }
-        ≡ offerCall buffer (now (packet .entry)) (now (rows .entry)) (now (store .entry)) ⌝ }
+        ≡ offerCall current buffer (now (packet .entry)) (now (rows .entry)) (now (store .entry)) ⌝ }
 {
     let settings = buffer.settings;
     if settings::in_range(settings) {

@@ -15,6 +15,7 @@ use tags::tagging;
 ghost use mathlib.Core.Path.{_≡_};
 ghost use Prim.Native.Nat.{_≤_};
 ghost use lib.ListN.{length};
+ghost use Rattle.rtp.specs.Editions.{current};
 ghost use Rattle.rtp.specs.Sizes.{rowWidth};
 ghost use Rattle.frame_rows.specs.Rows.{rowsIn};
 ghost use Rattle.playout.specs.Sizes.{slots as slotCount};
@@ -83,7 +84,7 @@ fn lay_copy(
     store: &mut [u8],
 ) -> Step
     requires { ⌜ (n ≡ heldIn occupied) × (n ≤ slotCount) ⌝ }
-    ensures { λ r. ⌜ (Judgeable (assembled (now (times .entry)) (now (tags .entry)) (now (lengths .entry)) (now (slots .entry)) occupied fixed) head (now (frame .entry)) (now (store .entry))
+    ensures { λ r. ⌜ (Judgeable current (assembled (now (times .entry)) (now (tags .entry)) (now (lengths .entry)) (now (slots .entry)) occupied fixed) head (now (frame .entry)) (now (store .entry))
         → Timely (assembled (now (times .entry)) (now (tags .entry)) (now (lengths .entry)) (now (slots .entry)) occupied fixed) (copyIn head (now (frame .entry)))
         → JudgedAs (assembled (now (times .entry)) (now (tags .entry)) (now (lengths .entry)) (now (slots .entry)) occupied fixed)
         (assembled (now (times .exit)) (now (tags .exit)) (now (lengths .exit)) (now (slots .exit)) (r .occupied) fixed)
@@ -136,7 +137,7 @@ fn judge_copy(
     frame: &[u8],
     store: &mut [u8],
 ) -> Step
-    ensures { λ r. ⌜ (Judgeable (assembled (now (times .entry)) (now (tags .entry)) (now (lengths .entry)) (now (slots .entry)) occupied fixed) head (now (frame .entry)) (now (store .entry))
+    ensures { λ r. ⌜ (Judgeable current (assembled (now (times .entry)) (now (tags .entry)) (now (lengths .entry)) (now (slots .entry)) occupied fixed) head (now (frame .entry)) (now (store .entry))
         → JudgedAs (assembled (now (times .entry)) (now (tags .entry)) (now (lengths .entry)) (now (slots .entry)) occupied fixed)
         (assembled (now (times .exit)) (now (tags .exit)) (now (lengths .exit)) (now (slots .exit)) (r .occupied) fixed)
         (copyIn head (now (frame .entry))) (markIn head) (now (store .entry)) (now (store .exit)) (r .verdict)) ⌝ }
@@ -181,9 +182,9 @@ fn judge_row(
     store: &mut [u8],
 ) -> Judged
     requires { ⌜ rowWidth ≤ length (now rows) ⌝ }
-    ensures { λ r. ⌜ (RowsJudgeable (assembled (now (times .entry)) (now (tags .entry)) (now (lengths .entry)) (now (slots .entry)) (sum .occupied) fixed)
+    ensures { λ r. ⌜ (RowsJudgeable current (assembled (now (times .entry)) (now (tags .entry)) (now (lengths .entry)) (now (slots .entry)) (sum .occupied) fixed)
         (now (packet .entry)) (rowsIn (now (rows .entry))) (sum .tally) (now (store .entry))
-        → RowJudged (assembled (now (times .entry)) (now (tags .entry)) (now (lengths .entry)) (now (slots .entry)) (sum .occupied) fixed)
+        → RowJudged current (assembled (now (times .entry)) (now (tags .entry)) (now (lengths .entry)) (now (slots .entry)) (sum .occupied) fixed)
         (assembled (now (times .exit)) (now (tags .exit)) (now (lengths .exit)) (now (slots .exit)) (r .occupied) fixed)
         (now (packet .entry)) (firstRow (now (rows .entry))) (rowsIn (restWords (now (rows .entry))))
         (sum .tally) (r .tally) (now (store .entry)) (now (store .exit))) ⌝ }
@@ -230,7 +231,7 @@ pub(crate) fn judge_rows(
     rows: &[u32],
     store: &mut [u8],
 ) -> Judged
-    ensures { λ r. ⌜ (RowsJudgeable (assembled (now (times .entry)) (now (tags .entry)) (now (lengths .entry)) (now (slots .entry)) (sum .occupied) fixed)
+    ensures { λ r. ⌜ (RowsJudgeable current (assembled (now (times .entry)) (now (tags .entry)) (now (lengths .entry)) (now (slots .entry)) (sum .occupied) fixed)
         (now (packet .entry)) (rowsIn (now (rows .entry))) (sum .tally) (now (store .entry))
         → RowsJudged (assembled (now (times .entry)) (now (tags .entry)) (now (lengths .entry)) (now (slots .entry)) (sum .occupied) fixed)
         (assembled (now (times .exit)) (now (tags .exit)) (now (lengths .exit)) (now (slots .exit)) (r .occupied) fixed)

@@ -6,6 +6,7 @@ use native.Mathlib.Omega.{arith}
 use lib.ListN.{length, take, drop, take-append-drop}
 use lib.Dec.{ltb, eqb}
 use borrow.Author.Tests.{eqb-true, eqb-false}
+use Rattle.rtp.specs.Editions.{Edition}
 use Rattle.rtp.specs.Sizes.{maxRows, rowWidth}
 use Rattle.rtp.specs.declared.settings.Settings.{Settings}
 use Rattle.rtp.specs.declared.refusal.Fault.{Fault}
@@ -20,7 +21,7 @@ use Rattle.payload.proofs.RowFactLaws.{AllRows, all-append}
 use Rattle.plans.specs.Lists.{whole}
 use Rattle.plans.specs.Plans.{planFrom, plan, stepBefore}
 use Rattle.encoder.specs.Writings.{noBytes, bytesOf, plannedBytes, encoded, roomFor, writing}
-use Rattle.encoder.proofs.PayloadLaws.{fitted}
+use Rattle.encoder.proofs.PayloadLaws.{fitted, in-runs}
 use Rattle.packet_parts.specs.Parts.{primaryTime, Part, Parts, noParts, partsOf, parts, countsFit}
 use Rattle.sender.specs.Packets.{assembledFrom, assembled, sending}
 use Rattle.packet_parts.specs.Headings.{Heading}
@@ -51,31 +52,32 @@ known-from format ch c p (r ∷ rs) gs k h =
     let s : Known r = omega (arith, g .same .class) in
     (s, known-from format ch (standing ch (c + 1)) r rs gs s (g .rest)))
 
-known-plan : (format ch : ℕ) (rs : List Row) (gs : List Group) → plan format ch rs ≡ groups gs → AllRows Known rs
+known-plan : (ed : Edition) (format ch : ℕ) (rs : List Row) (gs : List Group) → plan ed format ch rs ≡ groups gs → AllRows Known rs
 unfolding plan
-known-plan format ch [] gs h = tt
-known-plan format ch (r ∷ rs) gs h =
-    let a = passed (ltb maxRows (length (r ∷ rs))) _ gs h in
+known-plan ed format ch [] gs h = tt
+known-plan ed format ch (r ∷ rs) gs h =
+    let a = passed (ltb (maxRows ed) (length (r ∷ rs))) _ gs h in
     let f = fitted format ch _ gs (a .1) in
-    let b = begun format ch (stepBefore format r) r rs gs (f .0) in
+    let i = in-runs _ gs (f .0) in
+    let b = begun format ch (stepBefore format r) r rs (i .runs) (i .planned) in
     let s : Known r = code-small format (r .class) (r .length) (b .code) .classes in
     (s, known-from format ch (standing ch 1) r rs (b .table) s (b .rest))
 
-known-encoded : (st : Settings) (request : ℕ) (bytes p : List ℕ) (rs : List Row) → encoded st request bytes rs ≡ bytesOf p → AllRows Known rs
+known-encoded : (ed : Edition) (st : Settings) (request : ℕ) (bytes p : List ℕ) (rs : List Row) → encoded ed st request bytes rs ≡ bytesOf p → AllRows Known rs
 unfolding encoded
-known-encoded st request bytes p rs h = go (plan (st .format) (st .channels) rs) refl h
+known-encoded ed st request bytes p rs h = go (plan ed (st .format) (st .channels) rs) refl h
   where
-    go : (x : Contents) → plan (st .format) (st .channels) rs ≡ x → plannedBytes (st .format) request bytes rs x ≡ bytesOf p → AllRows Known rs
+    go : (x : Contents) → plan ed (st .format) (st .channels) rs ≡ x → plannedBytes (st .format) request bytes rs x ≡ bytesOf p → AllRows Known rs
     go (refused q) e k = let z : _≡_ {A = ℕ} 0 1 = cc in absurd (omega arith)
-    go (groups gs) e k = known-plan (st .format) (st .channels) rs gs e
+    go (groups gs) e k = known-plan ed (st .format) (st .channels) rs gs e
 
-known-made : (st : Settings) (request : ℕ) (bytes : List ℕ) (time : ℕ) (counts : List ℕ) (bs : List Part) (p : List ℕ) (rs : List Row) → Made st request bytes time counts bs p rs → AllRows Known rs
-known-made st request bytes time counts [] p rs m = known-encoded st request bytes p rs (m .0)
-known-made st request bytes time counts (b ∷ bs) p rs m =
+known-made : (ed : Edition) (st : Settings) (request : ℕ) (bytes : List ℕ) (time : ℕ) (counts : List ℕ) (bs : List Part) (p : List ℕ) (rs : List Row) → Made ed st request bytes time counts bs p rs → AllRows Known rs
+known-made ed st request bytes time counts [] p rs m = known-encoded ed st request bytes p rs (m .0)
+known-made ed st request bytes time counts (b ∷ bs) p rs m =
     let n = firstCount counts in
     subst (AllRows Known) (take-append-drop n rs)
-    (all-append Known (take n rs) (drop n rs) (known-encoded st request bytes (b .bytes) (take n rs) (m .0 .payload))
-    (known-made st request bytes time (laterCounts counts) bs p (drop n rs) (m .1)))
+    (all-append Known (take n rs) (drop n rs) (known-encoded ed st request bytes (b .bytes) (take n rs) (m .0 .payload))
+    (known-made ed st request bytes time (laterCounts counts) bs p (drop n rs) (m .1)))
 
 -- A row with a bit above the mark is of none
 
@@ -94,35 +96,35 @@ unknown ws b k =
 
 -- Writing and sending
 
-none-encoded : (st : Settings) (request : ℕ) (bytes : List ℕ) (rs : List Row) → (AllRows Known rs → ⊥) → encoded st request bytes rs ≡ noBytes Unwritable
+none-encoded : (ed : Edition) (st : Settings) (request : ℕ) (bytes : List ℕ) (rs : List Row) → (AllRows Known rs → ⊥) → encoded ed st request bytes rs ≡ noBytes Unwritable
 unfolding encoded
-none-encoded st request bytes rs h = go (plan (st .format) (st .channels) rs) refl (only-plan (st .format) (st .channels) rs)
+none-encoded ed st request bytes rs h = go (plan ed (st .format) (st .channels) rs) refl (only-plan ed (st .format) (st .channels) rs)
   where
-    go : (x : Contents) → plan (st .format) (st .channels) rs ≡ x → Only x → plannedBytes (st .format) request bytes rs x ≡ noBytes Unwritable
+    go : (x : Contents) → plan ed (st .format) (st .channels) rs ≡ x → Only x → plannedBytes (st .format) request bytes rs x ≡ noBytes Unwritable
     go (refused q) e o = ap (λ (f : Fault). noBytes (f .refusal)) o
-    go (groups gs) e o = absurd (h (known-plan (st .format) (st .channels) rs gs e))
+    go (groups gs) e o = absurd (h (known-plan ed (st .format) (st .channels) rs gs e))
 
-pub bit-above-refused : BitAboveRefused
+pub bit-above-refused : (ed : Edition) → BitAboveRefused ed
 unfolding writing
-bit-above-refused st request ws bytes area range inside b =
+bit-above-refused ed st request ws bytes area range inside b =
     by-test (whole ws)
-    (λ w. rw (range, inside, w) (ap (roomFor area) (none-encoded st request bytes (rowsIn ws) (unknown ws b))))
+    (λ w. rw (range, inside, w) (ap (roomFor area) (none-encoded ed st request bytes (rowsIn ws) (unknown ws b))))
     (λ w. rw (range, inside, w))
 
-none-assembled : (st : Settings) (request : ℕ) (h : Heading) (counts bytes : List ℕ) (rs : List Row) → (AllRows Known rs → ⊥) → assembled st request h counts bytes rs ≡ noBytes Unwritable
+none-assembled : (ed : Edition) (st : Settings) (request : ℕ) (h : Heading) (counts bytes : List ℕ) (rs : List Row) → (AllRows Known rs → ⊥) → assembled ed st request h counts bytes rs ≡ noBytes Unwritable
 unfolding assembled
-none-assembled st request h counts bytes rs k = go (parts st request bytes time counts rs) refl
+none-assembled ed st request h counts bytes rs k = go (parts ed st request bytes time counts rs) refl
   where
     time : ℕ
     time = primaryTime counts rs
 
-    go : (x : Parts) → parts st request bytes time counts rs ≡ x → assembledFrom st h time x ≡ noBytes Unwritable
+    go : (x : Parts) → parts ed st request bytes time counts rs ≡ x → assembledFrom st h time x ≡ noBytes Unwritable
     go noParts e = refl
-    go (partsOf bs p) e = absurd (k (known-made st request bytes time counts bs p rs (made st request bytes time counts rs bs p refl e)))
+    go (partsOf bs p) e = absurd (k (known-made ed st request bytes time counts bs p rs (made ed st request bytes time counts rs bs p refl e)))
 
-pub packet-bit-above-refused : PacketBitAboveRefused
+pub packet-bit-above-refused : (ed : Edition) → PacketBitAboveRefused ed
 unfolding sending
-packet-bit-above-refused st request h counts ws bytes area range inside b =
-    by-test (countsFit counts ws)
-    (λ w. rw (range, inside, w) (ap (roomFor area) (none-assembled st request h counts bytes (rowsIn ws) (unknown ws b))))
+packet-bit-above-refused ed st request h counts ws bytes area range inside b =
+    by-test (countsFit ed counts ws)
+    (λ w. rw (range, inside, w) (ap (roomFor area) (none-assembled ed st request h counts bytes (rowsIn ws) (unknown ws b))))
     (λ w. rw (range, inside, w))

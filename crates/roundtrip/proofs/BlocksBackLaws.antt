@@ -7,6 +7,7 @@ use native.Mathlib.Omega.{arith}
 use lib.ListN.{length, take, drop, length-append, take-append-drop}
 use lib.Seq.{take-append-seam, drop-append-seam}
 use borrow.Author.Tests.{lt-ltb, le-ltb, eq-eqb, ne-eqb}
+use Rattle.rtp.specs.Editions.{Edition}
 use Rattle.rtp.specs.Sizes.{maxPacket, maxRows}
 use Rattle.rtp.specs.Time.{difference}
 use Rattle.rtp_headers.specs.Redundancy.{blockHeader, headersOf, prepend, headers, redundancyHeaders, headersSize, redundantSize}
@@ -73,8 +74,8 @@ unfolding redundantSize blocksBytes
 within-blocks type [] p = omega arith
 within-blocks type (b ∷ bs) p = let e = within-blocks type bs p in rw length-append (omega arith)
 
-module _ (st : Settings) (request : ℕ) (bytes : List ℕ) (time type : ℕ) (small : type < 128) where
-  headers-back : (counts : List ℕ) (bs : List Part) (p rest : List ℕ) (rs : List Row) → Made st request bytes time counts bs p rs → headers (headersBytes type bs ++ rest) ≡ headersOf (redundantsOf type bs) type
+module _ (ed : Edition) (st : Settings) (request : ℕ) (bytes : List ℕ) (time type : ℕ) (small : type < 128) where
+  headers-back : (counts : List ℕ) (bs : List Part) (p rest : List ℕ) (rs : List Row) → Made ed st request bytes time counts bs p rs → headers (headersBytes type bs ++ rest) ≡ headersOf (redundantsOf type bs) type
   unfolding headersBytes
   headers-back counts [] p rest rs m = rw (headers-step (type ∷ rest), last-header-back type rest small)
   headers-back counts (b ∷ bs) p rest rs m =
@@ -108,14 +109,14 @@ back-then s bytes counts rs x next h a b =
       heard = more-lists counts rs (a .rows) (b .rows) h k l (a .heard) (b .heard);
     }
 
-last-block : (st : Settings) (done time type at : ℕ) (p : List ℕ) → blocksRows st done time (cut [] type at p) ≡ typedBlockRows st done time (block primaryMark type 0 at p)
+last-block : (ed : Edition) (st : Settings) (done time type at : ℕ) (p : List ℕ) → blocksRows ed st done time (cut [] type at p) ≡ typedBlockRows ed st done time (block primaryMark type 0 at p)
 unfolding blocksRows cut
-last-block st done time type at p = then-none (typedBlockRows st done time (block primaryMark type 0 at p))
+last-block ed st done time type at p = then-none (typedBlockRows ed st done time (block primaryMark type 0 at p))
 
-first-block : (st : Settings) (done time type at : ℕ) (b : Part) (hs : List Redundant) (c : List ℕ) → blocksRows st done time (cut (redundantOf type b ∷ hs) type at (b .bytes ++ c))
-    ≡ thenRows (typedBlockRows st done time (block redundantMark type (b .offset) at (b .bytes))) (λ n. blocksRows st (done + n) time (cut hs type (at + length (b .bytes)) c))
+first-block : (ed : Edition) (st : Settings) (done time type at : ℕ) (b : Part) (hs : List Redundant) (c : List ℕ) → blocksRows ed st done time (cut (redundantOf type b ∷ hs) type at (b .bytes ++ c))
+    ≡ thenRows (typedBlockRows ed st done time (block redundantMark type (b .offset) at (b .bytes))) (λ n. blocksRows ed st (done + n) time (cut hs type (at + length (b .bytes)) c))
 unfolding blocksRows cut
-first-block st done time type at b hs c = rw (take-append-seam (b .bytes) c, drop-append-seam (b .bytes) c)
+first-block ed st done time type at b hs c = rw (take-append-seam (b .bytes) c, drop-append-seam (b .bytes) c)
 
 -- the mode request of the blocks is that of the last, which is not empty
 blocks-request : (st : Settings) (found at : ℕ) (bs : List Part) (p : List ℕ) → 1 ≤ length p
@@ -125,22 +126,22 @@ blocks-request st found at [] p h = rw (eq-eqb (st .«payload_type») (st .«pay
 blocks-request st found at (b ∷ bs) p h =
     rw (take-append-seam (b .bytes) (blocksBytes bs p), drop-append-seam (b .bytes) (blocksBytes bs p)) (blocks-request st _ (at + length (b .bytes)) bs p h)
 
-module _ (st : Settings) (request : ℕ) (bytes : List ℕ) (time : ℕ) (some : 1 ≤ st .channels) (t : time < 2 ^ 32) where
+module _ (ed : Edition) (st : Settings) (request : ℕ) (bytes : List ℕ) (time : ℕ) (some : 1 ≤ st .channels) (t : time < 2 ^ 32) where
   -- a block whose time is its list's, anywhere
-  block-back : (mark offset : ℕ) (p : List ℕ) (rs : List Row) → Reads st request bytes p rs → difference time offset ≡ firstTime rs → (front rest : List ℕ) (done : ℕ) → done + length rs ≤ maxRows
-      → Back (front ++ (p ++ rest)) bytes rs (AllMarked mark) (typedBlockRows st done time (block mark (st .«payload_type») offset (length front) p))
+  block-back : (mark offset : ℕ) (p : List ℕ) (rs : List Row) → Reads ed st request bytes p rs → difference time offset ≡ firstTime rs → (front rest : List ℕ) (done : ℕ) → done + length rs ≤ maxRows ed
+      → Back (front ++ (p ++ rest)) bytes rs (AllMarked mark) (typedBlockRows ed st done time (block mark (st .«payload_type») offset (length front) p))
   unfolding typedBlockRows
   block-back mark offset p rs r e front rest done few =
       let b = r .back mark front rest done few in
       record { rows = b .rows; read = rw (eq-eqb (st .«payload_type») (st .«payload_type») refl, ne-eqb (length p) 0 (omega (arith, r .some)), e) (b .read); same = b .same; heard = b .heard }
 
-  blocks-back : (counts : List ℕ) (bs : List Part) (p : List ℕ) (rs : List Row) → Made st request bytes time counts bs p rs → Times rs → outside (length bytes) rs ≡ false
-      → (front : List ℕ) (done : ℕ) → done + length rs ≤ maxRows
-      → Back (front ++ blocksBytes bs p) bytes rs (PrimaryLast counts) (blocksRows st done time (cut (redundantsOf (st .«payload_type») bs) (st .«payload_type») (length front) (blocksBytes bs p)))
+  blocks-back : (counts : List ℕ) (bs : List Part) (p : List ℕ) (rs : List Row) → Made ed st request bytes time counts bs p rs → Times rs → outside (length bytes) rs ≡ false
+      → (front : List ℕ) (done : ℕ) → done + length rs ≤ maxRows ed
+      → Back (front ++ blocksBytes bs p) bytes rs (PrimaryLast counts) (blocksRows ed st done time (cut (redundantsOf (st .«payload_type») bs) (st .«payload_type») (length front) (blocksBytes bs p)))
   unfolding blocksBytes
   blocks-back counts [] p rs m times inside front done few =
-      let x = block-back primaryMark 0 p rs (payload-back st request bytes p rs some times inside (m .0)) (difference-none time t ∙ sym (m .1)) front [] done few in
-      rw (last-block st done time (st .«payload_type») (length front) p) (back-last _ bytes counts rs _ (m .2) (rw (append-nil p) at x))
+      let x = block-back primaryMark 0 p rs (payload-back ed st request bytes p rs some times inside (m .0)) (difference-none time t ∙ sym (m .1)) front [] done few in
+      rw (last-block ed st done time (st .«payload_type») (length front) p) (back-last _ bytes counts rs _ (m .2) (rw (append-nil p) at x))
   blocks-back counts (b ∷ bs) p rs m times inside front done few =
       let n = firstCount counts in
       let c = blocksBytes bs p in
@@ -148,17 +149,17 @@ module _ (st : Settings) (request : ℕ) (bytes : List ℕ) (time : ℕ) (some :
       let size : length (take n rs) + length (drop n rs) ≡ length rs = sym (length-append (take n rs) (drop n rs)) ∙ ap (λ (l : List Row). length l) (take-append-drop n rs) in
       let x =
       block-back redundantMark (b .offset) (b .bytes) (take n rs)
-      (payload-back st request bytes (b .bytes) (take n rs) some first (outside-take (length bytes) n rs inside) (m .0 .payload))
+      (payload-back ed st request bytes (b .bytes) (take n rs) some first (outside-take (length bytes) n rs inside) (m .0 .payload))
       (ap (difference time) (m .0 .offset) ∙ difference-back time (firstTime (take n rs)) t (first-small (take n rs) first)) front c done (omega arith) in
       let y =
       blocks-back (laterCounts counts) bs p (drop n rs) (m .1) (times-drop n rs times) (outside-drop (length bytes) n rs inside) (front ++ b .bytes) (done + length (take n rs)) (omega arith) in
-      rw (first-block st done time (st .«payload_type») (length front) b (redundantsOf (st .«payload_type») bs) c)
+      rw (first-block ed st done time (st .«payload_type») (length front) b (redundantsOf (st .«payload_type») bs) c)
       (back-then (front ++ (b .bytes ++ c)) bytes counts rs _ _ (m .2) x (rw (append-assoc front (b .bytes) c, length-append front (b .bytes)) at y))
 
   -- the whole payload, after a front
-  pub redundant-back : (counts : List ℕ) (bs : List Part) (p : List ℕ) (rs : List Row) → Made st request bytes time counts bs p rs → Times rs → outside (length bytes) rs ≡ false → st .«payload_type» < 128
-      → length rs ≤ maxRows → length (headersBytes (st .«payload_type») bs ++ blocksBytes bs p) ≤ maxPacket → (front : List ℕ)
-      → Back (front ++ (headersBytes (st .«payload_type») bs ++ blocksBytes bs p)) bytes rs (PrimaryLast counts) (redundantRows st time (length front) (headersBytes (st .«payload_type») bs ++ blocksBytes bs p))
+  pub redundant-back : (counts : List ℕ) (bs : List Part) (p : List ℕ) (rs : List Row) → Made ed st request bytes time counts bs p rs → Times rs → outside (length bytes) rs ≡ false → st .«payload_type» < 128
+      → length rs ≤ maxRows ed → length (headersBytes (st .«payload_type») bs ++ blocksBytes bs p) ≤ maxPacket → (front : List ℕ)
+      → Back (front ++ (headersBytes (st .«payload_type») bs ++ blocksBytes bs p)) bytes rs (PrimaryLast counts) (redundantRows ed st time (length front) (headersBytes (st .«payload_type») bs ++ blocksBytes bs p))
   unfolding redundantRows redundancyHeaders
   redundant-back counts bs p rs m times inside small few short front =
       let type = st .«payload_type» in
@@ -168,18 +169,18 @@ module _ (st : Settings) (request : ℕ) (bytes : List ℕ) (time : ℕ) (some :
       let n = length-headers type bs in
       let room : redundantSize hs ≤ length (a ++ c) - headersSize hs = rw (length-append a c, ← n) (omega (arith, within-blocks type bs p)) in
       let x = blocks-back counts bs p rs m times inside (front ++ a) 0 (omega arith) in
-      rw (le-ltb maxPacket (length (a ++ c)) short, headers-back st request bytes time type small counts bs p c rs m)
+      rw (le-ltb maxPacket (length (a ++ c)) short, headers-back ed st request bytes time type small counts bs p c rs m)
       (rw (le-ltb (length (a ++ c) - headersSize hs) (redundantSize hs) room, ← n, drop-append-seam a c) (rw (append-assoc front a c, length-append front a) at x))
 
   -- the mode request of a made packet is that of its primary payload, the last
-  pub primary-request : (counts : List ℕ) (bs : List Part) (p : List ℕ) (rs : List Row) → Made st request bytes time counts bs p rs → Times rs → outside (length bytes) rs ≡ false
+  pub primary-request : (counts : List ℕ) (bs : List Part) (p : List ℕ) (rs : List Row) → Made ed st request bytes time counts bs p rs → Times rs → outside (length bytes) rs ≡ false
       → (1 ≤ length p) × (requestOf (st .format) p ≡ readRequest (st .format) request)
-  primary-request counts [] p rs m times inside = let r = payload-back st request bytes p rs some times inside (m .0) in (r .some, r .asked)
+  primary-request counts [] p rs m times inside = let r = payload-back ed st request bytes p rs some times inside (m .0) in (r .some, r .asked)
   primary-request counts (b ∷ bs) p rs m times inside =
       let n = firstCount counts in
       primary-request (laterCounts counts) bs p (drop n rs) (m .1) (times-drop n rs times) (outside-drop (length bytes) n rs inside)
 
-  pub redundant-request : (counts : List ℕ) (bs : List Part) (p : List ℕ) (rs : List Row) → Made st request bytes time counts bs p rs → Times rs → outside (length bytes) rs ≡ false → st .«payload_type» < 128
+  pub redundant-request : (counts : List ℕ) (bs : List Part) (p : List ℕ) (rs : List Row) → Made ed st request bytes time counts bs p rs → Times rs → outside (length bytes) rs ≡ false → st .«payload_type» < 128
       → length (headersBytes (st .«payload_type») bs ++ blocksBytes bs p) ≤ maxPacket
       → redundantRequest st (headersBytes (st .«payload_type») bs ++ blocksBytes bs p) ≡ readRequest (st .format) request
   unfolding redundantRequest redundancyHeaders
@@ -188,5 +189,5 @@ module _ (st : Settings) (request : ℕ) (bytes : List ℕ) (time : ℕ) (some :
       let a = headersBytes type bs in
       let c = blocksBytes bs p in
       let r = primary-request counts bs p rs m times inside in
-      rw (le-ltb maxPacket (length (a ++ c)) short, headers-back st request bytes time type small counts bs p c rs m, ← (length-headers type bs), drop-append-seam a c)
+      rw (le-ltb maxPacket (length (a ++ c)) short, headers-back ed st request bytes time type small counts bs p c rs m, ← (length-headers type bs), drop-append-seam a c)
       (blocks-request st noRequest 0 bs p (r .0) ∙ r .1)

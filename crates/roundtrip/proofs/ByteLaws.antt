@@ -4,12 +4,10 @@ use mathlib.Core.List.{List, [], _∷_, _++_}
 use mathlib.Core.Bool.{Bool, true, false, cond}
 use Prim.Native.Nat.{ℕ, zero, suc, _+_, _*_, _≤_, _<_}
 use native.Mathlib.Omega.{arith}
-use native.Mathlib.Nat.{le-mul-of-pos-right}
 use lib.ListN.{length, getD, take, drop}
 use lib.Dec.{eqb}
-use Rattle.rtp.specs.Sizes.{maxRows}
 use Rattle.rtp.proofs.ByteLaws.{bytes-drop}
-use Rattle.contents.specs.Contents.{Group, rowCount}
+use Rattle.contents.specs.Contents.{Group}
 use Rattle.frame_rows.specs.Rows.{Row, frameIn}
 use Rattle.formats.specs.Formats.{formatOf, maxGap}
 use Rattle.plans.specs.Plans.{headGap}
@@ -18,7 +16,7 @@ use Rattle.payload_sizes.specs.Asking.{requestBytes, maxRequest}
 use Rattle.roundtrip.specs.ReadingBack.{Bytes}
 use Rattle.encoder.proofs.EntryLaws.{first-small}
 use Rattle.roundtrip.proofs.EntryBackLaws.{Run, small-gaps}
-use Rattle.roundtrip.proofs.TableBackLaws.{Runs}
+use Rattle.roundtrip.proofs.TableBackLaws.{Runs, Counts}
 
 bytes-none : Bytes []
 bytes-none i = omega arith
@@ -59,15 +57,13 @@ pub bytes-request : (format request : ℕ) → request ≤ maxRequest → Bytes 
 unfolding requestBytes
 bytes-request format request h = bytes-either (eqb (formatOf format .header) 0) [] (16 * request ∷ []) (λ a. bytes-none) (λ a. bytes-one (16 * request) [] (omega arith) bytes-none)
 
--- a table of at most 128 rows
-pub bytes-table : (format ch : ℕ) (gs : List Group) → 1 ≤ ch → Runs format gs → rowCount ch gs ≤ maxRows → Bytes (tableBytes format gs)
-unfolding tableBytes rowCount
-bytes-table format ch [] c v h = bytes-none
-bytes-table format ch (g ∷ []) c v h = bytes-entry format false g (v .0) (v .1) (omega (arith, le-mul-of-pos-right (length (g .gaps)) c))
-bytes-table format ch (g ∷ f ∷ gs) c v h =
-    bytes-append (entryBytes format true g) (tableBytes format (f ∷ gs))
-    (bytes-entry format true g (v .0) (v .1) (omega (arith, le-mul-of-pos-right (length (g .gaps)) c)))
-    (bytes-table format ch (f ∷ gs) c (v .2) (omega arith))
+-- a table
+pub bytes-table : (format : ℕ) (gs : List Group) → Runs format gs → Counts gs → Bytes (tableBytes format gs)
+unfolding tableBytes
+bytes-table format [] v c = bytes-none
+bytes-table format (g ∷ []) v c = bytes-entry format false g (v .0) (v .1) (omega (arith, c .0))
+bytes-table format (g ∷ f ∷ gs) v c =
+    bytes-append (entryBytes format true g) (tableBytes format (f ∷ gs)) (bytes-entry format true g (v .0) (v .1) (omega (arith, c .0))) (bytes-table format (f ∷ gs) (v .2) (c .1))
 
 pub bytes-frames : (bytes : List ℕ) (rs : List Row) → Bytes bytes → Bytes (frames bytes rs)
 unfolding frames

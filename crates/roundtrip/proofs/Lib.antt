@@ -5,6 +5,7 @@ pub mod TableBlockLaws
 pub mod FrameLaws
 pub mod MarkLaws
 pub mod AttachLaws
+pub mod RunEntryLaws
 pub mod ShortestLaws
 pub mod TickLaws
 pub mod PlanBlockLaws

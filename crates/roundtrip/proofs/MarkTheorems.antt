@@ -4,6 +4,7 @@ use mathlib.Core.List.{List, [], _∷_, _++_}
 use Prim.Native.Nat.{ℕ, zero, suc, _+_}
 use native.Mathlib.Omega.{arith}
 use lib.ListN.{length, take, drop}
+use Rattle.rtp.specs.Editions.{Edition}
 use Rattle.rtp.specs.declared.settings.Settings.{Settings}
 use Rattle.tags.specs.Tags.{redundantMark, tagMark, tagClass, tagChannel}
 use Rattle.contents.specs.Contents.{Contents, refused, groups}
@@ -55,7 +56,7 @@ rows-cleared (a ∷ b ∷ c ∷ d ∷ ws) =
 
 -- Rows with another mark
 
-module _ (mark : ℕ) where
+module _ (ed : Edition) (mark : ℕ) where
   outside-marked : (n : ℕ) (rs : List Row) → outside n (marked mark rs) ≡ outside n rs
   unfolding outside marked
   outside-marked n [] = refl
@@ -75,7 +76,7 @@ module _ (mark : ℕ) where
       let q = stepBefore format r in
       from-marked format ch 0 p rs ∙ plan-like format ch 0 p rs ∙ sym (plan-like format ch 0 q rs)
 
-  plan-marked : (format ch : ℕ) (rs : List Row) → plan format ch (marked mark rs) ≡ plan format ch rs
+  plan-marked : (format ch : ℕ) (rs : List Row) → plan ed format ch (marked mark rs) ≡ plan ed format ch rs
   unfolding plan marked
   plan-marked format ch [] = refl
   plan-marked format ch (r ∷ rs) = rw (length-marked mark rs, first-marked format ch r (r ∷ rs))
@@ -84,10 +85,10 @@ module _ (mark : ℕ) where
   bytes-marked format request bytes rs (refused f) = refl
   bytes-marked format request bytes rs (groups gs) = ap (λ (l : List ℕ). bytesOf (requestBytes format request ++ (tableBytes format gs ++ l))) (frames-marked bytes rs)
 
-  encoded-marked : (st : Settings) (request : ℕ) (bytes : List ℕ) (rs : List Row) → encoded st request bytes (marked mark rs) ≡ encoded st request bytes rs
+  encoded-marked : (st : Settings) (request : ℕ) (bytes : List ℕ) (rs : List Row) → encoded ed st request bytes (marked mark rs) ≡ encoded ed st request bytes rs
   unfolding encoded
   encoded-marked st request bytes rs =
-      bytes-marked (st .format) request bytes rs (plan (st .format) (st .channels) (marked mark rs)) ∙ ap (plannedBytes (st .format) request bytes rs) (plan-marked (st .format) (st .channels) rs)
+      bytes-marked (st .format) request bytes rs (plan ed (st .format) (st .channels) (marked mark rs)) ∙ ap (plannedBytes (st .format) request bytes rs) (plan-marked (st .format) (st .channels) rs)
 
   -- lists of them
 
@@ -114,29 +115,29 @@ module _ (mark : ℕ) where
   primary-marked (n ∷ []) rs = time-marked rs
   primary-marked (n ∷ m ∷ ns) rs = ap (primaryTime (m ∷ ns)) (drop-marked n rs) ∙ primary-marked (m ∷ ns) (drop n rs)
 
-  parts-marked : (st : Settings) (request : ℕ) (bytes : List ℕ) (time : ℕ) (counts : List ℕ) (rs : List Row) → parts st request bytes time counts (marked mark rs) ≡ parts st request bytes time counts rs
+  parts-marked : (st : Settings) (request : ℕ) (bytes : List ℕ) (time : ℕ) (counts : List ℕ) (rs : List Row) → parts ed st request bytes time counts (marked mark rs) ≡ parts ed st request bytes time counts rs
   unfolding parts
   parts-marked st request bytes time [] rs = refl
   parts-marked st request bytes time (n ∷ []) rs = ap primaryPart (encoded-marked st request bytes rs)
   parts-marked st request bytes time (n ∷ m ∷ ns) rs =
       rw (take-marked n rs, drop-marked n rs, time-marked (take n rs), encoded-marked st request bytes (take n rs), parts-marked st request bytes time (m ∷ ns) (drop n rs))
 
-  assembled-marked : (st : Settings) (request : ℕ) (h : Heading) (counts bytes : List ℕ) (rs : List Row) → assembled st request h counts bytes (marked mark rs) ≡ assembled st request h counts bytes rs
+  assembled-marked : (st : Settings) (request : ℕ) (h : Heading) (counts bytes : List ℕ) (rs : List Row) → assembled ed st request h counts bytes (marked mark rs) ≡ assembled ed st request h counts bytes rs
   unfolding assembled
   assembled-marked st request h counts bytes rs = rw (primary-marked counts rs, parts-marked st request bytes (primaryTime counts rs) counts rs)
 
 -- Writing, measuring and sending
 
-pub mark-ignored : MarkIgnored
+pub mark-ignored : (ed : Edition) → MarkIgnored ed
 unfolding writing measured
-mark-ignored st request ws bytes area =
+mark-ignored ed st request ws bytes area =
     let rs = rowsIn ws in (
-      rw (rows-cleared ws, length-cleared ws, outside-marked redundantMark (length bytes) rs, encoded-marked redundantMark st request bytes rs),
-      rw (rows-cleared ws, length-cleared ws, plan-marked redundantMark (st .format) (st .channels) rs),
+      rw (rows-cleared ws, length-cleared ws, outside-marked ed redundantMark (length bytes) rs, encoded-marked ed redundantMark st request bytes rs),
+      rw (rows-cleared ws, length-cleared ws, plan-marked ed redundantMark (st .format) (st .channels) rs),
     )
 
-pub packet-mark-ignored : PacketMarkIgnored
+pub packet-mark-ignored : (ed : Edition) → PacketMarkIgnored ed
 unfolding sending
-packet-mark-ignored st request h counts ws bytes area =
+packet-mark-ignored ed st request h counts ws bytes area =
     let rs = rowsIn ws in
-    rw (rows-cleared ws, length-cleared ws, outside-marked redundantMark (length bytes) rs, assembled-marked redundantMark st request h counts bytes rs)
+    rw (rows-cleared ws, length-cleared ws, outside-marked ed redundantMark (length bytes) rs, assembled-marked ed redundantMark st request h counts bytes rs)

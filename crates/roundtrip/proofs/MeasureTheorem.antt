@@ -8,6 +8,7 @@ use native.Mathlib.Omega.{arith}
 use lib.ListN.{length}
 use lib.Dec.{ltb}
 use borrow.Author.Tests.{le-ltb, ltb-true, ltb-false}
+use Rattle.rtp.specs.Editions.{Edition}
 use Rattle.rtp.specs.Ranges.{inRange}
 use Rattle.rtp.specs.declared.settings.Settings.{Settings}
 use Rattle.rtp.specs.declared.refusal.Refusal.{Refusal}
@@ -38,30 +39,30 @@ agree-room area (bytesOf p) h =
     (λ t. let l = ltb-false area (length p) t in rw t (λ m. refl, (λ e. absurd (h e), λ m. absurd (omega arith))))
 
 -- a list's payload is refused as unwritable alone
-not-short : (st : Settings) (request : ℕ) (bytes : List ℕ) (rs : List Row) → encoded st request bytes rs ≡ noBytes AreaTooShort → ⊥
+not-short : (ed : Edition) (st : Settings) (request : ℕ) (bytes : List ℕ) (rs : List Row) → encoded ed st request bytes rs ≡ noBytes AreaTooShort → ⊥
 unfolding encoded
-not-short st request bytes rs = go (plan (st .format) (st .channels) rs) (only-plan (st .format) (st .channels) rs)
+not-short ed st request bytes rs = go (plan ed (st .format) (st .channels) rs) (only-plan ed (st .format) (st .channels) rs)
   where
     go : (x : Contents) → Only x → plannedBytes (st .format) request bytes rs x ≡ noBytes AreaTooShort → ⊥
     go (refused q) o h = let y : noBytes Unwritable ≡ noBytes AreaTooShort = ap (λ (f : Fault). noBytes (f .refusal)) (sym o) ∙ h in let z : _≡_ {A = ℕ} 0 1 = cc in absurd (omega arith)
     go (groups gs) o h = let z : _≡_ {A = ℕ} 0 1 = cc in absurd (omega arith)
 
-agree : (st : Settings) (request : ℕ) (ws bytes : List ℕ) (area : ℕ) → request ≤ maxRequest → outside (length bytes) (rowsIn ws) ≡ false → Agree area (writing st request ws bytes area) (measured st ws)
+agree : (ed : Edition) (st : Settings) (request : ℕ) (ws bytes : List ℕ) (area : ℕ) → request ≤ maxRequest → outside (length bytes) (rowsIn ws) ≡ false → Agree area (writing ed st request ws bytes area) (measured ed st ws)
 unfolding writing askable measured
-agree st request ws bytes area q o =
+agree ed st request ws bytes area q o =
     let k = le-ltb maxRequest request q in
-    by-test (inRange st)
+    by-test (inRange ed st)
     (λ i. by-test (whole ws)
     (λ w. rw (k, i, o, w)
-    (subst (Agree area (roomFor area (encoded st request bytes (rowsIn ws)))) (numbers-encoded st request ws bytes (in-range-some st i) o)
-    (agree-room area (encoded st request bytes (rowsIn ws)) (not-short st request bytes (rowsIn ws)))))
+    (subst (Agree area (roomFor area (encoded ed st request bytes (rowsIn ws)))) (numbers-encoded ed st request ws bytes (in-range-some ed st i) o)
+    (agree-room area (encoded ed st request bytes (rowsIn ws)) (not-short ed st request bytes (rowsIn ws)))))
     (λ w. rw (k, i, o, w) (refused-same Unwritable (λ h. let z : _≡_ {A = ℕ} 0 1 = cc in absurd (omega arith)))))
     (λ i. rw (k, i) (refused-same SettingsOutOfRange (λ h. let z : _≡_ {A = ℕ} 0 1 = cc in absurd (omega arith))))
   where
     refused-same : (r : Refusal) → (noBytes r ≡ noBytes AreaTooShort → ⊥) → Agree area (noBytes r) (refusedNumbers r)
     refused-same r h = unfold encodedNumbers in agree-room area (noBytes r) h
 
-pub measuring : Measuring
-measuring st request ws bytes area q o =
-    let a = agree st request ws bytes area q o in
+pub measuring : (ed : Edition) → Measuring ed
+measuring ed st request ws bytes area q o =
+    let a = agree ed st request ws bytes area q o in
     record { enough = λ l. a .0 (omega (arith, l)); too-short = (λ e. omega (arith, a .1 .0 e), λ l. a .1 .1 (omega (arith, l))) }

@@ -7,6 +7,7 @@ use native.Mathlib.Omega.{arith}
 use lib.ListN.{length}
 use lib.Dec.{ltb, eqb}
 use borrow.Author.Tests.{eq-eqb, ne-eqb, ltb-false, eqb-true}
+use Rattle.rtp.specs.Editions.{Edition}
 use Rattle.rtp.specs.Sizes.{maxPacket, maxRows, rowWidth}
 use Rattle.rtp.specs.declared.settings.Settings.{Settings}
 use Rattle.rtp.specs.declared.refusal.Refusal.{Refusal}
@@ -37,13 +38,13 @@ use Rattle.roundtrip.proofs.BlocksBackLaws.{back-last, redundant-back, 
 
 -- What the counts say
 
-few-rows : (counts ws : List ℕ) → countsFit counts ws ≡ true → length (rowsIn ws) ≤ maxRows
-few-rows counts ws h =
+few-rows : (ed : Edition) (counts ws : List ℕ) → countsFit ed counts ws ≡ true → length (rowsIn ws) ≤ maxRows ed
+few-rows ed counts ws h =
     let a = either (eqb (length counts) 0) _ h in
     let b = either (ltb (maxRedundant + 1) (length counts)) _ (a .1) in
     let c = both (eqb (length ws) (rowWidth * total counts)) _ (b .1) in
-    let d = either (ltb maxRows (total counts)) true (c .1) in
-    omega (arith, length-rows ws, eqb-true (length ws) (rowWidth * total counts) (c .0), ltb-false maxRows (total counts) (d .0))
+    let d = either (ltb (maxRows ed) (total counts)) true (c .1) in
+    omega (arith, length-rows ws, eqb-true (length ws) (rowWidth * total counts) (c .0), ltb-false (maxRows ed) (total counts) (d .0))
 
 -- What stands behind a packet that is given
 
@@ -80,68 +81,68 @@ of-parts st h time (partsOf bs p) q k =
     let b = past (ltb maxPacket (length (packet st h time bs p))) _ _ q (a .1) in
     record { blocks = bs; primary = p; are = refl; typed = a .0; short = ltb-false _ _ (b .0); same = same-bytes _ q (b .1) }
 
-record Sent (st : Settings) (request : ℕ) (h : Heading) (counts ws bytes q : List ℕ) : Type 0 where
-  range : askable st request ≡ true
+record Sent (ed : Edition) (st : Settings) (request : ℕ) (h : Heading) (counts ws bytes q : List ℕ) : Type 0 where
+  range : askable ed st request ≡ true
   inside : outside (length bytes) (rowsIn ws) ≡ false
-  fits : countsFit counts ws ≡ true
-  made : Assembled st h (primaryTime counts (rowsIn ws)) (parts st request bytes (primaryTime counts (rowsIn ws)) counts (rowsIn ws)) q
+  fits : countsFit ed counts ws ≡ true
+  made : Assembled st h (primaryTime counts (rowsIn ws)) (parts ed st request bytes (primaryTime counts (rowsIn ws)) counts (rowsIn ws)) q
 
-sent : (st : Settings) (request : ℕ) (h : Heading) (counts ws bytes : List ℕ) (area : ℕ) (q : List ℕ) → sending st request h counts ws bytes area ≡ bytesOf q → Sent st request h counts ws bytes q
+sent : (ed : Edition) (st : Settings) (request : ℕ) (h : Heading) (counts ws bytes : List ℕ) (area : ℕ) (q : List ℕ) → sending ed st request h counts ws bytes area ≡ bytesOf q → Sent ed st request h counts ws bytes q
 unfolding sending assembled
-sent st request h counts ws bytes area q k =
-    let a = passed (askable st request) _ _ q k in
+sent ed st request h counts ws bytes area q k =
+    let a = passed (askable ed st request) _ _ q k in
     let b = past (outside (length bytes) (rowsIn ws)) _ _ q (a .1) in
-    let c = passed (countsFit counts ws) _ _ q (b .1) in
+    let c = passed (countsFit ed counts ws) _ _ q (b .1) in
     record { range = a .0; inside = b .0; fits = c .0; made = of-parts st h _ _ q (room area _ q (c .1)) }
 
 -- Round trip
 
-type-small : (st : Settings) (bs : List Part) → Ranged st → redundancyMissing st bs ≡ false → packetType st bs < 128
-type-small st [] g k = g .plain
-type-small st (b ∷ bs) g k = g .redundant k .0
+type-small : (ed : Edition) (st : Settings) (bs : List Part) → Ranged ed st → redundancyMissing st bs ≡ false → packetType st bs < 128
+type-small ed st [] g k = g .plain
+type-small ed st (b ∷ bs) g k = g .redundant k .0
 
 -- a packet of the list rs gives its rows, plain or redundant
-module _ (st : Settings) (request : ℕ) (h : Heading) (counts bytes : List ℕ) (rs : List Row) (time : ℕ) (g : Ranged st) (t : time < 2 ^ 32) (ts : Times rs) (inside : outside (length bytes) rs ≡ false) (few : length rs ≤ maxRows) where
-  typed-back : (bs : List Part) (p : List ℕ) → Made st request bytes time counts bs p rs → redundancyMissing st bs ≡ false → length (packet st h time bs p) ≤ maxPacket → (n : ℕ)
-      → Back (packet st h time bs p) bytes rs (PrimaryLast counts) (typedRows st (headOf h (packetType st bs) time n) (bodyBytes st bs p))
+module _ (ed : Edition) (st : Settings) (request : ℕ) (h : Heading) (counts bytes : List ℕ) (rs : List Row) (time : ℕ) (g : Ranged ed st) (t : time < 2 ^ 32) (ts : Times rs) (inside : outside (length bytes) rs ≡ false) (few : length rs ≤ maxRows ed) where
+  typed-back : (bs : List Part) (p : List ℕ) → Made ed st request bytes time counts bs p rs → redundancyMissing st bs ≡ false → length (packet st h time bs p) ≤ maxPacket → (n : ℕ)
+      → Back (packet st h time bs p) bytes rs (PrimaryLast counts) (typedRows ed st (headOf h (packetType st bs) time n) (bodyBytes st bs p))
   unfolding typedRows bodyBytes
   typed-back [] p m k l n =
-      let x = payload-back st request bytes p rs (g .channels) ts inside (m .0) .back primaryMark (headerBytes h (st .«payload_type») time) [] 0 (omega arith) in
+      let x = payload-back ed st request bytes p rs (g .channels) ts inside (m .0) .back primaryMark (headerBytes h (st .«payload_type») time) [] 0 (omega arith) in
       rw (eq-eqb (st .«payload_type») (st .«payload_type») refl) (back-last _ bytes counts rs _ (m .2) (rw (append-nil p, m .1) at x))
   typed-back (b ∷ bs) p m k l n =
       let type = st .«redundancy_type» in
       rw (ne-eqb type (st .«payload_type») (g .redundant k .1), eq-eqb type type refl)
-      (redundant-back st request bytes time (g .channels) t counts (b ∷ bs) p rs m ts inside (g .plain) few (omega arith) (headerBytes h type time))
+      (redundant-back ed st request bytes time (g .channels) t counts (b ∷ bs) p rs m ts inside (g .plain) few (omega arith) (headerBytes h type time))
 
-  typed-request : (bs : List Part) (p : List ℕ) → Made st request bytes time counts bs p rs → redundancyMissing st bs ≡ false → length (packet st h time bs p) ≤ maxPacket
+  typed-request : (bs : List Part) (p : List ℕ) → Made ed st request bytes time counts bs p rs → redundancyMissing st bs ≡ false → length (packet st h time bs p) ≤ maxPacket
       → typedRequest st (packetType st bs) (bodyBytes st bs p) ≡ readRequest (st .format) request
   unfolding typedRequest bodyBytes
-  typed-request [] p m k l = rw (eq-eqb (st .«payload_type») (st .«payload_type») refl) (primary-request st request bytes time (g .channels) t counts [] p rs m ts inside .1)
+  typed-request [] p m k l = rw (eq-eqb (st .«payload_type») (st .«payload_type») refl) (primary-request ed st request bytes time (g .channels) t counts [] p rs m ts inside .1)
   typed-request (b ∷ bs) p m k l =
       let type = st .«redundancy_type» in
       rw (ne-eqb type (st .«payload_type») (g .redundant k .1), eq-eqb type type refl)
-      (redundant-request st request bytes time (g .channels) t counts (b ∷ bs) p rs m ts inside (g .plain) (omega arith))
+      (redundant-request ed st request bytes time (g .channels) t counts (b ∷ bs) p rs m ts inside (g .plain) (omega arith))
 
-pub packet-round-trip : PacketRoundTrip
-packet-round-trip st request h counts ws bytes area rows q words sequence source room k =
-    let s = sent st request h counts ws bytes area q k in
+pub packet-round-trip : (ed : Edition) → PacketRoundTrip ed
+packet-round-trip ed st request h counts ws bytes area rows q words sequence source room k =
+    let s = sent ed st request h counts ws bytes area q k in
     let a = s .made in
     let rs = rowsIn ws in
     let time = primaryTime counts rs in
-    let g = ranged st (asked st request (s .range) .settings) in
+    let g = ranged ed st (asked ed st request (s .range) .settings) in
     let ts = times ws words in
     let t = primary-small counts rs ts in
     let type = packetType st (a .blocks) in
     let body = bodyBytes st (a .blocks) (a .primary) in
     let head = headOf h type time (length (headerBytes h type time ++ body)) in
-    let m = made st request bytes time counts rs (a .blocks) (a .primary) refl (a .are) in
-    let x = typed-back st request h counts bytes rs time g t ts (s .inside) (few-rows counts ws (s .fits)) (a .blocks) (a .primary) m (a .typed) (a .short) (head .end) in
-    let y = typed-request st request h counts bytes rs time g t ts (s .inside) (few-rows counts ws (s .fits)) (a .blocks) (a .primary) m (a .typed) (a .short) in
-    let read = header-back h type time body (type-small st (a .blocks) g (a .typed)) sequence t source (a .short) in
-    subst (λ (l : List ℕ). ReadsBack st request h counts ws bytes l rows) (a .same) (record {
+    let m = made ed st request bytes time counts rs (a .blocks) (a .primary) refl (a .are) in
+    let x = typed-back ed st request h counts bytes rs time g t ts (s .inside) (few-rows ed counts ws (s .fits)) (a .blocks) (a .primary) m (a .typed) (a .short) (head .end) in
+    let y = typed-request ed st request h counts bytes rs time g t ts (s .inside) (few-rows ed counts ws (s .fits)) (a .blocks) (a .primary) m (a .typed) (a .short) in
+    let read = header-back h type time body (type-small ed st (a .blocks) g (a .typed)) sequence t source (a .short) in
+    subst (λ (l : List ℕ). ReadsBack ed st request h counts ws bytes l rows) (a .same) (record {
       head = head;
       rows = x .rows;
-      read = reading-headed st rows (headerBytes h type time ++ body) (asked st request (s .range) .settings) room head read ∙ rw (payload-after h type time body, x .read, y);
+      read = reading-headed ed st rows (headerBytes h type time ++ body) (asked ed st request (s .range) .settings) room head read ∙ rw (payload-after h type time body, x .read, y);
       same = x .same;
       heard = x .heard;
       marker = refl;

@@ -8,6 +8,7 @@ use lib.ListN.{length, length-append}
 use lib.Seq.{drop-at}
 use lib.Dec.{eqb}
 use borrow.Author.Tests.{eq-eqb}
+use Rattle.rtp.specs.Editions.{Edition}
 use Rattle.rtp.proofs.TestLaws.{by-test}
 use Rattle.rtp.specs.Sizes.{maxRows}
 use Rattle.rtp.specs.declared.settings.Settings.{Settings}
@@ -44,11 +45,11 @@ pub record Back (s bytes : List ℕ) (rs : List Row) (H : List Row → Type 0) (
   pub heard : H rows
 
 -- the payload p gives the rows of the list, at any place of a packet and after any rows that leave room, and the mode request
-pub record Reads (st : Settings) (request : ℕ) (bytes p : List ℕ) (rs : List Row) : Type 0 where
+pub record Reads (ed : Edition) (st : Settings) (request : ℕ) (bytes p : List ℕ) (rs : List Row) : Type 0 where
   pub some : 1 ≤ length p
   pub asked : requestOf (st .format) p ≡ readRequest (st .format) request
-  pub back : (mark : ℕ) (front rest : List ℕ) (done : ℕ) → done + length rs ≤ maxRows
-      → Back (front ++ (p ++ rest)) bytes rs (AllMarked mark) (payloadRows mark (st .format) (st .channels) done (firstTime rs) (length front) p)
+  pub back : (mark : ℕ) (front rest : List ℕ) (done : ℕ) → done + length rs ≤ maxRows ed
+      → Back (front ++ (p ++ rest)) bytes rs (AllMarked mark) (payloadRows ed mark (st .format) (st .channels) done (firstTime rs) (length front) p)
 
 pub some-table : (format : ℕ) (gs : List Group) → 1 ≤ length gs → 1 ≤ sizeIn format gs
 unfolding sizeIn
@@ -65,7 +66,7 @@ pub after-request : (format request : ℕ) (rest : List ℕ) → body format (re
 after-request format request rest = drop-at (requestBytes format request) rest (formatOf format .header) (length-request format request)
 
 -- a planned payload
-module _ (format request ch : ℕ) (bytes : List ℕ) (rs : List Row) (gs : List Group) (v : Tabled format ch rs gs) (inside : outside (length bytes) rs ≡ false) where
+module _ (ed : Edition) (format request ch : ℕ) (bytes : List ℕ) (rs : List Row) (gs : List Group) (v : Tabled ed format ch rs gs) (inside : outside (length bytes) rs ≡ false) where
   abbrev Table : List ℕ
   Table = tableBytes format gs ++ frames bytes rs
 
@@ -83,14 +84,14 @@ module _ (format request ch : ℕ) (bytes : List ℕ) (rs : List Row) (gs : List
   planned-few : length rs ≡ rowCount ch gs
   planned-few = sym (length-plains rs) ∙ ap (λ (l : List Row). length l) (v .rows 0) ∙ length-plains (tableRows (stepOf format) ch (firstTime rs) 0 gs) ∙ length-table (stepOf format) ch (firstTime rs) 0 gs
 
-  planned-contents : (done : ℕ) → done + length rs ≤ maxRows → contents format ch done Table ≡ groups gs
+  planned-contents : (done : ℕ) → done + length rs ≤ maxRows ed → contents ed format ch done Table ≡ groups gs
   planned-contents done h = go gs (v .runs) (v .some) (omega (arith, planned-few))
     where
-      go : (gs : List Group) → Runs format gs → 1 ≤ length gs → done + rowCount ch gs ≤ maxRows → contents format ch done (tableBytes format gs ++ frames bytes rs) ≡ groups gs
+      go : (gs : List Group) → Runs format gs → 1 ≤ length gs → done + rowCount ch gs ≤ maxRows ed → contents ed format ch done (tableBytes format gs ++ frames bytes rs) ≡ groups gs
       go [] r n few = absurd (omega arith)
-      go (g ∷ gs) r n few = table-back format ch done g gs (frames bytes rs) r few
+      go (g ∷ gs) r n few = table-back ed format ch done g gs (frames bytes rs) r few
 
-  planned-read : (mark done at : ℕ) → done + length rs ≤ maxRows → payloadRows mark format ch done (firstTime rs) at Planned ≡ rowsOf (marked mark (PlannedRows (at + formatOf format .header)))
+  planned-read : (mark done at : ℕ) → done + length rs ≤ maxRows ed → payloadRows ed mark format ch done (firstTime rs) at Planned ≡ rowsOf (marked mark (PlannedRows (at + formatOf format .header)))
   unfolding payloadRows payload placedRows
   planned-read mark done at h = rw (after-request format request Table, planned-contents done h, pass-none gs (v .first), eq-eqb (sizeIn format gs + framesIn ch gs) (length Table) (sym table-length))
 
@@ -117,25 +118,25 @@ module _ (format request ch : ℕ) (bytes : List ℕ) (rs : List Row) (gs : List
       (subst (λ (l : List ℕ). SameFrames l bytes (PlannedRows (length (front ++ q))) rs) e (table-same (front ++ q) rest))
 
 -- the payload of a list
-pub payload-back : (st : Settings) (request : ℕ) (bytes p : List ℕ) (rs : List Row) → 1 ≤ st .channels → Times rs → outside (length bytes) rs ≡ false → encoded st request bytes rs ≡ bytesOf p
-    → Reads st request bytes p rs
+pub payload-back : (ed : Edition) (st : Settings) (request : ℕ) (bytes p : List ℕ) (rs : List Row) → 1 ≤ st .channels → Times rs → outside (length bytes) rs ≡ false → encoded ed st request bytes rs ≡ bytesOf p
+    → Reads ed st request bytes p rs
 unfolding encoded
-payload-back st request bytes p rs some times inside h = go (plan (st .format) (st .channels) rs) refl h
+payload-back ed st request bytes p rs some times inside h = go (plan ed (st .format) (st .channels) rs) refl h
   where
     same : (q : List ℕ) → bytesOf q ≡ bytesOf p → q ≡ p
     same q e = cc
 
-    go : (x : Contents) → plan (st .format) (st .channels) rs ≡ x → plannedBytes (st .format) request bytes rs x ≡ bytesOf p → Reads st request bytes p rs
+    go : (x : Contents) → plan ed (st .format) (st .channels) rs ≡ x → plannedBytes (st .format) request bytes rs x ≡ bytesOf p → Reads ed st request bytes p rs
     go (refused q) e k = let z : _≡_ {A = ℕ} 0 1 = cc in absurd (omega arith)
     go (groups gs) e k =
-        let v = plan-table (st .format) (st .channels) rs gs some times e in
-        subst (λ (q : List ℕ). Reads st request bytes q rs) (same _ k) (record {
-          some = omega (arith, length-append (requestBytes (st .format) request) (tableBytes (st .format) gs ++ frames bytes rs), table-length (st .format) request (st .channels) bytes rs gs v inside, some-table (st .format) gs (v .some));
+        let v = plan-table ed (st .format) (st .channels) rs gs some times e in
+        subst (λ (q : List ℕ). Reads ed st request bytes q rs) (same _ k) (record {
+          some = omega (arith, length-append (requestBytes (st .format) request) (tableBytes (st .format) gs ++ frames bytes rs), table-length ed (st .format) request (st .channels) bytes rs gs v inside, some-table (st .format) gs (v .some));
           asked = request-back (st .format) request (tableBytes (st .format) gs ++ frames bytes rs);
-          back = λ mark front rest done few. let qs = PlannedRows (st .format) request (st .channels) bytes rs gs v inside (length front + formatOf (st .format) .header) in record {
+          back = λ mark front rest done few. let qs = PlannedRows ed (st .format) request (st .channels) bytes rs gs v inside (length front + formatOf (st .format) .header) in record {
             rows = marked mark qs;
-            read = planned-read (st .format) request (st .channels) bytes rs gs v inside mark done (length front) few;
-            same = same-marked _ bytes mark qs rs (planned-same (st .format) request (st .channels) bytes rs gs v inside front rest);
+            read = planned-read ed (st .format) request (st .channels) bytes rs gs v inside mark done (length front) few;
+            same = same-marked _ bytes mark qs rs (planned-same ed (st .format) request (st .channels) bytes rs gs v inside front rest);
             heard = all-marked mark qs;
           };
         })

@@ -6,6 +6,7 @@ use Prim.Native.Nat.{ℕ, zero, suc, _+_, _*_, _/_, _%_, _≤_, _<_}
 use native.Mathlib.Omega.{arith}
 use lib.ListN.{length, getD, drop}
 use lib.Dec.{ltb, eqb}
+use Rattle.rtp.specs.Editions.{Edition}
 use Rattle.rtp.specs.Sizes.{maxRows}
 use Rattle.rtp.specs.Numbers.{byteAt}
 use Rattle.rtp.proofs.TestLaws.{by-test}
@@ -20,10 +21,11 @@ use Rattle.contents.proofs.EntryLaws.{past, same-entry, code-in, fair}
 use Rattle.contents.proofs.ContentsLaws.{contents-step, shorter, blocks-of}
 use Rattle.frame_rows.proofs.FirstLaws.{length-direct}
 use Rattle.codes.specs.Codes.{noCode, codeFor}
+use Rattle.plans.specs.Entries.{maxBlocks}
 use Rattle.plans.specs.Plans.{headGap}
 use Rattle.codes.proofs.CodeLaws.{code-some}
 use Rattle.roundtrip.proofs.EntryBackLaws.{Run}
-use Rattle.roundtrip.proofs.TableBackLaws.{Runs}
+use Rattle.roundtrip.proofs.TableBackLaws.{Runs, Counts}
 use Rattle.roundtrip.proofs.AttachLaws.{same-groups, firstGap}
 
 -- The gaps of an entry
@@ -75,6 +77,11 @@ read-run format s e h bs =
       alone = λ a. n ∙ t .blocks ∙ rw a;
     }
 
+read-few : (format : ℕ) (s : List ℕ) (e : Entry) → entryOf format s ≡ EntryRead.Entry e → Bytes s → length (meaning format s e .gaps) ≤ maxBlocks
+read-few format s e h bs =
+    let few : blocksIn format s ≤ maxBlocks = by-test (formatOf format .counted) (λ a. rw a (omega (arith, bs 1))) (λ a. rw a (omega arith)) in
+    omega (arith, blocks-of format s e, told format s e h .blocks, few)
+
 read-first : (format : ℕ) (s : List ℕ) (e : Entry) → Bytes s → headGap (meaning format s e) ≤ maxGap format
 unfolding meaning
 read-first format s e bs = gaps-near format s 0 (e .blocks) 0 bs
@@ -82,32 +89,32 @@ read-first format s e bs = gaps-near format s 0 (e .blocks) 0 bs
 -- A table
 
 abbrev Read : ℕ → List Group → Type 0
-Read format hs = Runs format hs × (1 ≤ length hs)
+Read format hs = Runs format hs × (1 ≤ length hs) × Counts hs
 
-read-step : (format ch rows : ℕ) (s : List ℕ) (hs : List Group) → Bytes s
-    → ((n : ℕ) (e : Entry) → entryOf format s ≡ EntryRead.Entry e → (gs : List Group) → contents format ch n (drop (e .size) s) ≡ groups gs → Read format gs)
-    → (r : EntryRead) → entryOf format s ≡ r → contentsStep format ch rows s (λ n t. contents format ch n t) r ≡ groups hs → Read format hs
+read-step : (ed : Edition) (format ch rows : ℕ) (s : List ℕ) (hs : List Group) → Bytes s
+    → ((n : ℕ) (e : Entry) → entryOf format s ≡ EntryRead.Entry e → (gs : List Group) → contents ed format ch n (drop (e .size) s) ≡ groups gs → Read format gs)
+    → (r : EntryRead) → entryOf format s ≡ r → contentsStep ed format ch rows s (λ n t. contents ed format ch n t) r ≡ groups hs → Read format hs
 unfolding meaning
-read-step format ch rows s hs bs ih (EntryRead.Refused q) h k = let z : _≡_ {A = ℕ} 0 1 = cc in absurd (omega arith)
-read-step format ch rows s hs bs ih (EntryRead.Entry e) h k =
-    by-test (ltb maxRows (rows + e .blocks * ch))
+read-step ed format ch rows s hs bs ih (EntryRead.Refused q) h k = let z : _≡_ {A = ℕ} 0 1 = cc in absurd (omega arith)
+read-step ed format ch rows s hs bs ih (EntryRead.Entry e) h k =
+    by-test (ltb (maxRows ed) (rows + e .blocks * ch))
     (λ a. let y = rw a at k in let z : _≡_ {A = ℕ} 0 1 = cc in absurd (omega arith))
     (λ a. by-test (e .more)
-    (λ b. more (contents format ch (rows + e .blocks * ch) (drop (e .size) s)) refl (rw (a, b) at k))
-    (λ b. subst (Read format) (same-groups (meaning format s e ∷ []) hs (rw (a, b) at k)) ((read-run format s e h bs, read-first format s e bs, tt), omega arith)))
+    (λ b. more (contents ed format ch (rows + e .blocks * ch) (drop (e .size) s)) refl (rw (a, b) at k))
+    (λ b. subst (Read format) (same-groups (meaning format s e ∷ []) hs (rw (a, b) at k)) ((read-run format s e h bs, read-first format s e bs, tt), omega arith, (read-few format s e h bs, tt))))
   where
-    more : (x : Contents) → contents format ch (rows + e .blocks * ch) (drop (e .size) s) ≡ x → prepend (e .size) (meaning format s e) x ≡ groups hs → Read format hs
+    more : (x : Contents) → contents ed format ch (rows + e .blocks * ch) (drop (e .size) s) ≡ x → prepend (e .size) (meaning format s e) x ≡ groups hs → Read format hs
     more (refused q) i j = let z : _≡_ {A = ℕ} 0 1 = cc in absurd (omega arith)
-    more (groups gs) i j = subst (Read format) (same-groups (meaning format s e ∷ gs) hs j) ((read-run format s e h bs, read-first format s e bs, ih (rows + e .blocks * ch) e h gs i .0), omega arith)
+    more (groups gs) i j = subst (Read format) (same-groups (meaning format s e ∷ gs) hs j) ((read-run format s e h bs, read-first format s e bs, ih (rows + e .blocks * ch) e h gs i .0), omega arith, (read-few format s e h bs, ih (rows + e .blocks * ch) e h gs i .2))
 
-read-by : (f format ch rows : ℕ) (s : List ℕ) (hs : List Group) → length s < f → Bytes s → contents format ch rows s ≡ groups hs → Read format hs
-read-by zero format ch rows s hs l bs h = absurd (omega arith)
-read-by (suc f) format ch rows s hs l bs h =
-    read-step format ch rows s hs bs (λ n e q gs k. read-by f format ch n (drop (e .size) s) gs (omega (arith, shorter format s e q)) (bytes-drop (e .size) s bs) k)
-    (entryOf format s) refl (rw contents-step at h)
+read-by : (ed : Edition) (f format ch rows : ℕ) (s : List ℕ) (hs : List Group) → length s < f → Bytes s → contents ed format ch rows s ≡ groups hs → Read format hs
+read-by ed zero format ch rows s hs l bs h = absurd (omega arith)
+read-by ed (suc f) format ch rows s hs l bs h =
+    read-step ed format ch rows s hs bs (λ n e q gs k. read-by ed f format ch n (drop (e .size) s) gs (omega (arith, shorter format s e q)) (bytes-drop (e .size) s bs) k)
+    (entryOf format s) refl (rw (contents-step ed) at h)
 
-pub read-runs : (format ch rows : ℕ) (s : List ℕ) (hs : List Group) → Bytes s → contents format ch rows s ≡ groups hs → Read format hs
-read-runs format ch rows s hs bs h = read-by (suc (length s)) format ch rows s hs (omega arith) bs h
+pub read-runs : (ed : Edition) (format ch rows : ℕ) (s : List ℕ) (hs : List Group) → Bytes s → contents ed format ch rows s ≡ groups hs → Read format hs
+read-runs ed format ch rows s hs bs h = read-by ed (suc (length s)) format ch rows s hs (omega arith) bs h
 
 -- The first entry's DIS1 passed over
 
@@ -125,15 +132,15 @@ direct-first [] = refl
 direct-first (x ∷ l) = refl
 
 -- of a table that was read
-pub read-passed : (format ch rows : ℕ) (s : List ℕ) (hs : List Group) → Bytes s → passFirst (contents format ch rows s) ≡ groups hs → Read format hs
-read-passed format ch rows s hs bs h = go (contents format ch rows s) refl h
+pub read-passed : (ed : Edition) (format ch rows : ℕ) (s : List ℕ) (hs : List Group) → Bytes s → passFirst (contents ed format ch rows s) ≡ groups hs → Read format hs
+read-passed ed format ch rows s hs bs h = go (contents ed format ch rows s) refl h
   where
-    go : (x : Contents) → contents format ch rows s ≡ x → passFirst x ≡ groups hs → Read format hs
+    go : (x : Contents) → contents ed format ch rows s ≡ x → passFirst x ≡ groups hs → Read format hs
     go (refused q) e k = let z : _≡_ {A = ℕ} 0 1 = cc in absurd (omega arith)
-    go (groups []) e k = let r = read-runs format ch rows s [] bs e in absurd (omega (arith, r .1))
+    go (groups []) e k = let r = read-runs ed format ch rows s [] bs e in absurd (omega (arith, r .1))
     go (groups (g ∷ gs)) e k =
-        let r = read-runs format ch rows s (g ∷ gs) bs e in
-        subst (Read format) (same-groups _ hs k) ((run-direct format g (r .0 .0), omega (arith, direct-first (g .gaps)), r .0 .2), omega arith)
+        let r = read-runs ed format ch rows s (g ∷ gs) bs e in
+        subst (Read format) (same-groups _ hs k) ((run-direct format g (r .0 .0), omega (arith, direct-first (g .gaps)), r .0 .2), omega arith, (omega (arith, length-direct (g .gaps), r .2 .0), r .2 .1))
 
 -- where nothing stands before the first frame-block, nothing is passed over
 pub pass-none : (gs : List Group) → firstGap gs ≡ 0 → passFirst (groups gs) ≡ groups gs

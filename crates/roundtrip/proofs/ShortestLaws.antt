@@ -1,18 +1,22 @@
--- Frame-blocks put one before another make a table no longer than any that says them.
-use mathlib.Core.Path.{_≡_, refl, _∙_}
+-- Frame-blocks put one before another make runs whose entries are no longer than any table that says them.
+use mathlib.Core.Path.{_≡_, refl, ap}
 use mathlib.Core.List.{List, [], _∷_, _++_}
 use mathlib.Core.Bool.{true, false, cond}
-use Prim.Native.Nat.{ℕ, suc, _+_, _≤_}
+use Prim.Native.Nat.{ℕ, suc, _+_, _-_, _≤_, _<_}
 use native.Mathlib.Omega.{arith}
 use lib.ListN.{length, getD, length-append}
-use borrow.Author.Tests.{le-leb}
+use lib.Dec.{leb}
+use borrow.Author.Tests.{le-leb, leb-true, leb-false}
 use Rattle.rtp.proofs.TestLaws.{by-test, not-both}
 use Rattle.formats.specs.Formats.{formatOf, maxGap}
 use Rattle.contents.specs.Contents.{gapsSize, entrySize, Group, Contents, groups, sizeIn}
 use Rattle.frame_rows.specs.Rows.{Row}
+use Rattle.plans.specs.Entries.{maxBlocks, firstPart, entriesOf}
+use Rattle.plans.specs.Room.{runSize}
 use Rattle.plans.specs.Plans.{headGap, joins, attach}
 use Rattle.plans.proofs.PlanLaws.{joins-true}
-use Rattle.roundtrip.proofs.TableBackLaws.{Runs}
+use Rattle.plans.proofs.EntriesLaws.{run-one, run-two, size-entries}
+use Rattle.roundtrip.proofs.TableBackLaws.{Runs, Counts}
 use Rattle.roundtrip.proofs.TableBlockLaws.{Block, blocksOf, blocksIn}
 use Rattle.roundtrip.proofs.AttachLaws.{joins-so, firstGap}
 
@@ -70,13 +74,34 @@ one-entry : (format m n : ℕ) → entrySize format (m + n) ≤ entrySize format
 unfolding entrySize gapsSize
 one-entry format m n = by-test (formatOf format .displaced) (λ a. rw a (omega arith)) (λ a. rw a (omega arith))
 
-merge-size : (format : ℕ) (h : Group) (gs : List Group) → sizeIn format (merge format h gs) ≤ entrySize format (length (h .gaps)) + sizeIn format gs
-unfolding sizeIn
-merge-size format h [] = omega arith
-merge-size format h (g ∷ gs) =
+-- 254 and the rest are no longer than any two
+two-entries : (format m n : ℕ) → maxBlocks < m + n → entrySize format firstPart + entrySize format (m + n - firstPart) ≤ entrySize format m + entrySize format n
+unfolding entrySize gapsSize
+two-entries format m n h = by-test (formatOf format .displaced) (λ a. rw a (omega arith)) (λ a. rw a (omega arith))
+
+-- an entry more before a run
+longer-run : (format m n : ℕ) → runSize format (m + n) ≤ entrySize format m + runSize format n
+longer-run format m n =
+    by-test (leb (m + n) maxBlocks)
+    (λ a. let h = leb-true (m + n) maxBlocks a in omega (arith, run-one format (m + n) h, run-one format n (omega (arith, h)), one-entry format m n))
+    (λ a. let h = leb-false (m + n) maxBlocks a in by-test (leb n maxBlocks)
+    (λ b. omega (arith, run-two format (m + n) h, run-one format n (leb-true n maxBlocks b), two-entries format m n h))
+    (λ b.
+    let k = leb-false n maxBlocks b in
+    let e : m + n - firstPart ≡ m + (n - firstPart) = omega (arith, k) in
+    omega (arith, run-two format (m + n) h, run-two format n k, one-entry format m (n - firstPart), ap (entrySize format) e)))
+
+merge-size : (format : ℕ) (h : Group) (gs : List Group) → length (h .gaps) ≤ maxBlocks → sizeIn format (entriesOf (merge format h gs)) ≤ entrySize format (length (h .gaps)) + sizeIn format (entriesOf gs)
+merge-size format h [] few = omega (arith, size-entries format h [], run-one format (length (h .gaps)) few)
+merge-size format h (g ∷ gs) few =
     by-test (joins format (rowFor (record { gap = 0; class = h .class; length = h .length })) g)
-    (λ t. let e = one-entry format (length (h .gaps)) (length (g .gaps)) in rw (t, length-append (h .gaps) (g .gaps)) (omega arith))
-    (λ t. rw t (omega arith))
+    (λ t.
+    let x : Group = record { class = g .class; length = g .length; gaps = h .gaps ++ g .gaps } in
+    let e = longer-run format (length (h .gaps)) (length (g .gaps)) in
+    let s = size-entries format x gs in
+    let n = ap (runSize format) (length-append (h .gaps) (g .gaps)) in
+    rw t (omega (arith, e, s, n, size-entries format g gs)))
+    (λ t. rw t (omega (arith, size-entries format h (g ∷ gs), run-one format (length (h .gaps)) few)))
 
 merge-first : (format : ℕ) (h : Group) (gs : List Group) → 1 ≤ length (h .gaps) → firstGap (merge format h gs) ≡ headGap h
 merge-first format h [] some = refl
@@ -87,22 +112,22 @@ merge-first format h (g ∷ gs) some =
     front [] n = absurd (omega arith)
     front (x ∷ l) n = refl
 
--- a table of the same frame-blocks as hs, and no longer
+-- runs of the same frame-blocks as hs, whose entries are no longer
 pub record Shorter (format : ℕ) (hs : List Group) : Type 0 where
   pub table : List Group
   pub made : attachAll format (blocksIn hs) ≡ groups table
-  pub size : sizeIn format table ≤ sizeIn format hs
+  pub size : sizeIn format (entriesOf table) ≤ sizeIn format hs
   pub first : firstGap table ≤ maxGap format
 
-pub shortest : (format : ℕ) (hs : List Group) → Runs format hs → Shorter format hs
+pub shortest : (format : ℕ) (hs : List Group) → Runs format hs → Counts hs → Shorter format hs
 unfolding sizeIn
-shortest format [] v = record { table = []; made = refl; size = omega arith; first = omega arith }
-shortest format (h ∷ hs) v =
-    let k = shortest format hs (v .2) in
+shortest format [] v c = record { table = []; made = refl; size = unfold entriesOf in omega arith; first = omega arith }
+shortest format (h ∷ hs) v c =
+    let k = shortest format hs (v .2) (c .1) in
     record {
       table = merge format h (k .table);
       made = made (h .gaps) (v .0 .some) (v .0 .near) (v .0 .alone) k;
-      size = omega (arith, merge-size format h (k .table));
+      size = omega (arith, merge-size format h (k .table) (c .0), k .size);
       first = omega (arith, merge-first format h (k .table) (v .0 .some), v .1);
     }
   where

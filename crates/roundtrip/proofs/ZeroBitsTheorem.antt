@@ -6,6 +6,7 @@ use Prim.Native.Nat.{ℕ, _+_, _*_, _%_, _≤_}
 use native.Mathlib.Omega.{arith}
 use lib.ListN.{length, drop}
 use lib.Seq.{drop-drop, drop-at}
+use Rattle.rtp.specs.Editions.{Edition}
 use Rattle.rtp.specs.Numbers.{byteAt}
 use Rattle.rtp.specs.declared.settings.Settings.{Settings}
 use Rattle.formats.specs.Formats.{formatOf, maxGap}
@@ -84,59 +85,59 @@ table-zeros format (b ∷ c ∷ before) g after rest v =
     subst (Zeros format (length (g .gaps))) (sym (past-entry format b (c ∷ before) (c ∷ before ++ g ∷ after) rest (omega arith))) (table-zeros format (c ∷ before) g after rest (v .2))
 
 -- what stands behind the payload of a list
-record Planned (st : Settings) (request : ℕ) (bytes : List ℕ) (rs : List Row) (p : List ℕ) : Type 0 where
+record Planned (ed : Edition) (st : Settings) (request : ℕ) (bytes : List ℕ) (rs : List Row) (p : List ℕ) : Type 0 where
   table : List Group
-  is : plan (st .format) (st .channels) rs ≡ groups table
+  is : plan ed (st .format) (st .channels) rs ≡ groups table
   same : requestBytes (st .format) request ++ (tableBytes (st .format) table ++ frames bytes rs) ≡ p
 
-planned : (st : Settings) (request : ℕ) (bytes : List ℕ) (rs : List Row) (p : List ℕ) → encoded st request bytes rs ≡ bytesOf p → Planned st request bytes rs p
+planned : (ed : Edition) (st : Settings) (request : ℕ) (bytes : List ℕ) (rs : List Row) (p : List ℕ) → encoded ed st request bytes rs ≡ bytesOf p → Planned ed st request bytes rs p
 unfolding encoded
-planned st request bytes rs p h = go (plan (st .format) (st .channels) rs) refl h
+planned ed st request bytes rs p h = go (plan ed (st .format) (st .channels) rs) refl h
   where
-    go : (x : Contents) → plan (st .format) (st .channels) rs ≡ x → plannedBytes (st .format) request bytes rs x ≡ bytesOf p → Planned st request bytes rs p
+    go : (x : Contents) → plan ed (st .format) (st .channels) rs ≡ x → plannedBytes (st .format) request bytes rs x ≡ bytesOf p → Planned ed st request bytes rs p
     go (refused q) e k = let z : _≡_ {A = ℕ} 0 1 = cc in absurd (omega arith)
     go (groups gs) e k = let y : requestBytes (st .format) request ++ (tableBytes (st .format) gs ++ frames bytes rs) ≡ p = cc in record { table = gs; is = e; same = y }
 
 -- what follows its mode request
-planned-body : (st : Settings) (request : ℕ) (bytes : List ℕ) (rs : List Row) (p : List ℕ) (w : Planned st request bytes rs p) → tableBytes (st .format) (w .table) ++ frames bytes rs ≡ body (st .format) p
-planned-body st request bytes rs p w = sym (after-request (st .format) request (tableBytes (st .format) (w .table) ++ frames bytes rs)) ∙ ap (body (st .format)) (w .same)
+planned-body : (ed : Edition) (st : Settings) (request : ℕ) (bytes : List ℕ) (rs : List Row) (p : List ℕ) (w : Planned ed st request bytes rs p) → tableBytes (st .format) (w .table) ++ frames bytes rs ≡ body (st .format) p
+planned-body ed st request bytes rs p w = sym (after-request (st .format) request (tableBytes (st .format) (w .table) ++ frames bytes rs)) ∙ ap (body (st .format)) (w .same)
 
 -- a table as it is read is the table written
-table-same : (format ch : ℕ) (rs : List Row) (gs hs : List Group) (rest : List ℕ) → Tabled format ch rs gs
-    → contents format ch 0 (tableBytes format gs ++ rest) ≡ groups hs → gs ≡ hs
-table-same format ch rs [] hs rest v h = absurd (omega (arith, v .some))
-table-same format ch rs (g ∷ gs) hs rest v h =
-    let e : groups (g ∷ gs) ≡ groups hs = sym (table-back format ch 0 g gs rest (v .runs) (omega (arith, v .few))) ∙ h in
+table-same : (ed : Edition) (format ch : ℕ) (rs : List Row) (gs hs : List Group) (rest : List ℕ) → Tabled ed format ch rs gs
+    → contents ed format ch 0 (tableBytes format gs ++ rest) ≡ groups hs → gs ≡ hs
+table-same ed format ch rs [] hs rest v h = absurd (omega (arith, v .some))
+table-same ed format ch rs (g ∷ gs) hs rest v h =
+    let e : groups (g ∷ gs) ≡ groups hs = sym (table-back ed format ch 0 g gs rest (v .runs) (omega (arith, v .few))) ∙ h in
     cc
 
-pub zero-bits : ZeroBits
-zero-bits st request ws bytes p words range h before g after k =
-    let w = planned st request bytes (rowsIn ws) p h in
-    let same = planned-body st request bytes (rowsIn ws) p w in
-    let v = plan-table (st .format) (st .channels) (rowsIn ws) (w .table) (in-range-some st range) (times ws words) (w .is) in
+pub zero-bits : (ed : Edition) → ZeroBits ed
+zero-bits ed st request ws bytes p words range h before g after k =
+    let w = planned ed st request bytes (rowsIn ws) p h in
+    let same = planned-body ed st request bytes (rowsIn ws) p w in
+    let v = plan-table ed (st .format) (st .channels) (rowsIn ws) (w .table) (in-range-some ed st range) (times ws words) (w .is) in
     let rest = frames bytes (rowsIn ws) in
-    let e = table-same (st .format) (st .channels) (rowsIn ws) (w .table) (before ++ g ∷ after) rest v
-    (ap (contents (st .format) (st .channels) 0) same ∙ k) in
+    let e = table-same ed (st .format) (st .channels) (rowsIn ws) (w .table) (before ++ g ∷ after) rest v
+    (ap (contents ed (st .format) (st .channels) 0) same ∙ k) in
     subst (λ (q : List ℕ). Zeros (st .format) (length (g .gaps)) (drop (sizeIn (st .format) before) q))
     (ap (λ (gs : List Group). tableBytes (st .format) gs ++ rest) (sym e) ∙ same)
     (table-zeros (st .format) before g after rest (subst (Runs (st .format)) e (v .runs)))
 
-table-first : (format ch : ℕ) (rs : List Row) (gs : List Group) (rest : List ℕ) → Tabled format ch rs gs → formatOf format .displaced ≡ true
+table-first : (ed : Edition) (format ch : ℕ) (rs : List Row) (gs : List Group) (rest : List ℕ) → Tabled ed format ch rs gs → formatOf format .displaced ≡ true
     → firstDisplacement format (tableBytes format gs ++ rest) ≡ 0
 unfolding tableBytes
-table-first format ch rs [] rest v d = absurd (omega (arith, v .some))
-table-first format ch rs (g ∷ []) rest v d = first-displacement format false g rest (v .runs .0) (v .runs .1) d ∙ v .first
-table-first format ch rs (g ∷ h ∷ hs) rest v d = rw append-assoc (first-displacement format true g (tableBytes format (h ∷ hs) ++ rest) (v .runs .0) (v .runs .1) d ∙ v .first)
+table-first ed format ch rs [] rest v d = absurd (omega (arith, v .some))
+table-first ed format ch rs (g ∷ []) rest v d = first-displacement format false g rest (v .runs .0) (v .runs .1) d ∙ v .first
+table-first ed format ch rs (g ∷ h ∷ hs) rest v d = rw append-assoc (first-displacement format true g (tableBytes format (h ∷ hs) ++ rest) (v .runs .0) (v .runs .1) d ∙ v .first)
 
-pub first-zero : FirstDisplacement
-first-zero st request ws bytes p words range h d =
-    let w = planned st request bytes (rowsIn ws) p h in
-    let v = plan-table (st .format) (st .channels) (rowsIn ws) (w .table) (in-range-some st range) (times ws words) (w .is) in
-    subst (λ (q : List ℕ). firstDisplacement (st .format) q ≡ 0) (planned-body st request bytes (rowsIn ws) p w) (table-first (st .format) (st .channels) (rowsIn ws) (w .table) (frames bytes (rowsIn ws)) v d)
+pub first-zero : (ed : Edition) → FirstDisplacement ed
+first-zero ed st request ws bytes p words range h d =
+    let w = planned ed st request bytes (rowsIn ws) p h in
+    let v = plan-table ed (st .format) (st .channels) (rowsIn ws) (w .table) (in-range-some ed st range) (times ws words) (w .is) in
+    subst (λ (q : List ℕ). firstDisplacement (st .format) q ≡ 0) (planned-body ed st request bytes (rowsIn ws) p w) (table-first ed (st .format) (st .channels) (rowsIn ws) (w .table) (frames bytes (rowsIn ws)) v d)
 
-pub request-bits : RequestBits
-request-bits st request ws bytes p h s =
-    let w = planned st request bytes (rowsIn ws) p h in
+pub request-bits : (ed : Edition) → RequestBits ed
+request-bits ed st request ws bytes p h s =
+    let w = planned ed st request bytes (rowsIn ws) p h in
     let t = tableBytes (st .format) (w .table) ++ frames bytes (rowsIn ws) in
     let e : byteAt p 0 ≡ 16 * request = ap (λ (q : List ℕ). byteAt q 0) (sym (w .same)) ∙ ap (λ (q : List ℕ). byteAt (q ++ t) 0) (one-request (st .format) request s) in
     omega (arith, e)

@@ -4,6 +4,7 @@ use mathlib.Core.Path.{_≡_}
 use mathlib.Core.List.{List, [], _∷_}
 use mathlib.Core.Bool.{true, cond}
 use lib.Dec.{eqb}
+use Rattle.rtp.specs.Editions.{Edition}
 pub use Rattle.rtp.specs.Numbers.{Bytes, Words}
 use Rattle.rtp.specs.declared.settings.Settings.{Settings}
 use Rattle.formats.specs.Formats.{formatOf}
@@ -33,9 +34,9 @@ unfoldable pub readRequest : ℕ → ℕ → ℕ
 readRequest format request = cond (eqb (formatOf format .header) 0) noRequest request
 
 -- p is a plain payload that reads to the frame list in the words ws, every row with the mark of what was heard first-hand
-pub record ReadsTo (st : Settings) (p bytes ws : List ℕ) : Type 0 where
+pub record ReadsTo (ed : Edition) (st : Settings) (p bytes ws : List ℕ) : Type 0 where
   pub whole-rows : whole ws ≡ true
   pub rows : List Row
-  pub read : payloadRows primaryMark (st .format) (st .channels) 0 (firstTime (rowsIn ws)) 0 p ≡ rowsOf rows
+  pub read : payloadRows ed primaryMark (st .format) (st .channels) 0 (firstTime (rowsIn ws)) 0 p ≡ rowsOf rows
   pub same : SameFrames p bytes rows (rowsIn ws)
   pub heard : AllMarked primaryMark rows

@@ -2,13 +2,14 @@
 use Prim.Native.Nat.{ℕ}
 use mathlib.Core.Path.{_≡_}
 use mathlib.Core.List.{List}
+use Rattle.rtp.specs.Editions.{Edition}
 use Rattle.rtp_headers.specs.Redundancy.{blockHeader, headersStep, headers}
 use Rattle.contents.specs.Contents.{entryOf, contentsStep, contents}
 
 -- a table of contents, after `rows` rows of the same packet
-abbrev pub ContentsUnfold : Type 0
-ContentsUnfold = (format ch rows : ℕ) (s : List ℕ)
-    → contents format ch rows s ≡ contentsStep format ch rows s (λ r t. contents format ch r t) (entryOf format s)
+abbrev pub ContentsUnfold : Edition → Type 0
+ContentsUnfold ed = (format ch rows : ℕ) (s : List ℕ)
+    → contents ed format ch rows s ≡ contentsStep ed format ch rows s (λ r t. contents ed format ch r t) (entryOf format s)
 
 -- redundancy block headers
 abbrev pub HeadersUnfold : Type 0

@@ -1,3 +1,4 @@
+pub mod Editions
 pub mod Sizes
 pub mod Time
 pub mod Numbers

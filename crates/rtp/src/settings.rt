@@ -1,5 +1,6 @@
 // Settings: what the caller agreed with the sender.
 ghost use mathlib.Core.Path.{_≡_};
+ghost use Rattle.rtp.specs.Editions.{current};
 ghost use Rattle.rtp.specs.Ranges.{maxChannels, inRange};
 
 // Payload formats.
@@ -14,7 +15,7 @@ pub const AMR: u8 = 4;
 pub const AMR_WB: u8 = 5;
 
 // The most channels that any format has.
-pub const MOST_CHANNELS: u8 = 2;
+pub const MOST_CHANNELS: u8 = 6;
 
 // The redundancy type that says: no redundancy.
 pub const NO_REDUNDANCY: u8 = 128;
@@ -30,7 +31,7 @@ pub struct Settings {
 
 // The most channels of a format; 0 where there is no such format.
 fn max_channels(format: u8) -> u8
-    ensures { λ r. ⌜ r ≡ maxChannels format ⌝ }
+    ensures { λ r. ⌜ r ≡ maxChannels current format ⌝ }
 {
     if format == 0 {
         return 0;
@@ -45,7 +46,7 @@ fn max_channels(format: u8) -> u8
 }
 
 pub fn in_range(settings: Settings) -> bool
-    ensures { λ r. ⌜ r ≡ inRange settings ⌝ }
+    ensures { λ r. ⌜ r ≡ inRange current settings ⌝ }
 {
     if settings.channels == 0 {
         return false;

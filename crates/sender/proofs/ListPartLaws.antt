@@ -7,6 +7,7 @@ use native.Mathlib.Omega.{arith}
 use lib.ListN.{length, take, drop}
 use lib.Dec.{ltb, eqb}
 use borrow.Author.Tests.{ltb-true, ltb-false}
+use Rattle.rtp.specs.Editions.{Edition}
 use Rattle.rtp.specs.Sizes.{rowWidth}
 use Rattle.rtp.specs.Ranges.{inRange}
 use Rattle.rtp.specs.declared.settings.Settings.{Settings}
@@ -44,16 +45,16 @@ partsSize [] p = length p
 partsSize (b ∷ bs) p = 4 + length (b .bytes) + partsSize bs p
 
 -- the lists are these parts
-pub record Laid (st : Settings) (request : ℕ) (bytes : List ℕ) (time : ℕ) (counts ws : List ℕ) (bs : List Part) (p : List ℕ) : Type 0 where
-  pub sizes : listsNumbers st time counts ws ≡ record { refusal = 0; count = partsSize bs p }
-  pub heads : listsHeaders st request time bytes counts ws ≡ headersBytes (st .«payload_type») bs
-  pub fit : HeadersFit st request time bytes counts ws
-  pub payloads : listsPayloads st request bytes counts ws ≡ blocksBytes bs p
+pub record Laid (ed : Edition) (st : Settings) (request : ℕ) (bytes : List ℕ) (time : ℕ) (counts ws : List ℕ) (bs : List Part) (p : List ℕ) : Type 0 where
+  pub sizes : listsNumbers ed st time counts ws ≡ record { refusal = 0; count = partsSize bs p }
+  pub heads : listsHeaders ed st request time bytes counts ws ≡ headersBytes (st .«payload_type») bs
+  pub fit : HeadersFit ed st request time bytes counts ws
+  pub payloads : listsPayloads ed st request bytes counts ws ≡ blocksBytes bs p
   pub many : length counts ≡ suc (length bs)
 
-abbrev pub Agrees : Settings → ℕ → List ℕ → ℕ → List ℕ → List ℕ → Parts → Type 0
-Agrees st request bytes time counts ws noParts = eqb (listsNumbers st time counts ws .refusal) 0 ≡ false
-Agrees st request bytes time counts ws (partsOf bs p) = Laid st request bytes time counts ws bs p
+abbrev pub Agrees : Edition → Settings → ℕ → List ℕ → ℕ → List ℕ → List ℕ → Parts → Type 0
+Agrees ed st request bytes time counts ws noParts = eqb (listsNumbers ed st time counts ws .refusal) 0 ≡ false
+Agrees ed st request bytes time counts ws (partsOf bs p) = Laid ed st request bytes time counts ws bs p
 
 refused-of : (n : Numbers) → refusedNumbers Unwritable ≡ n → eqb (n .refusal) 0 ≡ false
 refused-of n e = ap (λ (m : Numbers). eqb (m .refusal) 0) (sym e)
@@ -74,34 +75,34 @@ more-blocks : (b : Part) (bs : List Part) (p : List ℕ) → blocksBytes (b ∷ 
 unfolding blocksBytes
 more-blocks b bs p = refl
 
-parts-last : (st : Settings) (request : ℕ) (bytes : List ℕ) (time n : ℕ) (ws : List ℕ) → parts st request bytes time (n ∷ []) (rowsIn ws) ≡ primaryPart (encoded st request bytes (rowsIn ws))
+parts-last : (ed : Edition) (st : Settings) (request : ℕ) (bytes : List ℕ) (time n : ℕ) (ws : List ℕ) → parts ed st request bytes time (n ∷ []) (rowsIn ws) ≡ primaryPart (encoded ed st request bytes (rowsIn ws))
 unfolding parts
-parts-last st request bytes time n ws = refl
+parts-last ed st request bytes time n ws = refl
 
-parts-more : (st : Settings) (request : ℕ) (bytes : List ℕ) (time n m : ℕ) (ns ws : List ℕ) → let k = rowWidth * n in
-    parts st request bytes time (n ∷ m ∷ ns) (rowsIn ws) ≡ redundantPart (offsetOf time (take k ws)) (encoded st request bytes (rowsIn (take k ws))) (parts st request bytes time (m ∷ ns) (rowsIn (drop k ws)))
+parts-more : (ed : Edition) (st : Settings) (request : ℕ) (bytes : List ℕ) (time n m : ℕ) (ns ws : List ℕ) → let k = rowWidth * n in
+    parts ed st request bytes time (n ∷ m ∷ ns) (rowsIn ws) ≡ redundantPart (offsetOf time (take k ws)) (encoded ed st request bytes (rowsIn (take k ws))) (parts ed st request bytes time (m ∷ ns) (rowsIn (drop k ws)))
 unfolding parts
-parts-more st request bytes time n m ns ws = rw (rows-take n ws, rows-drop n ws)
+parts-more ed st request bytes time n m ns ws = rw (rows-take n ws, rows-drop n ws)
 
-module _ (st : Settings) (request : ℕ) (bytes : List ℕ) (time : ℕ) (i : inRange st ≡ true) where
-  measured-is : (ws : List ℕ) (x : Encoded) → outside (length bytes) (rowsIn ws) ≡ false → length ws % rowWidth ≡ 0 → encoded st request bytes (rowsIn ws) ≡ x → measured st ws ≡ encodedNumbers x
-  measured-is ws x o w e = measured-plan st ws i w ∙ sym (numbers-encoded st request ws bytes (in-range-some st i) o) ∙ ap encodedNumbers e
+module _ (ed : Edition) (st : Settings) (request : ℕ) (bytes : List ℕ) (time : ℕ) (i : inRange ed st ≡ true) where
+  measured-is : (ws : List ℕ) (x : Encoded) → outside (length bytes) (rowsIn ws) ≡ false → length ws % rowWidth ≡ 0 → encoded ed st request bytes (rowsIn ws) ≡ x → measured ed st ws ≡ encodedNumbers x
+  measured-is ws x o w e = measured-plan ed st ws i w ∙ sym (numbers-encoded ed st request ws bytes (in-range-some ed st i) o) ∙ ap encodedNumbers e
 
-  bytes-is : (ws : List ℕ) (p : List ℕ) → encoded st request bytes (rowsIn ws) ≡ bytesOf p → listBytes st request bytes ws ≡ p
+  bytes-is : (ws : List ℕ) (p : List ℕ) → encoded ed st request bytes (rowsIn ws) ≡ bytesOf p → listBytes ed st request bytes ws ≡ p
   unfolding encodedBytes
   bytes-is ws p e = ap (λ (x : Encoded). encodedBytes x) e
 
   -- the primary list
-  agree-last : (n : ℕ) (ws : List ℕ) → outside (length bytes) (rowsIn ws) ≡ false → length ws % rowWidth ≡ 0 → Agrees st request bytes time (n ∷ []) ws (primaryPart (encoded st request bytes (rowsIn ws)))
-  agree-last n ws o w = go (encoded st request bytes (rowsIn ws)) refl
+  agree-last : (n : ℕ) (ws : List ℕ) → outside (length bytes) (rowsIn ws) ≡ false → length ws % rowWidth ≡ 0 → Agrees ed st request bytes time (n ∷ []) ws (primaryPart (encoded ed st request bytes (rowsIn ws)))
+  agree-last n ws o w = go (encoded ed st request bytes (rowsIn ws)) refl
     where
-      go : (x : Encoded) → encoded st request bytes (rowsIn ws) ≡ x → Agrees st request bytes time (n ∷ []) ws (primaryPart x)
-      go (noBytes q) e = ap (λ (m : Numbers). eqb (m .refusal) 0) (lists-one st time (n ∷ []) ws (omega arith) ∙ measured-is ws (noBytes q) o w e ∙ none-numbers q) ∙ number-some q
+      go : (x : Encoded) → encoded ed st request bytes (rowsIn ws) ≡ x → Agrees ed st request bytes time (n ∷ []) ws (primaryPart x)
+      go (noBytes q) e = ap (λ (m : Numbers). eqb (m .refusal) 0) (lists-one ed st time (n ∷ []) ws (omega arith) ∙ measured-is ws (noBytes q) o w e ∙ none-numbers q) ∙ number-some q
       go (bytesOf p) e = record {
-        sizes = lists-one st time (n ∷ []) ws (omega arith) ∙ measured-is ws (bytesOf p) o w e ∙ bytes-numbers p;
-        heads = headers-one st request time bytes (n ∷ []) ws (omega arith) ∙ sym (no-headers (st .«payload_type»));
+        sizes = lists-one ed st time (n ∷ []) ws (omega arith) ∙ measured-is ws (bytesOf p) o w e ∙ bytes-numbers p;
+        heads = headers-one ed st request time bytes (n ∷ []) ws (omega arith) ∙ sym (no-headers (st .«payload_type»));
         fit = tt;
-        payloads = payloads-one st request bytes (n ∷ []) ws (omega arith) ∙ bytes-is ws p e ∙ sym (no-blocks p);
+        payloads = payloads-one ed st request bytes (n ∷ []) ws (omega arith) ∙ bytes-is ws p e ∙ sym (no-blocks p);
         many = refl;
       }
 
@@ -113,45 +114,45 @@ module _ (st : Settings) (request : ℕ) (bytes : List ℕ) (time : ℕ) (i : in
     abbrev others : List ℕ
     others = drop (rowWidth * n) ws
 
-    sum : listsNumbers st time (n ∷ m ∷ ns) ws ≡ addNumbers (redundantNumbers st time front) (listsNumbers st time (m ∷ ns) others)
-    sum = lists-more st time (n ∷ m ∷ ns) ws (omega arith)
+    sum : listsNumbers ed st time (n ∷ m ∷ ns) ws ≡ addNumbers (redundantNumbers ed st time front) (listsNumbers ed st time (m ∷ ns) others)
+    sum = lists-more ed st time (n ∷ m ∷ ns) ws (omega arith)
 
-    no-front : refusedNumbers Unwritable ≡ redundantNumbers st time front → eqb (listsNumbers st time (n ∷ m ∷ ns) ws .refusal) 0 ≡ false
-    no-front e = refused-of (listsNumbers st time (n ∷ m ∷ ns) ws) (add-none (redundantNumbers st time front) (listsNumbers st time (m ∷ ns) others) (refused-of (redundantNumbers st time front) e) ∙ sym sum)
+    no-front : refusedNumbers Unwritable ≡ redundantNumbers ed st time front → eqb (listsNumbers ed st time (n ∷ m ∷ ns) ws .refusal) 0 ≡ false
+    no-front e = refused-of (listsNumbers ed st time (n ∷ m ∷ ns) ws) (add-none (redundantNumbers ed st time front) (listsNumbers ed st time (m ∷ ns) others) (refused-of (redundantNumbers ed st time front) e) ∙ sym sum)
 
-    module _ (q : List ℕ) (z : measured st front ≡ record { refusal = 0; count = length q }) (y : listBytes st request bytes front ≡ q) (short : length q ≤ maxBlock) (near : offsetOf time front ≤ maxOffset) where
-      put : (x : Parts) → Agrees st request bytes time (m ∷ ns) others x → Agrees st request bytes time (n ∷ m ∷ ns) ws (prependPart (record { offset = offsetOf time front; bytes = q }) x)
-      put noParts h = refused-of (listsNumbers st time (n ∷ m ∷ ns) ws) (add-rest (redundantNumbers st time front) (listsNumbers st time (m ∷ ns) others) h ∙ sym sum)
+    module _ (q : List ℕ) (z : measured ed st front ≡ record { refusal = 0; count = length q }) (y : listBytes ed st request bytes front ≡ q) (short : length q ≤ maxBlock) (near : offsetOf time front ≤ maxOffset) where
+      put : (x : Parts) → Agrees ed st request bytes time (m ∷ ns) others x → Agrees ed st request bytes time (n ∷ m ∷ ns) ws (prependPart (record { offset = offsetOf time front; bytes = q }) x)
+      put noParts h = refused-of (listsNumbers ed st time (n ∷ m ∷ ns) ws) (add-rest (redundantNumbers ed st time front) (listsNumbers ed st time (m ∷ ns) others) h ∙ sym sum)
       put (partsOf cs d) h =
           let b : Part = record { offset = offsetOf time front; bytes = q } in
-          let k : length (listBytes st request bytes front) ≡ length q = ap (λ (l : List ℕ). length l) y in
+          let k : length (listBytes ed st request bytes front) ≡ length q = ap (λ (l : List ℕ). length l) y in
           record {
-            sizes = sum ∙ sym (add-both (redundantNumbers st time front) (listsNumbers st time (m ∷ ns) others) (4 + length q) (partsSize cs d) (sym (redundant-all st time front (length q) z short near)) (h .sizes));
-            heads = headers-more st request time bytes (n ∷ m ∷ ns) ws (omega arith) ∙ rw (k, h .heads) (sym (more-headers (st .«payload_type») b cs));
-            fit = (record { type = ranged st i .plain; near = near; short = omega (arith, k) }, h .fit);
-            payloads = payloads-more st request bytes (n ∷ m ∷ ns) ws (omega arith) ∙ rw (y, h .payloads) (sym (more-blocks b cs d));
+            sizes = sum ∙ sym (add-both (redundantNumbers ed st time front) (listsNumbers ed st time (m ∷ ns) others) (4 + length q) (partsSize cs d) (sym (redundant-all ed st time front (length q) z short near)) (h .sizes));
+            heads = headers-more ed st request time bytes (n ∷ m ∷ ns) ws (omega arith) ∙ rw (k, h .heads) (sym (more-headers (st .«payload_type») b cs));
+            fit = (record { type = ranged ed st i .plain; near = near; short = omega (arith, k) }, h .fit);
+            payloads = payloads-more ed st request bytes (n ∷ m ∷ ns) ws (omega arith) ∙ rw (y, h .payloads) (sym (more-blocks b cs d));
             many = ap suc (h .many);
           }
 
-    agree-more : outside (length bytes) (rowsIn front) ≡ false → length front % rowWidth ≡ 0 → (rest : Parts) → Agrees st request bytes time (m ∷ ns) others rest
-        → Agrees st request bytes time (n ∷ m ∷ ns) ws (redundantPart (offsetOf time front) (encoded st request bytes (rowsIn front)) rest)
-    agree-more o w rest h = go (encoded st request bytes (rowsIn front)) refl
+    agree-more : outside (length bytes) (rowsIn front) ≡ false → length front % rowWidth ≡ 0 → (rest : Parts) → Agrees ed st request bytes time (m ∷ ns) others rest
+        → Agrees ed st request bytes time (n ∷ m ∷ ns) ws (redundantPart (offsetOf time front) (encoded ed st request bytes (rowsIn front)) rest)
+    agree-more o w rest h = go (encoded ed st request bytes (rowsIn front)) refl
       where
-        go : (x : Encoded) → encoded st request bytes (rowsIn front) ≡ x → Agrees st request bytes time (n ∷ m ∷ ns) ws (redundantPart (offsetOf time front) x rest)
-        go (noBytes q) e = no-front (redundant-none st time front (ap (λ (x : Numbers). eqb (x .refusal) 0) (measured-is front (noBytes q) o w e ∙ none-numbers q) ∙ number-some q))
+        go : (x : Encoded) → encoded ed st request bytes (rowsIn front) ≡ x → Agrees ed st request bytes time (n ∷ m ∷ ns) ws (redundantPart (offsetOf time front) x rest)
+        go (noBytes q) e = no-front (redundant-none ed st time front (ap (λ (x : Numbers). eqb (x .refusal) 0) (measured-is front (noBytes q) o w e ∙ none-numbers q) ∙ number-some q))
         go (bytesOf q) e =
-            let z : measured st front ≡ record { refusal = 0; count = length q } = measured-is front (bytesOf q) o w e ∙ bytes-numbers q in
+            let z : measured ed st front ≡ record { refusal = 0; count = length q } = measured-is front (bytesOf q) o w e ∙ bytes-numbers q in
             by-test (ltb maxBlock (length q))
-            (λ a. rw a (no-front (redundant-long st time front (length q) z (ltb-true maxBlock (length q) a))))
+            (λ a. rw a (no-front (redundant-long ed st time front (length q) z (ltb-true maxBlock (length q) a))))
             (λ a. by-test (ltb maxOffset (offsetOf time front))
-            (λ b. rw (a, b) (no-front (redundant-far st time front (length q) z (ltb-false maxBlock (length q) a) (ltb-true maxOffset (offsetOf time front) b))))
+            (λ b. rw (a, b) (no-front (redundant-far ed st time front (length q) z (ltb-false maxBlock (length q) a) (ltb-true maxOffset (offsetOf time front) b))))
             (λ b. rw (a, b) (put q z (bytes-is front q e) (ltb-false maxBlock (length q) a) (ltb-false maxOffset (offsetOf time front) b) rest h)))
 
-  pub agrees : (counts ws : List ℕ) → 0 < length counts → Counted counts ws → outside (length bytes) (rowsIn ws) ≡ false → Agrees st request bytes time counts ws (parts st request bytes time counts (rowsIn ws))
+  pub agrees : (counts ws : List ℕ) → 0 < length counts → Counted counts ws → outside (length bytes) (rowsIn ws) ≡ false → Agrees ed st request bytes time counts ws (parts ed st request bytes time counts (rowsIn ws))
   agrees [] ws s k o = absurd (omega arith)
-  agrees (n ∷ []) ws s k o = subst (λ (x : Parts). Agrees st request bytes time (n ∷ []) ws x) (sym (parts-last st request bytes time n ws)) (agree-last n ws o (omega (arith, k)))
+  agrees (n ∷ []) ws s k o = subst (λ (x : Parts). Agrees ed st request bytes time (n ∷ []) ws x) (sym (parts-last ed st request bytes time n ws)) (agree-last n ws o (omega (arith, k)))
   agrees (n ∷ m ∷ ns) ws s k o =
-      subst (λ (x : Parts). Agrees st request bytes time (n ∷ m ∷ ns) ws x) (sym (parts-more st request bytes time n m ns ws))
+      subst (λ (x : Parts). Agrees ed st request bytes time (n ∷ m ∷ ns) ws x) (sym (parts-more ed st request bytes time n m ns ws))
       (agree-more n m ns ws (inside-first (length bytes) (rowWidth * n) n ws refl o) (whole-first (rowWidth * n) n ws refl (first-fits (n ∷ m ∷ ns) ws s k))
-      (parts st request bytes time (m ∷ ns) (rowsIn (drop (rowWidth * n) ws)))
+      (parts ed st request bytes time (m ∷ ns) (rowsIn (drop (rowWidth * n) ws)))
       (agrees (m ∷ ns) (drop (rowWidth * n) ws) (omega arith) (counted-rest (n ∷ m ∷ ns) ws s k (rowWidth * n) refl) (inside-rest (length bytes) (rowWidth * n) n ws refl o)))

@@ -7,6 +7,7 @@ use native.Mathlib.Omega.{arith}
 use lib.ListN.{length, length-append}
 use lib.Dec.{ltb, eqb}
 use borrow.Author.Tests.{lt-ltb, le-ltb, ltb-false, eqb-true, eqb-false}
+use Rattle.rtp.specs.Editions.{Edition}
 use Rattle.rtp.specs.Sizes.{minPacket, maxPacket, rowWidth}
 use Rattle.rtp.specs.Ranges.{noRedundancy}
 use Rattle.rtp.specs.declared.settings.Settings.{Settings}
@@ -48,8 +49,8 @@ within-numbers x k e =
     subst (λ (n : ℕ). encodedNumbers (withinPacket x) ≡ withinNumbers n) e
     (by-test (ltb maxPacket (length x)) (λ a. rw a (none-numbers Unwritable)) (λ a. rw a (bytes-numbers x)))
 
-module _ (st : Settings) (request : ℕ) (h : Heading) (time : ℕ) (bytes counts ws : List ℕ) where
-  pub assembled-numbers : (x : Parts) → Agrees st request bytes time counts ws x → encodedNumbers (assembledFrom st h time x) ≡ packetNumbers st (length counts) (listsNumbers st time counts ws)
+module _ (ed : Edition) (st : Settings) (request : ℕ) (h : Heading) (time : ℕ) (bytes counts ws : List ℕ) where
+  pub assembled-numbers : (x : Parts) → Agrees ed st request bytes time counts ws x → encodedNumbers (assembledFrom st h time x) ≡ packetNumbers st (length counts) (listsNumbers ed st time counts ws)
   unfolding bodyBytes
   assembled-numbers noParts d = rw d (none-numbers Unwritable)
   assembled-numbers (partsOf [] p) d =
@@ -71,25 +72,25 @@ unfolding encodedBytes
 all-bytes x p e = ap (λ (y : Encoded). encodedBytes y) e
 
 -- a packet x of one list, and of more
-pub record Plain (st : Settings) (request : ℕ) (h : Heading) (time : ℕ) (bytes counts ws : List ℕ) (area : ℕ) (x : Encoded) : Type 0 where
+pub record Plain (ed : Edition) (st : Settings) (request : ℕ) (h : Heading) (time : ℕ) (bytes counts ws : List ℕ) (area : ℕ) (x : Encoded) : Type 0 where
   pub room : minPacket ≤ area
-  pub payloads : PayloadsRoom st request bytes counts ws (area - minPacket)
-  pub packet : encodedBytes x ≡ headerBytes h (st .«payload_type») time ++ listsPayloads st request bytes counts ws
+  pub payloads : PayloadsRoom ed st request bytes counts ws (area - minPacket)
+  pub packet : encodedBytes x ≡ headerBytes h (st .«payload_type») time ++ listsPayloads ed st request bytes counts ws
 
-pub record Redundant (st : Settings) (request : ℕ) (h : Heading) (time : ℕ) (bytes counts ws : List ℕ) (area : ℕ) (x : Encoded) : Type 0 where
+pub record Redundant (ed : Edition) (st : Settings) (request : ℕ) (h : Heading) (time : ℕ) (bytes counts ws : List ℕ) (area : ℕ) (x : Encoded) : Type 0 where
   pub type : st .«redundancy_type» < 128
   pub room : minPacket ≤ area
-  pub blocks : BlocksRoom st request time bytes counts ws (listHeadersSize (length counts)) (area - minPacket)
-  pub packet : encodedBytes x ≡ headerBytes h (st .«redundancy_type») time ++ (listsHeaders st request time bytes counts ws ++ listsPayloads st request bytes counts ws)
+  pub blocks : BlocksRoom ed st request time bytes counts ws (listHeadersSize (length counts)) (area - minPacket)
+  pub packet : encodedBytes x ≡ headerBytes h (st .«redundancy_type») time ++ (listsHeaders ed st request time bytes counts ws ++ listsPayloads ed st request bytes counts ws)
 
-module _ (st : Settings) (request : ℕ) (h : Heading) (time : ℕ) (bytes counts ws : List ℕ) (area : ℕ) (r : PacketRoom st request h time bytes counts ws area) where
-  it : Agrees st request bytes time counts ws (parts st request bytes time counts (rowsIn ws))
-  it = agrees st request bytes time (asked st request (r .settings) .settings) counts ws (r .some) (r .counted) (r .inside)
+module _ (ed : Edition) (st : Settings) (request : ℕ) (h : Heading) (time : ℕ) (bytes counts ws : List ℕ) (area : ℕ) (r : PacketRoom ed st request h time bytes counts ws area) where
+  it : Agrees ed st request bytes time counts ws (parts ed st request bytes time counts (rowsIn ws))
+  it = agrees ed st request bytes time (asked ed st request (r .settings) .settings) counts ws (r .some) (r .counted) (r .inside)
 
-  payloads-room : (n : ℕ) → length (listsPayloads st request bytes counts ws) ≤ n → PayloadsRoom st request bytes counts ws n
+  payloads-room : (n : ℕ) → length (listsPayloads ed st request bytes counts ws) ≤ n → PayloadsRoom ed st request bytes counts ws n
   payloads-room n l = record { settings = r .settings; inside = r .inside; counted = r .counted; room = l }
 
-  plain-parts : length counts < 2 → (x : Parts) → Agrees st request bytes time counts ws x → BytesRoom (assembledFrom st h time x) area → Plain st request h time bytes counts ws area (assembledFrom st h time x)
+  plain-parts : length counts < 2 → (x : Parts) → Agrees ed st request bytes time counts ws x → BytesRoom (assembledFrom st h time x) area → Plain ed st request h time bytes counts ws area (assembledFrom st h time x)
   unfolding bodyBytes blocksBytes
   plain-parts n noParts d b = absurd b
   plain-parts n (partsOf [] p) d b =
@@ -102,10 +103,10 @@ module _ (st : Settings) (request : ℕ) (h : Heading) (time : ℕ) (bytes count
       }
   plain-parts n (partsOf (c ∷ cs) p) d b = absurd (omega (arith, d .many))
 
-  pub plain-packet : length counts < 2 → Plain st request h time bytes counts ws area (assembledFrom st h time (parts st request bytes time counts (rowsIn ws)))
-  plain-packet n = plain-parts n (parts st request bytes time counts (rowsIn ws)) it (r .room)
+  pub plain-packet : length counts < 2 → Plain ed st request h time bytes counts ws area (assembledFrom st h time (parts ed st request bytes time counts (rowsIn ws)))
+  plain-packet n = plain-parts n (parts ed st request bytes time counts (rowsIn ws)) it (r .room)
 
-  redundant-parts : 2 ≤ length counts → (x : Parts) → Agrees st request bytes time counts ws x → BytesRoom (assembledFrom st h time x) area → Redundant st request h time bytes counts ws area (assembledFrom st h time x)
+  redundant-parts : 2 ≤ length counts → (x : Parts) → Agrees ed st request bytes time counts ws x → BytesRoom (assembledFrom st h time x) area → Redundant ed st request h time bytes counts ws area (assembledFrom st h time x)
   unfolding bodyBytes
   redundant-parts n noParts d b = absurd b
   redundant-parts n (partsOf [] p) d b = absurd (omega (arith, d .many))
@@ -115,12 +116,12 @@ module _ (st : Settings) (request : ℕ) (h : Heading) (time : ℕ) (bytes count
       (λ a.
       let body = headersBytes (st .«payload_type») (c ∷ cs) ++ blocksBytes (c ∷ cs) p in
       let w = within-room (headerBytes h (st .«redundancy_type») time ++ body) area (rw a at b) in
-      let e : body ≡ listsHeaders st request time bytes counts ws ++ listsPayloads st request bytes counts ws = rw (d .heads, d .payloads) in
+      let e : body ≡ listsHeaders ed st request time bytes counts ws ++ listsPayloads ed st request bytes counts ws = rw (d .heads, d .payloads) in
       let l = ap (λ (s : List ℕ). length s) e in
-      let s = length-append (listsHeaders st request time bytes counts ws) (listsPayloads st request bytes counts ws) in
-      let k = length-headers st request time bytes counts ws in
+      let s = length-append (listsHeaders ed st request time bytes counts ws) (listsPayloads ed st request bytes counts ws) in
+      let k = length-headers ed st request time bytes counts ws in
       record {
-        type = ranged st (asked st request (r .settings) .settings) .redundant a .0;
+        type = ranged ed st (asked ed st request (r .settings) .settings) .redundant a .0;
         room = omega (arith, w .1);
         blocks = record {
           fit = d .fit;
@@ -131,8 +132,8 @@ module _ (st : Settings) (request : ℕ) (h : Heading) (time : ℕ) (bytes count
         packet = rw a (all-bytes _ _ (w .0) ∙ ap (λ (s : List ℕ). headerBytes h (st .«redundancy_type») time ++ s) e);
       })
 
-  pub redundant-packet : 2 ≤ length counts → Redundant st request h time bytes counts ws area (assembledFrom st h time (parts st request bytes time counts (rowsIn ws)))
-  redundant-packet n = redundant-parts n (parts st request bytes time counts (rowsIn ws)) it (r .room)
+  pub redundant-packet : 2 ≤ length counts → Redundant ed st request h time bytes counts ws area (assembledFrom st h time (parts ed st request bytes time counts (rowsIn ws)))
+  redundant-packet n = redundant-parts n (parts ed st request bytes time counts (rowsIn ws)) it (r .room)
 
 -- Refusals
 
@@ -141,8 +142,8 @@ pub record Fitting (counts ws : List ℕ) : Type 0 where
   pub few : length counts ≤ maxRedundant + 1
   pub counted : Counted counts ws
 
-pub fitting : (counts ws : List ℕ) → countsFit counts ws ≡ true → Fitting counts ws
-fitting counts ws h =
+pub fitting : (ed : Edition) (counts ws : List ℕ) → countsFit ed counts ws ≡ true → Fitting counts ws
+fitting ed counts ws h =
     by-test (eqb (length counts) 0) (λ a. not-both false (rw a at h) refl)
     (λ a. by-test (ltb (maxRedundant + 1) (length counts)) (λ b. not-both false (rw (a, b) at h) refl)
     (λ b. by-test (eqb (length ws) (rowWidth * total counts))
@@ -153,22 +154,22 @@ fitting counts ws h =
     })
     (λ d. not-both false (rw (a, b, d) at h) refl)))
 
-pub sending-out : (st : Settings) (request : ℕ) (h : Heading) (counts ws bytes : List ℕ) (area : ℕ) → askable st request ≡ false → sending st request h counts ws bytes area ≡ noBytes SettingsOutOfRange
+pub sending-out : (ed : Edition) (st : Settings) (request : ℕ) (h : Heading) (counts ws bytes : List ℕ) (area : ℕ) → askable ed st request ≡ false → sending ed st request h counts ws bytes area ≡ noBytes SettingsOutOfRange
 unfolding sending
-sending-out st request h counts ws bytes area i = rw i
+sending-out ed st request h counts ws bytes area i = rw i
 
-module _ (st : Settings) (request : ℕ) (h : Heading) (counts ws bytes : List ℕ) (area : ℕ) (i : askable st request ≡ true) where
-  pub sending-outside : outside (length bytes) (rowsIn ws) ≡ true → sending st request h counts ws bytes area ≡ noBytes RowOutsideBytes
+module _ (ed : Edition) (st : Settings) (request : ℕ) (h : Heading) (counts ws bytes : List ℕ) (area : ℕ) (i : askable ed st request ≡ true) where
+  pub sending-outside : outside (length bytes) (rowsIn ws) ≡ true → sending ed st request h counts ws bytes area ≡ noBytes RowOutsideBytes
   unfolding sending
   sending-outside o = rw (i, o)
 
   module _ (o : outside (length bytes) (rowsIn ws) ≡ false) where
-    pub sending-unfit : countsFit counts ws ≡ false → sending st request h counts ws bytes area ≡ noBytes Unwritable
+    pub sending-unfit : countsFit ed counts ws ≡ false → sending ed st request h counts ws bytes area ≡ noBytes Unwritable
     unfolding sending
     sending-unfit f = rw (i, o, f)
 
-    pub sending-fit : countsFit counts ws ≡ true → (time : ℕ) → time ≡ primaryTime counts (rowsIn ws)
-        → sending st request h counts ws bytes area ≡ roomFor area (assembledFrom st h time (parts st request bytes time counts (rowsIn ws)))
+    pub sending-fit : countsFit ed counts ws ≡ true → (time : ℕ) → time ≡ primaryTime counts (rowsIn ws)
+        → sending ed st request h counts ws bytes area ≡ roomFor area (assembledFrom st h time (parts ed st request bytes time counts (rowsIn ws)))
     unfolding sending assembled
     sending-fit f time e = rw (i, o, f, e)
 

@@ -4,6 +4,7 @@ use mathlib.Core.List.{List, [], _∷_, _++_}
 use mathlib.Core.Bool.{Bool, false, cond}
 use lib.ListN.{length}
 use lib.Dec.{ltb, eqb}
+use Rattle.rtp.specs.Editions.{Edition}
 use Rattle.rtp.specs.Sizes.{maxPacket}
 use Rattle.rtp.specs.Ranges.{noRedundancy}
 use Rattle.rtp.specs.declared.settings.Settings.{Settings}
@@ -46,13 +47,13 @@ assembledFrom st h time noParts = noBytes Unwritable
 assembledFrom st h time (partsOf bs p) =
     cond (redundancyMissing st bs) (noBytes Unwritable) (withinPacket (headerBytes h (packetType st bs) time ++ bodyBytes st bs p))
 
-unfoldable pub assembled : Settings → ℕ → Heading → List ℕ → List ℕ → List Row → Encoded
-assembled st request h counts bytes rs = assembledFrom st h (primaryTime counts rs) (parts st request bytes (primaryTime counts rs) counts rs)
+unfoldable pub assembled : Edition → Settings → ℕ → Heading → List ℕ → List ℕ → List Row → Encoded
+assembled ed st request h counts bytes rs = assembledFrom st h (primaryTime counts rs) (parts ed st request bytes (primaryTime counts rs) counts rs)
 
 -- writing a packet into an area of so many bytes: the order is 11, 14, 13, 12
-unfoldable pub sending : Settings → ℕ → Heading → List ℕ → List ℕ → List ℕ → ℕ → Encoded
-sending st request h counts ws bytes area =
-    cond (askable st request)
+unfoldable pub sending : Edition → Settings → ℕ → Heading → List ℕ → List ℕ → List ℕ → ℕ → Encoded
+sending ed st request h counts ws bytes area =
+    cond (askable ed st request)
     (cond (outside (length bytes) (rowsIn ws)) (noBytes RowOutsideBytes)
-    (cond (countsFit counts ws) (roomFor area (assembled st request h counts bytes (rowsIn ws))) (noBytes Unwritable)))
+    (cond (countsFit ed counts ws) (roomFor area (assembled ed st request h counts bytes (rowsIn ws))) (noBytes Unwritable)))
     (noBytes SettingsOutOfRange)

@@ -10,6 +10,7 @@ use rtp::settings::Settings;
 use rtp::sizes::MIN_PACKET;
 ghost use mathlib.Core.Path.{_≡_};
 ghost use lib.ListN.{length};
+ghost use Rattle.rtp.specs.Editions.{current};
 ghost use Rattle.rtp.specs.Areas.{over};
 ghost use Rattle.plans.specs.Lists.{rowsIn};
 ghost use Rattle.encoder.specs.Writings.{encodedNumbers, encodedBytes};
@@ -20,9 +21,9 @@ ghost use Rattle.sender.specs.Room.{listBytes, listsPayloads, listHeader
 
 // A list's payload; answers its bytes.
 fn put_list(asked: Settings, mode_request: u8, rows: &[u32], bytes: &[u8], out: &mut [u8]) -> usize
-    requires { ⌜ ListRoom asked «mode_request» (now bytes) (now rows) (length (now out)) ⌝ }
-    ensures { λ r. ⌜ (r ≡ length (listBytes asked «mode_request» (now (bytes .entry)) (now (rows .entry))))
-        × (now (out .exit) ≡ over (listBytes asked «mode_request» (now (bytes .entry)) (now (rows .entry))) (now (out .entry))) ⌝ }
+    requires { ⌜ ListRoom current asked «mode_request» (now bytes) (now rows) (length (now out)) ⌝ }
+    ensures { λ r. ⌜ (r ≡ length (listBytes current asked «mode_request» (now (bytes .entry)) (now (rows .entry))))
+        × (now (out .exit) ≡ over (listBytes current asked «mode_request» (now (bytes .entry)) (now (rows .entry))) (now (out .entry))) ⌝ }
 {
     match writing::write_payload(asked, mode_request, rows, bytes, out) {
         Written::Bytes(size) => size,
@@ -40,10 +41,10 @@ fn put_block(
     start: usize,
     out: &mut [u8],
 ) -> usize
-    requires { ⌜ BlockRoom asked «mode_request» time (now bytes) (now rows) start (length (now out)) ⌝ }
-    ensures { λ r. ⌜ (r ≡ length (listBytes asked «mode_request» (now (bytes .entry)) (now (rows .entry))))
-        × (now (out .exit) ≡ over (listHeader asked «mode_request» time (now (bytes .entry)) (now (rows .entry)))
-        (overFrom start (listBytes asked «mode_request» (now (bytes .entry)) (now (rows .entry))) (now (out .entry)))) ⌝ }
+    requires { ⌜ BlockRoom current asked «mode_request» time (now bytes) (now rows) start (length (now out)) ⌝ }
+    ensures { λ r. ⌜ (r ≡ length (listBytes current asked «mode_request» (now (bytes .entry)) (now (rows .entry))))
+        × (now (out .exit) ≡ over (listHeader current asked «mode_request» time (now (bytes .entry)) (now (rows .entry)))
+        (overFrom start (listBytes current asked «mode_request» (now (bytes .entry)) (now (rows .entry))) (now (out .entry)))) ⌝ }
 {
     let size = put_list(asked, mode_request, rows, bytes, &mut out[start..]);
     let offset = sizes::offset_of(time, rows);
@@ -62,10 +63,10 @@ fn put_blocks(
     start: usize,
     out: &mut [u8],
 )
-    requires { ⌜ BlocksRoom asked «mode_request» time (now bytes) (now counts) (now rows) start (length (now out)) ⌝ }
+    requires { ⌜ BlocksRoom current asked «mode_request» time (now bytes) (now counts) (now rows) start (length (now out)) ⌝ }
     ensures { λ _. ⌜ now (out .exit) ≡
-        over (listsHeaders asked «mode_request» time (now (bytes .entry)) (now (counts .entry)) (now (rows .entry)))
-        (overFrom start (listsPayloads asked «mode_request» (now (bytes .entry)) (now (counts .entry)) (now (rows .entry))) (now (out .entry))) ⌝ }
+        over (listsHeaders current asked «mode_request» time (now (bytes .entry)) (now (counts .entry)) (now (rows .entry)))
+        (overFrom start (listsPayloads current asked «mode_request» (now (bytes .entry)) (now (counts .entry)) (now (rows .entry))) (now (out .entry))) ⌝ }
 {
     if counts.len() < 2 {
         put_list(asked, mode_request, rows, bytes, &mut out[start..]);
@@ -99,11 +100,11 @@ fn put_packet(
     bytes: &[u8],
     out: &mut [u8],
 )
-    requires { ⌜ PacketRoom asked «mode_request» (record { marker = marker; sequence = sequence; source = source }) time (now bytes) (now counts) (now rows)
+    requires { ⌜ PacketRoom current asked «mode_request» (record { marker = marker; sequence = sequence; source = source }) time (now bytes) (now counts) (now rows)
         (length (now out)) ⌝ }
     ensures { λ _. ⌜ now (out .exit) ≡
         over (encodedBytes (assembledFrom asked (record { marker = marker; sequence = sequence; source = source }) time
-        (parts asked «mode_request» (now (bytes .entry)) time (now (counts .entry)) (rowsIn (now (rows .entry)))))) (now (out .entry)) ⌝ }
+        (parts current asked «mode_request» (now (bytes .entry)) time (now (counts .entry)) (rowsIn (now (rows .entry)))))) (now (out .entry)) ⌝ }
 {
     if counts.len() < 2 {
         headers::put_header(out, marker, sequence, source, asked.payload_type, time);
@@ -136,10 +137,10 @@ pub fn write_packet(
     out: &mut [u8],
 ) -> Written
     ensures { λ r. ⌜ (writtenNumbers r ≡
-        encodedNumbers (sending asked «mode_request» (record { marker = marker; sequence = sequence; source = source }) (now (counts .entry)) (now (rows .entry))
+        encodedNumbers (sending current asked «mode_request» (record { marker = marker; sequence = sequence; source = source }) (now (counts .entry)) (now (rows .entry))
         (now (bytes .entry)) (length (now (out .entry)))))
         × (now (out .exit) ≡ over
-        (encodedBytes (sending asked «mode_request» (record { marker = marker; sequence = sequence; source = source }) (now (counts .entry)) (now (rows .entry))
+        (encodedBytes (sending current asked «mode_request» (record { marker = marker; sequence = sequence; source = source }) (now (counts .entry)) (now (rows .entry))
         (now (bytes .entry)) (length (now (out .entry))))) (now (out .entry))) ⌝ }
 {
     if asking::in_range(asked, mode_request) {

@@ -7,7 +7,7 @@ use case_text::script;
 
 // A proved loop has to end, so this one counts its turns down from a number that no text reaches.
 fn main() {
-    let mut rows = cases::no_numbers();
+    let mut rows = cases::no_rows();
     let mut case = cases::unsettled();
     let mut turns = u64::MAX;
     while turns > 0 {

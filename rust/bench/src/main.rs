@@ -6,7 +6,9 @@
 //! profile `measured`: bench.sh does.
 
 use bench::plain;
-use reference::{step_ticks, DRAW_AREA, HEADER_BYTES, LOG_FRAME, MAX_PACKET, ROW_AREA, SLOTS, SLOT_BYTES, STORE_BYTES};
+use reference::{
+    step_ticks, DRAW_AREA, HEADER_BYTES, LOG_FRAME, MAX_CHANNELS, MAX_PACKET, MAX_ROWS, ROW_AREA, SLOTS, SLOT_BYTES, STORE_BYTES,
+};
 use std::hint::black_box;
 use std::time::{Duration, Instant};
 
@@ -103,10 +105,11 @@ fn given(s: reference::Settings) -> heolstorpit::Settings {
     heolstorpit::Settings { format: format.into(), channels, payload_type, redundancy_type }
 }
 
-/// Rows of `blocks` frame-blocks of `length` bytes, from a time, in steps; they point into `bytes`.
+/// Rows of `blocks` frame-blocks of `length` bytes, 0 for no data, from a time, in steps; they point into `bytes`.
 fn list(s: reference::Settings, time: u32, blocks: usize, length: u32, steps: u32) -> Vec<u32> {
     let ticks = step_ticks(s.format) * steps;
-    let row = |block: usize, channel: u32| [time + ticks * block as u32, 256 + channel, (SLOT_BYTES * (block % FRAMES)) as u32, length];
+    let class = 256 * length.min(1);
+    let row = |block: usize, channel: u32| [time + ticks * block as u32, class + channel, (SLOT_BYTES * (block % FRAMES)) as u32, length];
     (0..blocks).flat_map(|block| (0..s.channels as u32).flat_map(move |channel| row(block, channel))).collect()
 }
 
@@ -130,14 +133,19 @@ fn packet(s: reference::Settings, counts: &[u32], rows: &[u32]) -> Vec<u8> {
 
 /// What is read and written: a name, settings, and lists.
 fn samples() -> Vec<(&'static str, reference::Settings, Vec<u32>, Vec<u32>)> {
-    let (basic, stereo, interleaved, gsm, amr) = (settings(1, 1), settings(1, 2), settings(2, 1), settings(3, 1), settings(4, 1));
+    let (basic, stereo, array, interleaved) = (settings(1, 1), settings(1, 2), settings(1, MAX_CHANNELS), settings(2, 1));
+    let (gsm, amr) = (settings(3, 1), settings(4, 1));
     let three = [list(basic, 0, 2, 80, 1), list(basic, 1920, 2, 80, 1), list(basic, 3840, 2, 160, 1)].concat();
     let mixed = [list(basic, 0, 1, 80, 1), list(basic, 960, 1, 90, 1), list(basic, 1920, 1, 100, 1), list(basic, 2880, 1, 80, 1)].concat();
+    // five of sound are longer than a packet: 5 x 6 x 80 bytes and more
+    let six = [list(array, 0, 4, 80, 1), list(array, 3840, 1, 0, 1)].concat();
     vec![
         ("G.719, 1 frame of 160 bytes", basic, vec![1], list(basic, 0, 1, 160, 1)),
         ("G.719, 12 frames of 160 bytes", basic, vec![12], list(basic, 0, 12, 160, 1)),
         ("G.719, 4 frames in 4 entries", basic, vec![4], mixed),
         ("G.719 stereo, 5 frame-blocks of 2 x 160", stereo, vec![10], list(stereo, 0, 5, 160, 1)),
+        ("G.719 six channels, 5 frame-blocks, 4 of 6 x 80", array, vec![30], six),
+        ("G.719, 384 rows of no data", basic, vec![MAX_ROWS as u32], list(basic, 0, MAX_ROWS, 0, 1)),
         ("G.719 interleaved, 4 frames of 80 bytes", interleaved, vec![4], list(interleaved, 0, 4, 80, 5)),
         ("G.719 with 2 redundant blocks, 6 frames", basic, vec![2, 2, 2], three),
         ("GSM-HR, 10 frames", gsm, vec![10], list(gsm, 0, 10, 14, 1)),

@@ -311,6 +311,8 @@ fn plan(s: Settings, words: &[u32]) -> Option<usize> {
             }
         }
         run = if joins { run + 1 } else { 1 };
+        // a run that is cut has a second entry; its first part has an even number of displacements
+        size += if s.format < 3 && run == MAX_RUN + 1 { 2 } else { 0 };
         size += channels * length as usize
             + match s.format {
                 1 if !joins => 2,
@@ -349,6 +351,9 @@ fn put_payload(s: Settings, mode_request: u8, words: &[u32], bytes: &[u8], out: 
             let mut to = from + width;
             while to < words.len() && words[to + 3] == length {
                 to += width;
+            }
+            if (to - from) / width > MAX_RUN {
+                to = from + width * CUT_RUN;
             }
             let blocks = (to - from) / width;
             out[at] = if to < words.len() { F_BIT } else { 0 } | code(s.format, words[from + 1] % PRIMARY / 256, length).unwrap_or(0) << 2;

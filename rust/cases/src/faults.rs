@@ -1,6 +1,6 @@
 //! Packets with the refusal and the offset that reading answers, both worked out by hand: document 02, P2.
 
-use reference::{Settings, F_BIT, MAX_PACKET, VERSION_2};
+use reference::{Settings, F_BIT, MAX_PACKET, MAX_ROWS, VERSION_2};
 
 /// A packet and what reading it answers; 0 where it is accepted.
 #[derive(Clone, Debug)]
@@ -47,6 +47,9 @@ const TABLES: &[Fault] = &[
     (1, 1, &[0xA0, 1, 0x24, 1], 169, 10, 4),
     (1, 1, &[0xA0, 1, 0x80, 2, 0x24, 1], 171, 10, 6),
     (1, 2, &[0x00, 5], 1, 10, 2),
+    (1, 6, &[0x20, 1], 80, 10, 2),
+    (1, 6, &[0x20, 1], 479, 10, 2),
+    (1, 6, &[0xA0, 1, 0x00, 2], 481, 10, 4),
     // G.719 interleaved. 6: cut before the count, before the displacements, in them; the second missing, cut in each way
     (2, 1, &[0x20], 0, 6, 0),
     (2, 1, &[0x20, 1], 0, 6, 0),
@@ -68,6 +71,8 @@ const TABLES: &[Fault] = &[
     (2, 2, &[0x20, 1, 0], 161, 10, 3),
     (2, 1, &[0xA0, 1, 0, 0x20, 3, 0, 0], 321, 10, 7),
     (2, 1, &[0x00, 4, 0, 0], 1, 10, 4),
+    (2, 6, &[0x20, 1, 0], 479, 10, 3),
+    (2, 5, &[0xA0, 1, 0, 0x00, 3, 0, 0], 401, 10, 7),
     // GSM-HR
     (3, 1, &[0x80], 0, 6, 1),
     (3, 1, &[0xF0, 0xA0], 0, 6, 2),
@@ -106,20 +111,29 @@ const TABLES: &[Fault] = &[
 /// Faults that hang on the rows before: 9, and what is asked before it of the same entry.
 #[rustfmt::skip]
 const FULL_TABLES: &[Fault] = &[
-    (1, 1, &[0x00, 129], 0, 9, 0),
-    (1, 2, &[0x00, 65], 0, 9, 0),
-    (1, 1, &[0x80, 255, 0x1C, 1], 0, 9, 0),
-    (1, 1, &[0x80, 128, 0x00, 1], 0, 9, 2),
-    (1, 2, &[0x80, 64, 0x00, 1], 0, 9, 2),
-    (1, 1, &[0x80, 100, 0x80, 28, 0xA0, 1], 0, 9, 4),
-    (1, 1, &[0x80, 128, 0x1C, 1], 0, 7, 2),
-    (1, 1, &[0x80, 128, 0x20, 0], 0, 8, 2),
-    (1, 1, &[0x80, 128, 0x20], 0, 6, 2),
+    (1, 1, &[0x80, 255, 0x00, 130], 0, 9, 2),
+    (1, 2, &[0x00, 193], 0, 9, 0),
+    (1, 3, &[0x00, 129], 0, 9, 0),
+    (1, 5, &[0x00, 77], 0, 9, 0),
+    (1, 6, &[0x00, 65], 0, 9, 0),
+    (1, 2, &[0x80, 255, 0x1C, 1], 0, 9, 0),
+    (1, 1, &[0x80, 255, 0x80, 129, 0x00, 1], 0, 9, 4),
+    (1, 2, &[0x80, 192, 0x00, 1], 0, 9, 2),
+    (1, 4, &[0x80, 96, 0x00, 1], 0, 9, 2),
+    (1, 5, &[0x80, 76, 0x00, 1], 0, 9, 2),
+    (1, 6, &[0x80, 64, 0x00, 1], 0, 9, 2),
+    (1, 1, &[0x80, 200, 0x80, 100, 0x80, 84, 0xA0, 1], 0, 9, 6),
+    (1, 1, &[0x80, 255, 0x80, 129, 0x1C, 1], 0, 7, 4),
+    (1, 6, &[0x80, 64, 0x1C, 1], 0, 7, 2),
+    (1, 1, &[0x80, 255, 0x80, 129, 0x20, 0], 0, 8, 4),
+    (1, 1, &[0x80, 255, 0x80, 129, 0x20], 0, 6, 4),
     // with as many displacements as it takes, and one too few
-    (2, 1, &[0x00, 129], 65, 9, 0),
-    (2, 1, &[0x00, 129], 64, 6, 0),
-    (2, 1, &[0x80, 4, 0, 0, 0x00, 125], 63, 9, 4),
-    (2, 2, &[0x80, 3, 0, 0, 0x80, 62], 31, 9, 4),
+    (2, 2, &[0x00, 193], 97, 9, 0),
+    (2, 2, &[0x00, 193], 96, 6, 0),
+    (2, 6, &[0x00, 65], 33, 9, 0),
+    (2, 6, &[0x00, 65], 32, 6, 0),
+    (2, 3, &[0x80, 4, 0, 0, 0x00, 125], 63, 9, 4),
+    (2, 2, &[0x80, 3, 0, 0, 0x80, 190], 95, 9, 4),
 ];
 
 /// Block headers at fault: the redundancy payload's first bytes, how many more, refusal, offset in the payload.
@@ -140,6 +154,9 @@ const HEADERS: &[(&[u8], usize, u32, usize)] = &[
     (&[0xE1, 0, 0, 1, 0xE1, 0, 0, 1, 0x61], 1, 10, 9),
     (&[0xE0, 0, 0, 3, 0xE2, 0, 0, 200, 0xE1, 0, 0, 0, 0x60], 202, 10, 13),
 ];
+
+/// Formats, and some of the numbers of channels that they have.
+const FORMATS: [(u8, u8); 9] = [(1, 1), (1, 2), (1, 6), (2, 1), (2, 2), (2, 6), (3, 1), (4, 1), (5, 1)];
 
 /// What may stand around a payload: contributing sources, words of an extension, padding.
 const AROUND: [(u8, Option<u8>, u8); 8] =
@@ -228,15 +245,15 @@ pub fn faults() -> Vec<Judged> {
             let (packet, start) = packet(around, PLAIN, payload);
             all.push(Judged { settings: s, packet, refusal, offset: (start + place) as u32 });
         };
-        for (format, channels) in [(1, 1), (1, 2), (2, 1), (2, 2), (3, 1), (4, 1), (5, 1)] {
+        for (format, channels) in FORMATS {
             plain(settings(format, channels), &[], 6, 0);
         }
         for (format, channels, table, more, refusal, place) in TABLES.iter().chain(FULL_TABLES) {
             plain(settings(*format, *channels), &[table, &vec![0; *more][..]].concat(), *refusal, *place);
         }
-        // 129 entries of a byte: the last, and a reserved one in its place, which is asked first
+        // one entry of a byte too many: the last, and a reserved one in its place, which is asked first
         for (format, first, one, reserved) in [(3, vec![], 0xF0, 0x10), (4, vec![0xF0], 0xFC, 0x4C), (5, vec![0xF0], 0xFC, 0x54)] {
-            let table = [first.clone(), vec![one; 128]].concat();
+            let table = [first.clone(), vec![one; MAX_ROWS]].concat();
             plain(settings(format, 1), &[&table[..], &[one]].concat(), 9, table.len());
             plain(settings(format, 1), &[&table[..], &[reserved]].concat(), 7, table.len());
             plain(settings(format, 1), &table, 6, table.len());
@@ -278,40 +295,40 @@ fn in_redundancy(around: (u8, Option<u8>, u8), all: &mut Vec<Judged>) {
     }
 }
 
-/// 9 by the rows of several blocks: at the entry that brings the sum over 128.
+/// 9 by the rows of several blocks: at the entry that brings the sum over 384, after 300 and 84.
 fn over_blocks(around: (u8, Option<u8>, u8), all: &mut Vec<Judged>) {
-    for (format, channels) in [(1u8, 1u8), (1, 2), (2, 1), (2, 2), (3, 1), (4, 1), (5, 1)] {
+    for (format, channels) in FORMATS {
         let s = settings(format, channels);
-        let hundred = no_data(format, channels, &[100]);
-        // the place of the entry after 28 rows, in a payload of theirs
-        let after_28 = no_data(format, channels, &[28]).len();
-        let over = no_data(format, channels, &[28, 2]);
-        let one_entry = no_data(format, channels, &[30]);
-        // entries of a byte pass the limit at the 29th row still
-        let at_once = if format >= 3 { after_28 } else { 0 };
+        let many = no_data(format, channels, &[150, 150]);
+        // the place of the entry after 84 rows, in a payload of theirs
+        let after_84 = no_data(format, channels, &[84]).len();
+        let over = no_data(format, channels, &[84, channels]);
+        let one_entry = no_data(format, channels, &[84 + channels]);
+        // entries of a byte pass the limit at the 85th row still
+        let at_once = if format >= 3 { after_84 } else { 0 };
         let mut block = |blocks: &[(u8, &[u8])], block_place: Option<usize>, refusal: u32, place: usize| {
             let (payload, last) = redundancy(blocks);
             let (packet, start) = packet(around, REDUNDANCY, &payload);
             let offset = if refusal == 0 { 0 } else { (start + block_place.unwrap_or(last) + place) as u32 };
             all.push(Judged { settings: s, packet, refusal, offset });
         };
-        block(&[(PLAIN, &hundred), (PLAIN, &over)], None, 9, after_28);
-        block(&[(PLAIN, &hundred), (PLAIN, &one_entry)], None, 9, at_once);
-        block(&[(PLAIN, &hundred), (OTHER, &hundred), (PLAIN, &over), (PLAIN, &[0x1C])], Some(13 + 2 * hundred.len()), 9, after_28);
-        block(&[(OTHER, &hundred), (PLAIN, &hundred), (PLAIN, &[]), (PLAIN, &over)], None, 9, after_28);
+        block(&[(PLAIN, &many), (PLAIN, &over)], None, 9, after_84);
+        block(&[(PLAIN, &many), (PLAIN, &one_entry)], None, 9, at_once);
+        block(&[(PLAIN, &many), (OTHER, &many), (PLAIN, &over), (PLAIN, &[0x1C])], Some(13 + 2 * many.len()), 9, after_84);
+        block(&[(OTHER, &many), (PLAIN, &many), (PLAIN, &[]), (PLAIN, &over)], None, 9, after_84);
         // just as many as there may be, then one more
-        let rest = no_data(format, channels, &[28]);
+        let rest = no_data(format, channels, &[84]);
         let one = no_data(format, channels, &[channels]);
-        block(&[(PLAIN, &hundred), (PLAIN, &rest)], None, 0, 0);
-        block(&[(PLAIN, &hundred), (PLAIN, &rest), (PLAIN, &one)], None, 9, if format >= 4 { 1 } else { 0 });
+        block(&[(PLAIN, &many), (PLAIN, &rest)], None, 0, 0);
+        block(&[(PLAIN, &many), (PLAIN, &rest), (PLAIN, &one)], None, 9, if format >= 4 { 1 } else { 0 });
     }
 }
 
 /// Packets that are accepted, so that there is no offset: among them blocks with faults that are not looked at.
 fn accepted(around: (u8, Option<u8>, u8), all: &mut Vec<Judged>) {
-    for (format, channels) in [(1, 1), (1, 2), (2, 1), (2, 2), (3, 1), (4, 1), (5, 1)] {
+    for (format, channels) in FORMATS {
         let good = good(format, channels);
-        let full = no_data(format, channels, &[128]);
+        let full = no_data(format, channels, &[192, 192]);
         let payloads = [
             (PLAIN, good.clone()),
             (PLAIN, full.clone()),

@@ -14,7 +14,7 @@ mod receptions;
 mod spoiled;
 
 pub use faults::{faults, header_faults, Judged};
-pub use lists::{counts_of, damage_list, groups_apart, list_from_packet, lists_for_packet, made_list, remark, List};
+pub use lists::{counts_of, damage_list, groups_apart, list_from_packet, lists_for_packet, long_runs, made_list, remark, List};
 pub use logs::{
     damage_log, log_bytes, log_cursor, log_fields, log_frame, log_frames, log_length, log_list, log_other, log_places, spoil_log_list,
     spoiled_log, LogField, SpoiledLog, LOG_LIST_SPOILS, LOG_SPOILS,

@@ -2,8 +2,8 @@
 
 use crate::{Random, Shape};
 use reference::{
-    step_ticks, Row, Settings, AMR_LENGTHS, AMR_WB_LENGTHS, MAX_BLOCK, MAX_OFFSET, MAX_PAYLOAD, MAX_REDUNDANT, MAX_ROWS, PRIMARY, ROW_AREA,
-    ROW_WORDS, SLOT_BYTES,
+    step_ticks, Row, Settings, AMR_LENGTHS, AMR_WB_LENGTHS, MAX_BLOCK, MAX_CHANNELS, MAX_OFFSET, MAX_PAYLOAD, MAX_REDUNDANT, MAX_ROWS,
+    MAX_RUN, PRIMARY, ROW_AREA, ROW_WORDS, SLOT_BYTES,
 };
 
 /// Words of rows, and the byte area that they point into.
@@ -47,22 +47,29 @@ pub fn made_list(r: &mut Random, s: Settings, time: u32, most_rows: usize, aim: 
     let mut run: Option<usize> = None;
     let (mut payload, mut run_blocks) = (if s.format >= 4 { 1usize } else { 0 }, 0usize);
     let mut length = pick_length(r, s);
+    // frame-blocks of this length that follow in any case
+    let mut stay = 0;
     let rows = match aim {
         Some(_) => most_rows,
         None => r.within(1, most_rows),
     };
     while words.len() / ROW_WORDS + channels <= rows.max(channels) {
-        // sometimes another length
-        if r.percent(25) {
+        // sometimes another length; sometimes no data for long
+        if stay > 0 {
+            stay -= 1;
+        } else if r.percent(25) {
             length = pick_length(r, s);
+            if length == 0 && s.format <= 2 && most_rows > MAX_RUN && r.percent(30) {
+                stay = if r.percent(50) { MAX_RUN - 3 + r.below(6) } else { r.below(most_rows) };
+            }
         }
         if let Some(aim) = aim {
             // close to the aim only frames of no data are added
-            let table = if s.format == 2 { run_blocks.div_ceil(2) } else { 0 };
+            let table = displacements(s, run_blocks);
             if payload + table + 4 + channels * length > aim {
                 length = 0;
             }
-            let entry = if s.format >= 3 { 1 } else { (run != Some(length)) as usize * 2 };
+            let entry = if s.format >= 3 { 1 } else { (run != Some(length) || run_blocks == MAX_RUN) as usize * 2 };
             if payload + table + entry > aim + r.below(4) {
                 break;
             }
@@ -76,8 +83,10 @@ pub fn made_list(r: &mut Random, s: Settings, time: u32, most_rows: usize, aim: 
         if s.format >= 3 {
             payload += 1;
         } else if !same {
-            payload += 2 + if s.format == 2 { run_blocks.div_ceil(2) } else { 0 };
+            payload += 2 + displacements(s, run_blocks);
             run_blocks = 0;
+        } else if run_blocks == MAX_RUN {
+            payload += 2;
         }
         run_blocks += 1;
         run = Some(length);
@@ -100,6 +109,15 @@ pub fn made_list(r: &mut Random, s: Settings, time: u32, most_rows: usize, aim: 
         }
     }
     List { words, bytes }
+}
+
+/// The bytes of a run's displacements.
+fn displacements(s: Settings, blocks: usize) -> usize {
+    if s.format == 2 {
+        blocks.div_ceil(2)
+    } else {
+        0
+    }
 }
 
 /// bytes of a SID of AMR and AMR-WB
@@ -133,6 +151,15 @@ pub fn groups_apart(s: Settings, words: &[u32]) -> u64 {
     }
 }
 
+/// In rows of kinds 1 and 2: how often frame-blocks of one length are more than the byte of an entry can count.
+pub fn long_runs(s: Settings, words: &[u32]) -> u64 {
+    let lengths: Vec<u32> = words.chunks_exact(ROW_WORDS).step_by(s.channels.max(1) as usize).map(|row| row[3]).collect();
+    match s.format {
+        1 | 2 => lengths.chunk_by(|a, b| a == b).filter(|run| run.len() > MAX_RUN).count() as u64,
+        _ => 0,
+    }
+}
+
 /// Sets the primary bit of each row or clears it, at random: the writers are to ignore it.
 pub fn remark(r: &mut Random, list: &mut List) {
     for row in list.words.chunks_exact_mut(ROW_WORDS) {
@@ -160,10 +187,12 @@ pub fn damage_list(r: &mut Random, s: Settings, list: &mut List) {
             }
         }
         2 => {
-            list.words[row + 1] = r.pick(&[0, 1, 2, 255, 256, 257, 258, 512, 513, 768, 1024, 1280, 1281, 1536, 1792, u32::MAX]);
+            let sound = 256 + r.within(s.channels as usize - 1, MAX_CHANNELS as usize + 1) as u32;
+            list.words[row + 1] =
+                r.pick(&[0, 1, 2, 255, 256, 257, 258, sound, sound, 512, 513, 768, 1024, 1280, 1281, 1536, 1792, u32::MAX]);
             list.words[row + 1] ^= r.pick(&[0, PRIMARY, 2 * PRIMARY, 3 * PRIMARY]);
         }
-        3 => list.words[row + 1] ^= r.pick(&[1, 2, 128, 256, 512, 1024, PRIMARY, 2 * PRIMARY, 1 << 31]),
+        3 => list.words[row + 1] ^= r.pick(&[1, 2, 4, 128, 256, 512, 1024, PRIMARY, 2 * PRIMARY, 1 << 31]),
         4 => list.words[row + 1] ^= 1 << r.within(16, 31),
         5 => list.words[row + 2] = r.pick(&[0, list.bytes.len() as u32, list.bytes.len() as u32 + 1, u32::MAX, 1 << 31]),
         6 => {
@@ -173,7 +202,8 @@ pub fn damage_list(r: &mut Random, s: Settings, list: &mut List) {
         7 => list.words[row + 3] = r.pick(&[0, 5, 12, 13, 14, 15, 17, 31, 32, 60, 61, 79, 80, 90, 220, 230, 240, 250, 320, 340, u32::MAX]),
         8 => list.words[row + 3] = list.words[row + 3].wrapping_add(r.pick(&[1, u32::MAX, 10, 20])),
         9 => {
-            let other = ROW_WORDS * r.below(rows);
+            // another row, or the neighbour: channels in another order
+            let other = ROW_WORDS * if r.percent(50) { r.below(rows) } else { (row / ROW_WORDS + 1) % rows };
             for i in 0..ROW_WORDS {
                 list.words.swap(row + i, other + i);
             }

@@ -262,7 +262,7 @@ pub fn spoiled_log(r: &mut Random, s: Settings, spoil: usize) -> SpoiledLog {
             let all = log_frames(s.format);
             match way {
                 "frame of under 6 bytes" => frame.content.truncate(r.below(FRAME_HEAD)),
-                "channel out of range" => frame.content[4] = s.channels.max(r.pick(&[1, 2, 3, 6, 128, 255])),
+                "channel out of range" => frame.content[4] = s.channels.max(r.pick(&[1, 2, 3, 6, 7, 128, 255])),
                 "class 0" => {
                     frame.content[5] = 0;
                     if r.percent(50) {
@@ -431,7 +431,7 @@ pub fn spoil_log_list(r: &mut Random, s: Settings, list: &mut List, spoil: usize
             }
         }
         "row's channel out of range" => {
-            let channel = r.pick(&[1, 2, 3, 6, 128, 255]).max(s.channels as u32);
+            let channel = r.pick(&[1, 2, 3, 6, 7, 128, 255]).max(s.channels as u32);
             list.words[at + 1] = list.words[at + 1] & !255 | channel;
         }
         "row's class not of the format" => {

@@ -2,13 +2,14 @@
 
 use crate::Random;
 use reference::{
-    Settings, AMR_LENGTHS, AMR_WB_LENGTHS, F_BIT, MAX_BLOCK, MAX_OFFSET, MAX_PACKET, MAX_ROWS, M_BIT, NO_REDUNDANCY, QUALITY_BIT, VERSION_2,
+    Settings, AMR_LENGTHS, AMR_WB_LENGTHS, F_BIT, MAX_BLOCK, MAX_CHANNELS, MAX_OFFSET, MAX_PACKET, MAX_ROWS, MAX_RUN, M_BIT, NO_REDUNDANCY,
+    QUALITY_BIT, VERSION_2,
 };
 
 /// Settings in range.
 pub fn settings(r: &mut Random) -> Settings {
     let format = r.within(1, 5) as u8;
-    let channels = r.within(1, most_channels(format) as usize) as u8;
+    let channels = channels(r, format);
     let payload_type = if r.percent(10) { r.pick(&[0, 127]) } else { r.below(128) as u8 };
     let redundancy_type = loop {
         let t = if r.percent(30) { NO_REDUNDANCY } else { r.below(128) as u8 };
@@ -22,10 +23,16 @@ pub fn settings(r: &mut Random) -> Settings {
 /// The most channels of a format.
 fn most_channels(format: u8) -> u8 {
     if format <= 2 {
-        2
+        MAX_CHANNELS
     } else {
         1
     }
+}
+
+/// A number of channels that a format has: often one or two.
+fn channels(r: &mut Random, format: u8) -> u8 {
+    let most = if r.percent(50) { most_channels(format).min(2) } else { most_channels(format) };
+    r.within(1, most as usize) as u8
 }
 
 /// Other settings in range, or the same.
@@ -33,7 +40,7 @@ pub fn other_settings(r: &mut Random, s: Settings) -> Settings {
     let other = settings(r);
     match r.below(4) {
         0 => Settings { format: other.format, channels: s.channels.min(most_channels(other.format)), ..s },
-        1 => Settings { channels: if s.format >= 3 { 1 } else { 3 - s.channels }, ..s },
+        1 => Settings { channels: channels(r, s.format), ..s },
         2 => Settings { payload_type: s.redundancy_type & 127, redundancy_type: NO_REDUNDANCY, ..s },
         _ => other,
     }
@@ -44,8 +51,8 @@ pub fn bad_settings(r: &mut Random) -> Settings {
     let s = settings(r);
     match r.below(6) {
         0 => Settings { format: r.pick(&[0, 6, 7, 128, 255]), ..s },
-        1 => Settings { channels: r.pick(&[0, 3, 4, 6, 255]), ..s },
-        2 => Settings { format: r.pick(&[3, 4, 5]), channels: 2, ..s },
+        1 => Settings { channels: r.pick(&[0, MAX_CHANNELS + 1, MAX_CHANNELS + 1, MAX_CHANNELS + 2, 12, 128, 255]), ..s },
+        2 => Settings { format: r.pick(&[3, 4, 5]), channels: r.within(2, MAX_CHANNELS as usize) as u8, ..s },
         3 => Settings { payload_type: r.pick(&[128, 129, 200, 255]), ..s },
         4 => Settings { redundancy_type: r.pick(&[129, 130, 200, 255]), ..s },
         _ => Settings { redundancy_type: s.payload_type, ..s },
@@ -126,24 +133,34 @@ pub fn payload(r: &mut Random, s: Settings, shape: Shape) -> Vec<u8> {
         _ => MAX_ROWS,
     };
     while entries.len() < most {
-        let (code, length) = code(r, s, shape.alike);
-        let blocks = if s.format >= 3 {
-            1
-        } else if r.percent(5) {
-            r.within(1, 64)
-        } else {
-            r.within(1, 5)
+        // no data often goes on in a further entry where the byte that counts frame-blocks is used up, or nearly
+        let on = entries.last().is_some_and(|last| last.length == 0 && last.blocks > MAX_RUN / 2) && r.percent(50);
+        let (code, length) = if on { (0, 0) } else { code(r, s, shape.alike) };
+        let mut blocks = match r.below(100) {
+            _ if s.format >= 3 => 1,
+            _ if on => r.within(1, MAX_RUN / 2),
+            0..=29 if length == 0 => r.within(1, MAX_RUN),
+            30..=49 if length == 0 => MAX_RUN - r.below(6),
+            0..=4 => r.within(1, 64),
+            _ => r.within(1, 5),
         };
-        let table = match s.format {
-            1 => 2,
-            2 => 2 + blocks.div_ceil(2),
-            _ => 1,
+        let size = |blocks: usize| {
+            let table = match s.format {
+                1 => 2,
+                2 => 2 + blocks.div_ceil(2),
+                _ => 1,
+            };
+            table + blocks * channels * length
         };
-        let size = table + blocks * channels * length;
-        if !entries.is_empty() && (bytes + size > shape.bytes || rows + blocks * channels > shape.rows) {
+        let fits = |blocks: usize| bytes + size(blocks) <= shape.bytes && rows + blocks * channels <= shape.rows;
+        if !entries.is_empty() && !fits(blocks) {
             break;
         }
-        bytes += size;
+        // the first entry mostly has as many frame-blocks as fit, but one at least
+        while entries.is_empty() && blocks > 1 && !fits(blocks) && r.percent(98) {
+            blocks -= 1;
+        }
+        bytes += size(blocks);
         rows += blocks * channels;
         entries.push(Entry { code, length, blocks });
     }

@@ -1,7 +1,7 @@
 //! Buffers spoiled: each clause of document 01's sound take broken, or bent to its edge.
 
 use crate::{other_settings, Random};
-use reference::{Buffer, PRIMARY, SLOTS};
+use reference::{Buffer, MAX_CHANNELS, PRIMARY, SLOTS};
 
 /// The number of ways to spoil a buffer.
 pub const SPOILS: usize = 25;
@@ -11,6 +11,7 @@ pub fn spoil(r: &mut Random, b: &mut Buffer, way: usize) {
     let held = b.held();
     let some = if held == 0 { 0 } else { r.below(held) };
     let other = if held == 0 { 0 } else { r.below(held) };
+    let channels = b.settings.channels as u32;
     let unused = if held == SLOTS { SLOTS - 1 } else { r.within(held, SLOTS - 1) };
     match way {
         // entries strictly ascending
@@ -54,8 +55,8 @@ pub fn spoil(r: &mut Random, b: &mut Buffer, way: usize) {
         11 => b.lengths[some] = r.pick(&[0, 5, 12, 13, 14, 15, 17, 23, 31, 32, 60, 80, 81, 90, 220, 230, 240, 250, 320, 340, u32::MAX]),
         12 => b.settings = other_settings(r, b.settings),
         // channels in range
-        13 => b.tags[some] = b.tags[some] / 256 * 256 + r.pick(&[0, 1, 2, 255]),
-        14 => b.last_channel = r.pick(&[0, 1, 2, 255, 256, u32::MAX]),
+        13 => b.tags[some] = b.tags[some] / 256 * 256 + r.pick(&[0, 1, 2, channels.saturating_sub(1), channels, MAX_CHANNELS as u32, 255]),
+        14 => b.last_channel = r.pick(&[0, 1, 2, channels.saturating_sub(1), channels, MAX_CHANNELS as u32, 255, 256, u32::MAX]),
         // unused entries zero
         15 => match r.below(4) {
             0 => b.times[unused] = r.word(),
@@ -68,7 +69,7 @@ pub fn spoil(r: &mut Random, b: &mut Buffer, way: usize) {
         17 => {
             b.drawn = 1;
             b.last_time = b.times[0];
-            b.last_channel = r.below(2) as u32;
+            b.last_channel = r.below(channels as usize + 1) as u32;
         }
         18 => b.drawn ^= 1,
         19 => b.drawn = r.pick(&[0, 1, 2, 3, 256, u32::MAX]),

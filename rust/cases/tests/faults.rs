@@ -47,7 +47,7 @@ fn offers_say_where_too() {
         assert_eq!(offered(&buffer, ROW_AREA, STORE_BYTES - 1), Fault { refusal: 12, offset: 0 });
         assert_eq!(offered(&Buffer { drawn: 2, ..buffer }, ROW_AREA, STORE_BYTES), Fault { refusal: 15, offset: 0 });
         assert_eq!(offered(&Buffer::zero(), ROW_AREA, STORE_BYTES), Fault { refusal: 11, offset: 0 });
-        let bad = Settings { channels: 3, ..settings };
+        let bad = Settings { channels: MAX_CHANNELS + 1, ..settings };
         assert_eq!(read(bad, &packet, &mut [0; ROW_AREA]), Err(Fault { refusal: 11, offset: 0 }));
         assert_eq!(read(settings, &packet, &mut [0; ROW_AREA - 1]), Err(Fault { refusal: 12, offset: 0 }));
     }

@@ -9,7 +9,8 @@ use std::collections::BTreeMap;
 #[test]
 fn packets_read_back() {
     let mut r = Random::new(51);
-    let mut written = 0;
+    // packets written; those of six channels, and those with runs over 255
+    let (mut written, mut six, mut long) = (0, 0, 0);
     for _ in 0..60_000 {
         let s = cases::settings(&mut r);
         let (mut list, counts) = cases::lists_for_packet(&mut r, s);
@@ -19,6 +20,8 @@ fn packets_read_back() {
             continue;
         };
         written += 1;
+        six += (s.channels == MAX_CHANNELS) as u32;
+        long += (cases::long_runs(s, &list.words) > 0) as u32;
         let packet = &out[..length as usize];
         cases::remark(&mut r, &mut list);
         let mut again = vec![0; MAX_PACKET];
@@ -43,7 +46,7 @@ fn packets_read_back() {
             assert_eq!(frame(packet, back), frame(&list.bytes, row));
         }
     }
-    assert!(written > 10_000);
+    assert!(written > 10_000 && six > 500 && long > 50, "{written} {six} {long}");
 }
 
 /// P6: rows that differ in their marks only are written alike or refused alike; a bit above the mark is 13, asked after 11 and 14.

@@ -35,7 +35,7 @@ pub use sizes::*;
 pub struct Settings {
     /// how the payloads are laid out
     pub format: Format,
-    /// 1 or 2; for GSM-HR, AMR and AMR-WB only 1
+    /// 1 to [`MAX_CHANNELS`]; for GSM-HR, AMR and AMR-WB only 1
     pub channels: u8,
     /// RTP payload type of the sound, 0 to 127
     pub payload_type: u8,

@@ -6,8 +6,10 @@ pub const MIN_PACKET: usize = 12;
 pub const MAX_PACKET: usize = 2048;
 /// Bytes of a payload written alone, at most.
 pub const MAX_PAYLOAD: usize = 2036;
+/// Channels of G.719, at most; the other formats have one.
+pub const MAX_CHANNELS: u8 = 6;
 /// Rows of a packet, at most.
-pub const MAX_ROWS: usize = 128;
+pub const MAX_ROWS: usize = 384;
 /// Words of a row.
 pub const ROW_WORDS: usize = 4;
 /// Words of a row area that is read into, at least.

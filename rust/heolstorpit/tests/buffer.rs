@@ -7,8 +7,8 @@ use cases::{Judged, Random, Shape};
 use common::{around, raw_drawn, settings, to_raw, Seen, Twice};
 use heolstorpit::{raw, Buffer, Class, Format, Refusal};
 use reference::{
-    step_ticks, Drawn, Fault, Settings, Verdicts, DRAW_AREA, MAX_PAYLOAD, MAX_ROWS, NO_REDUNDANCY, PRIMARY, ROW_AREA, ROW_WORDS, SLOTS,
-    STORE_BYTES,
+    step_ticks, Drawn, Fault, Settings, Verdicts, DRAW_AREA, F_BIT, MAX_CHANNELS, MAX_PAYLOAD, MAX_ROWS, NO_REDUNDANCY, PRIMARY, ROW_AREA,
+    ROW_WORDS, SLOTS, STORE_BYTES,
 };
 
 /// Counted: offers that leave as many frames held as there may be.
@@ -325,6 +325,83 @@ fn full_buffers() {
     p.seen.at_least(1000, &["no room", "better", "repeated", FULL]);
 }
 
+/// Packets of more frames than there are slots: SIDs of AMR and AMR-WB, up to 339, offered to a buffer that holds some, and again.
+#[test]
+fn more_frames_than_slots() {
+    let mut r = Random::new(31);
+    let mut p = Pair::new(&mut r);
+    for (format, entry) in [(4u8, 0x44u8), (5, 0x4C)] {
+        let s = Settings { format, channels: 1, payload_type: 97, redundancy_type: NO_REDUNDANCY };
+        for frames in [SLOTS - 1, SLOTS, SLOTS + 1, 255, 256, 257, 338, 339] {
+            for held in [0u32, 1, 100] {
+                p.fresh(s);
+                let sids = |r: &mut Random, time: u32, frames: usize| {
+                    let mut packet = vec![0x80, 97, 0, 1];
+                    packet.extend(time.to_be_bytes());
+                    packet.extend([0, 0, 0, 3, 0xF0]);
+                    packet.extend((1..=frames).map(|i| if i < frames { F_BIT | entry } else { entry }));
+                    packet.extend(r.bytes(5 * frames));
+                    packet
+                };
+                // some in between, after and apart
+                for i in 0..held {
+                    let packet = sids(&mut r, step_ticks(format) * 7 * i, 1);
+                    p.offer(&packet);
+                }
+                let times: std::collections::BTreeSet<usize> = (0..held as usize).map(|i| 7 * i).chain(0..frames).collect();
+                for _ in 0..2 {
+                    let packet = sids(&mut r, 0, frames);
+                    p.offer(&packet);
+                    assert_eq!((p.fault, p.buffer.held()), ((0, 0), times.len().min(SLOTS)));
+                }
+                while p.draw().unwrap() != Drawn::Empty {}
+                let packet = sids(&mut r, u32::MAX - 80, frames);
+                p.offer(&packet);
+            }
+        }
+    }
+    p.seen.report("buffer, more frames than slots");
+    p.seen.at_least(500, &["no room", "inserted", "repeated", "better", "late"]);
+}
+
+/// One to six channels, frame-blocks of their own numbers in any order, all drawn by time and then channel; after each draw offered again,
+/// with those not after it late; and channels out of range in what is held and what was drawn.
+#[test]
+fn channels_in_order() {
+    let mut r = Random::new(32);
+    let mut p = Pair::new(&mut r);
+    for (format, channels) in [1u8, 2].into_iter().flat_map(|format| (1..=MAX_CHANNELS).map(move |channels| (format, channels))) {
+        let s = Settings { format, channels, payload_type: 97, redundancy_type: NO_REDUNDANCY };
+        for base in [0u32, u32::MAX - 2000] {
+            let block = |number: u32| {
+                let mut packet = vec![0x80, 97, 0, 1];
+                packet.extend(base.wrapping_add(960 * number).to_be_bytes());
+                packet.extend([0, 0, 0, 3, 0x20, 1]);
+                packet.extend(vec![0; format as usize - 1]);
+                packet.extend((0..channels as u32).flat_map(|channel| [(8 * number + channel) as u8; 80]));
+                packet
+            };
+            p.fresh(s);
+            for number in [3, 0, 4, 1, 2] {
+                p.offer(&block(number));
+            }
+            for (number, channel) in (0..5).flat_map(|number| (0..channels as u32).map(move |channel| (number, channel))) {
+                for way in [13, 14, 17] {
+                    let mut spoiled = p.buffer;
+                    cases::spoil(&mut r, &mut spoiled, way);
+                    p.draw_from(spoiled, STORE_BYTES, DRAW_AREA).1.ok();
+                }
+                let time = base.wrapping_add(960 * number);
+                assert_eq!(p.draw(), Ok(Drawn::Frame { time, channel, class: 1, length: 80, primary: true }));
+                p.offer(&block(number));
+            }
+            assert_eq!(p.draw(), Ok(Drawn::Empty));
+        }
+    }
+    p.seen.report("buffer, channels in order");
+    p.seen.at_least(100, &["late", "repeated", "inserted", "refusal 15"]);
+}
+
 /// Copies of one frame of AMR and AMR-WB, of every type, good and damaged, and equal, greater and less in a byte: each offered before and
 /// after each other one, then drawn.
 #[test]
@@ -598,7 +675,7 @@ fn fresh_buffers() {
     let mut r = Random::new(24);
     let mut p = Pair::new(&mut r);
     for format in 0..=255 {
-        for channels in [0, 1, 2, 3, 255] {
+        for channels in (0..=MAX_CHANNELS + 2).chain([255]) {
             for payload_type in [0, 1, 127, 128, 129, 255] {
                 for redundancy_type in [0, 1, 127, 128, 129, 255] {
                     p.fresh(Settings { format, channels, payload_type, redundancy_type });

@@ -284,6 +284,6 @@ fn figures() {
         ($($name:ident)*) => { $(assert_eq!([heolstorpit::$name as usize, reference::$name as usize], [defined(stringify!($name)); 2]);)* };
     }
     same!(MAX_PACKET MAX_PAYLOAD MAX_ROWS ROW_WORDS ROW_AREA SLOTS SLOT_BYTES STORE_BYTES DRAW_AREA PRIMARY MAX_REDUNDANT NO_REDUNDANCY NO_MODE_REQUEST);
-    same!(LOG_FIRST LOG_FRAME LOG_LAST);
+    same!(LOG_FIRST LOG_FRAME LOG_LAST MAX_CHANNELS);
     assert_eq!(heolstorpit::MIN_PACKET, reference::MIN_PACKET);
 }

@@ -8,7 +8,8 @@ use cases::{List, LogField, Random, SpoiledLog, LOG_LIST_SPOILS, LOG_SPOILS};
 use common::{raw_cursor, raw_log_written, raw_opened, raw_stepped, settings, Seen, Twice};
 use heolstorpit::{raw, write_log, Class, LogFrame, LogReader, Refusal, Row};
 use reference::{
-    LogCursor, LogStep, Settings, WholeLog, AREA_TOO_SHORT, LOG_FIRST, LOG_FRAME, LOG_LAST, MAX_PACKET, PRIMARY, ROW_WORDS, SLOT_BYTES,
+    LogCursor, LogStep, Settings, WholeLog, AREA_TOO_SHORT, LOG_FIRST, LOG_FRAME, LOG_LAST, MAX_CHANNELS, MAX_PACKET, PRIMARY, ROW_WORDS,
+    SLOT_BYTES,
 };
 
 /// Rows of a list, at most, and the bytes of its log.
@@ -16,10 +17,10 @@ const MOST_ROWS: usize = 12;
 const MOST: usize = LOG_FIRST + MOST_ROWS * (LOG_FRAME + SLOT_BYTES) + LOG_LAST;
 
 /// The settings of every format and number of channels.
-const EVERY: [(u8, u8); 7] = [(1, 1), (1, 2), (2, 1), (2, 2), (3, 1), (4, 1), (5, 1)];
-
-fn every_settings(r: &mut Random) -> [Settings; 7] {
-    EVERY.map(|(format, channels)| Settings { format, channels, ..cases::settings(r) })
+fn every_settings(r: &mut Random) -> Vec<Settings> {
+    let most = |format| if format <= 2 { MAX_CHANNELS } else { 1 };
+    let every = (1..=5).flat_map(|format| (1..=most(format)).map(move |channels| (format, channels)));
+    every.map(|(format, channels)| Settings { format, channels, ..cases::settings(r) }).collect()
 }
 
 struct Comparer {
@@ -260,7 +261,7 @@ fn every_setting() {
     let mut c = Comparer::new(&mut r);
     let types = [0, 1, 2, 96, 97, 126, 127, 128, 129, 254, 255];
     for format in (0..=7).chain([128, 255]) {
-        for channels in (0..=4).chain([6, 255]) {
+        for channels in (0..=MAX_CHANNELS + 2).chain([128, 255]) {
             for (payload_type, redundancy_type) in types.into_iter().flat_map(|t| types.map(|other| (t, other))) {
                 let s = Settings { format, channels, payload_type, redundancy_type };
                 let log = cases::log_bytes(&[LogField::first(s), LogField::last(0)]);

@@ -5,19 +5,21 @@ mod common;
 use cases::{Judged, Random, Shape};
 use common::{around, settings, Seen, Twice};
 use heolstorpit::{raw, Refusal};
-use reference::{Fault, Settings, F_BIT, MAX_PACKET, MAX_PAYLOAD, MAX_ROWS, PRIMARY, ROW_AREA, ROW_WORDS};
+use reference::{Fault, Settings, F_BIT, MAX_CHANNELS, MAX_PACKET, MAX_PAYLOAD, MAX_ROWS, PRIMARY, ROW_AREA, ROW_WORDS};
 
 struct Comparer {
     area: Twice<u32>,
     seen: Seen,
-    /// rows by class, and packets of AMR by mode request
+    /// rows by class and by channel, and packets of AMR by mode request
     classes: [u64; 7],
+    channels: [u64; MAX_CHANNELS as usize],
     requests: [u64; 16],
 }
 
 impl Comparer {
     fn new(r: &mut Random) -> Comparer {
-        Comparer { area: Twice::new(ROW_AREA + 64, |words| r.fill_words(words)), seen: Seen::default(), classes: [0; 7], requests: [0; 16] }
+        let area = Twice::new(ROW_AREA + 64, |words| r.fill_words(words));
+        Comparer { area, seen: Seen::default(), classes: [0; 7], channels: [0; MAX_CHANNELS as usize], requests: [0; 16] }
     }
 
     /// Reads one packet with both; answers the refusal and the offset.
@@ -35,10 +37,12 @@ impl Comparer {
         let rows = &theirs[..ROW_WORDS * numbers.rows as usize];
         if expected.is_ok() && packet[1] & 127 == s.payload_type {
             self.seen.add(APART, cases::groups_apart(s, rows));
+            self.seen.add(LONG, cases::long_runs(s, rows));
         }
         for row in rows.chunks_exact(ROW_WORDS) {
             let (class, primary) = (row[1] % PRIMARY / 256, row[1] / PRIMARY == 1);
             self.classes[class as usize] += 1;
+            self.channels[row[1] as usize % 256] += 1;
             self.seen.add(MARKS[2 * (class == 0) as usize + primary as usize], 1);
         }
         if expected.is_ok() && s.format >= 4 {
@@ -74,6 +78,9 @@ const FULL: &str = "packets of the most rows";
 
 /// Counted: rows by mark; with data, without.
 const MARKS: [&str; 4] = ["rows of redundant blocks", "primary rows", "no-data rows of redundant blocks", "primary no-data rows"];
+
+/// Counted: runs of over 255 frame-blocks, in plain packets.
+const LONG: &str = "runs over 255";
 
 /// Counted: groups of another length than the one before and apart from it, in plain packets.
 const APART: &str = "groups apart";
@@ -113,7 +120,7 @@ fn shape(r: &mut Random) -> Shape {
         0 => MAX_PAYLOAD,
         1 => MAX_PAYLOAD - 16 + r.below(40),
         2 => r.below(MAX_PAYLOAD),
-        _ => r.below(400),
+        _ => r.below(600),
     };
     let rows = match r.below(10) {
         0 => MAX_ROWS,
@@ -141,9 +148,11 @@ fn packets_valid_and_damaged() {
     }
     c.seen.report("read, packets valid and damaged");
     c.seen.at_least(1000, &REFUSALS);
-    c.seen.at_least(100, &[FULL]);
+    c.seen.at_least(100, &[FULL, LONG]);
     c.seen.at_least(100, &LATER);
-    c.seen.at_least(10_000, &[APART]);
+    assert!(c.channels.iter().all(|n| *n >= 10_000), "rows by channel: {:?}", c.channels);
+    // more channels, fewer entries
+    c.seen.at_least(5000, &[APART]);
     c.seen.at_least(10_000, &MARKS);
     amr_seen(&c, 10_000);
 }
@@ -216,13 +225,13 @@ fn limits() {
     let mut r = Random::new(4);
     let mut c = Comparer::new(&mut r);
     for format in [0, 1, 2, 3, 4, 5, 6, 7, 128, 255] {
-        for channels in [0, 1, 2, 3, 4, 255] {
+        for channels in (0..=MAX_CHANNELS + 2).chain([255]) {
             for payload_type in [0, 1, 97, 126, 127, 128, 129, 255] {
                 for redundancy_type in [0, 1, 97, 127, 128, 129, 255] {
                     let s = Settings { format, channels, payload_type, redundancy_type };
                     let packet = cases::packet(
                         &mut r,
-                        Settings { format: format % 6, channels: channels.clamp(1, 2), ..s },
+                        Settings { format: format % 6, channels: channels.clamp(1, MAX_CHANNELS), ..s },
                         Shape { bytes: 300, rows: 20, alike: false },
                     );
                     for area in [0, ROW_AREA - 1, ROW_AREA, ROW_AREA + 1] {
@@ -257,12 +266,12 @@ fn limits() {
             }
         }
     }
-    // Rows around the most over one and two entries, one and two channels, plain and split over blocks.
-    for channels in [1u8, 2] {
+    // Rows around the most over one and two entries, each number of channels, plain and split over blocks.
+    for channels in 1..=MAX_CHANNELS {
         for format in [1u8, 2] {
             let s = Settings { format, channels, payload_type: 97, redundancy_type: 98 };
             for a in 0..=255u8 {
-                for b in [0u8, 1, 2, 63, 64, 65, 127, 128, 129, 255] {
+                for b in [0u8, 1, 2, 63, 64, 65, 127, 128, 129, 130, 255] {
                     let entry = |more: u8, blocks: u8| {
                         let mut bytes = vec![more, blocks];
                         if format == 2 {
@@ -394,7 +403,7 @@ fn faults() {
             let friendly = heolstorpit::read(settings(*s).into(), &spoiled.packet, &mut [0; ROW_AREA]).unwrap_err();
             assert_eq!((friendly.refusal.number(), friendly.offset), (spoiled.refusal, None));
         }
-        for bad in [Settings { format: 0, ..*s }, Settings { channels: 3, ..*s }, Settings { redundancy_type: 97, ..*s }] {
+        for bad in [Settings { format: 0, ..*s }, Settings { channels: MAX_CHANNELS + 1, ..*s }, Settings { redundancy_type: 97, ..*s }] {
             assert_eq!(c.compare(bad, packet, ROW_AREA), (11, 0));
         }
         assert_eq!(c.compare(*s, packet, ROW_AREA - 1), (12, 0));

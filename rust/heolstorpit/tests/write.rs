@@ -7,8 +7,8 @@ use cases::{List, Random, Shape};
 use common::{settings, Seen, Twice};
 use heolstorpit::{raw, Header};
 use reference::{
-    Settings, AMR_LENGTHS, AMR_WB_LENGTHS, HEADER_BYTES, MAX_BLOCK, MAX_MODE_REQUEST, MAX_OFFSET, MAX_PACKET, MAX_PAYLOAD, MAX_ROWS,
-    PRIMARY, ROW_WORDS,
+    Settings, AMR_LENGTHS, AMR_WB_LENGTHS, HEADER_BYTES, MAX_BLOCK, MAX_CHANNELS, MAX_MODE_REQUEST, MAX_OFFSET, MAX_PACKET, MAX_PAYLOAD,
+    MAX_ROWS, PRIMARY, ROW_WORDS,
 };
 
 /// Bytes lent to be written to, at most: some more than any packet.
@@ -19,6 +19,9 @@ const FULL: &str = "payloads of the most bytes";
 
 /// Counted: groups of another length than the one before and apart from it, in lists that are written.
 const APART: &str = "groups apart";
+
+/// Counted: lists that are written with a run of over 255 frame-blocks.
+const LONG: &str = "lists written with a run over 255";
 
 /// Counted: rows of lists that are written, by the mark given; and calls with a bit above the mark, with nothing else that is refused.
 const MARKS: [&str; 2] = ["rows given unmarked", "rows given as primary"];
@@ -142,7 +145,7 @@ fn list(r: &mut Random, s: Settings) -> List {
             cases::made_list(r, s, time, MAX_ROWS, Some(aim))
         }
         5 => cases::made_list(r, s, time, MAX_ROWS + 12, None),
-        _ => cases::made_list(r, s, time, 16, None),
+        _ => cases::made_list(r, s, time, 12 + 4 * s.channels as usize, None),
     }
 }
 
@@ -170,6 +173,8 @@ fn payloads() {
         }
         if written.is_ok() {
             c.seen.add(APART, cases::groups_apart(s, &list.words));
+            c.seen.add(LONG, cases::long_runs(s, &list.words));
+            c.seen.add(format!("payloads of {} channels", s.channels), 1);
         }
         c.marks(written, &list);
         c.out_lengths(&mut r, written, |c, out| {
@@ -179,8 +184,13 @@ fn payloads() {
     c.seen.report("write_payload");
     c.seen.at_least(1000, &["accepted", "refusal 11", "refusal 12", "refusal 13", "refusal 14"]);
     c.seen.at_least(20, &[FULL]);
+    c.seen.at_least(500, &[LONG]);
+    for channels in 1..=MAX_CHANNELS {
+        c.seen.at_least(3000, &[&format!("payloads of {channels} channels")]);
+    }
     c.seen.at_least(1000, &[OVER]);
-    c.seen.at_least(10_000, &[APART]);
+    // more channels, fewer entries
+    c.seen.at_least(5000, &[APART]);
     c.seen.at_least(10_000, &MARKS);
 }
 
@@ -224,6 +234,7 @@ fn packets() {
         let written = c.packet(s, head, &counts, &list, MOST);
         if let Ok(length) = written {
             c.seen.add(format!("packets of {} lists", counts.len()), 1);
+            c.seen.add(LONG, (cases::long_runs(s, &list.words) > 0) as u64);
             if length as usize >= MAX_PACKET - 3 {
                 c.seen.add("packets of the most bytes, or up to three fewer", 1);
             }
@@ -252,6 +263,7 @@ fn packets() {
             MARKS[1],
         ],
     );
+    c.seen.at_least(100, &[LONG]);
 }
 
 /// P6: lists that can be written, with other marks: the same bytes, which read back with the marks of their lists. A bit above the mark, in
@@ -343,8 +355,10 @@ fn limits() {
     }
     for format in [1u8, 2] {
         let s = Settings { format, channels: 1, payload_type: 3, redundancy_type: 4 };
-        for none in 0..=MAX_ROWS {
-            for (length, sound) in [(320, 6), (80, 24), (80, 25), (220, 9), (240, 8), (100, 20), (170, 6), (80, 12), (90, 11)] {
+        for none in 0..=MAX_ROWS + 2 {
+            for (length, sound) in
+                [(80, 0), (170, 5), (170, 11), (320, 6), (80, 24), (80, 25), (220, 9), (240, 8), (100, 20), (170, 6), (80, 12), (90, 11)]
+            {
                 let list = List { words: made(960, length, 0, sound, none), bytes: bytes.clone() };
                 c.payload(s, 5, &list, MOST).ok();
                 let one = made(960, 80, 9600, 1, 0);
@@ -395,6 +409,21 @@ fn limits() {
                     let words = [&list.words[..], &one[..]].concat();
                     c.packet(s, head, &[(sound + none) as u32, 1], &List { words, bytes: bytes.clone() }, MOST).ok();
                 }
+            }
+        }
+    }
+    // rows around the most, of no data, in one to six channels; each with a channel too many, one too few, and two in another order
+    for (format, channels) in [1u8, 2].into_iter().flat_map(|format| (1..=MAX_CHANNELS).map(move |channels| (format, channels))) {
+        let s = Settings { format, channels, payload_type: 3, redundancy_type: 4 };
+        let each = channels as usize;
+        for rows in (MAX_ROWS - 2 * each..=MAX_ROWS + 2 * each).chain(1..=13) {
+            let words: Vec<u32> = (0..rows).flat_map(|i| [960 * (i / each) as u32, (i % each) as u32, 7, 0]).collect();
+            let written = c.payload(s, 5, &List { words: words.clone(), bytes: bytes.clone() }, MOST);
+            assert_eq!(written.is_ok(), rows <= MAX_ROWS && rows % each == 0);
+            for place in 0..each.min(rows - 1) {
+                let mut other = words.clone();
+                other.swap(ROW_WORDS * place + 1, ROW_WORDS * place + 5);
+                assert_eq!(c.payload(s, 5, &List { words: other, bytes: bytes.clone() }, MOST).is_ok(), each == 1 && written.is_ok());
             }
         }
     }

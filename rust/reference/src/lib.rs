@@ -32,12 +32,12 @@ pub struct Settings {
 
 impl Settings {
     /// "Settings: kind 1 to 3; channels 1 or 2 (kind 3: only 1); plain payload type 0 to 127; redundancy type 0 to
-    /// 127 and not the plain one, or 128 for none." Document 02: "kinds 4 and 5", "mono".
+    /// 127 and not the plain one, or 128 for none." Document 02: "kinds 4 and 5", "mono"; "Channels go to 1 to 6 for kinds 1 and 2".
     pub fn in_range(&self) -> bool {
         let format = (1..=5).contains(&self.format);
         let channels = match self.format {
             3..=5 => self.channels == 1,
-            _ => self.channels == 1 || self.channels == 2,
+            _ => (1..=MAX_CHANNELS).contains(&self.channels),
         };
         let plain = self.payload_type <= 127;
         let redundancy =

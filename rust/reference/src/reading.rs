@@ -270,7 +270,7 @@ fn payload_rows(settings: Settings, packet: &[u8], part: Part, found: &mut Found
         return Err(fault(BAD_DATA_LENGTH, at));
     }
 
-    // "Sound follows the last entry: frame-block by frame-block, channels 0, 1 within each."
+    // "Sound follows the last entry: frame-block by frame-block, channels 0, 1 within each", and so on to the last channel
     let mut now = time;
     for entry in &entries {
         for step in &entry.steps {

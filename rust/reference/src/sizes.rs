@@ -1,14 +1,21 @@
-//! The figures of document 01's "Sizes" and the numbers of its refusals.
+//! The figures of document 01's "Sizes", those that document 02's P12 changes among them, and the numbers of its refusals.
 
 pub const HEADER_BYTES: usize = 12;
 pub const MIN_PACKET: usize = 12;
 pub const MAX_PACKET: usize = 2048;
 /// "a payload written alone at most 2,036 bytes"
 pub const MAX_PAYLOAD: usize = 2036;
-pub const MAX_ROWS: usize = 128;
+/// document 02: "Channels go to 1 to 6 for kinds 1 and 2"
+pub const MAX_CHANNELS: u8 = 6;
+/// document 02: "rows to 384"
+pub const MAX_ROWS: usize = 384;
 pub const ROW_WORDS: usize = 4;
-/// the row area read into, in words
-pub const ROW_AREA: usize = 512;
+/// the row area read into; document 02: "row area to 1,536 words"
+pub const ROW_AREA: usize = 1536;
+/// what the byte of an entry "counting frame-blocks" can say
+pub const MAX_RUN: usize = 255;
+/// document 02: "A run over 255 frame-blocks is written as 254, then the rest."
+pub const CUT_RUN: usize = 254;
 pub const SLOTS: usize = 192;
 pub const SLOT_BYTES: usize = 320;
 pub const STORE_BYTES: usize = 61_440;

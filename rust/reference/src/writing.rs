@@ -97,7 +97,8 @@ fn frame<'a>(bytes: &'a [u8], row: &Row) -> &'a [u8] {
 }
 
 /// "In kinds 1 and 2 writing uses one entry for each longest run of frame-blocks of equal length, channels of a
-/// frame-block together and equal in length; in kind 3, one entry a frame." So in kinds 4 and 5, after the payload header.
+/// frame-block together and equal in length; in kind 3, one entry a frame." So in kinds 4 and 5, after the payload header. Document 02: "A
+/// run over 255 frame-blocks is written as 254, then the rest."
 /// Nothing where a class and length has no code, or a step no displacement.
 fn canonical(settings: Settings, mode_request: u8, list: &[Row], bytes: &[u8]) -> Option<Vec<u8>> {
     let channels = settings.channels as usize;
@@ -116,7 +117,7 @@ fn canonical(settings: Settings, mode_request: u8, list: &[Row], bytes: &[u8]) -
         }
     } else {
         let blocks: Vec<&[Row]> = list.chunks(channels).collect();
-        let runs: Vec<&[&[Row]]> = blocks.chunk_by(|a, b| a[0].length == b[0].length).collect();
+        let runs: Vec<&[&[Row]]> = blocks.chunk_by(|a, b| a[0].length == b[0].length).flat_map(cut).collect();
         let mut before = None;
         for (i, run) in runs.iter().enumerate() {
             let first = run[0][0];
@@ -149,6 +150,15 @@ fn canonical(settings: Settings, mode_request: u8, list: &[Row], bytes: &[u8]) -
     Some(payload)
 }
 
+/// A run as the entries that it is written with.
+fn cut<'a, 'b>(run: &'a [&'b [Row]]) -> Vec<&'a [&'b [Row]]> {
+    if run.len() <= MAX_RUN {
+        return vec![run];
+    }
+    let (first, rest) = run.split_at(CUT_RUN);
+    vec![first, rest]
+}
+
 /// The frame-blocks between two neighbours at these times; nothing where four bits cannot say it.
 fn displacement(before: u32, time: u32) -> Option<u8> {
     let ticks = time.wrapping_sub(before);
@@ -177,7 +187,7 @@ fn packet_of(settings: Settings, head: Head, counts: &[u32], rows: &[Row], bytes
     if counts.iter().map(|count| *count as u64).sum::<u64>() != rows.len() as u64 {
         return None;
     }
-    // "128 rows"
+    // "128 rows", with document 02's figure
     if rows.len() > MAX_ROWS {
         return None;
     }

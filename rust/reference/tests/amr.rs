@@ -126,12 +126,12 @@ fn tables_that_run_out() {
             assert_eq!(rows(settings, &packet(PLAIN, 0, &[payload])), Err(6));
         }
         assert_eq!(rows(settings, &packet(PLAIN, 0, &[&[0xF0, 0xFC, 0x58]])), Err(7));
-        // 128 rows of no data are the most; with one more 9, but 7 where that is of a reserved type
-        let most = [&[0xFC; 127][..], &[0x7C]].concat();
-        assert_eq!(rows(settings, &packet(PLAIN, 0, &[&[0xF0], &most])).map(|(rows, _)| rows.len()), Ok(128));
+        // 384 rows of no data are the most; with one more 9, but 7 where that is of a reserved type
+        let most = [&[0xFC; 383][..], &[0x7C]].concat();
+        assert_eq!(rows(settings, &packet(PLAIN, 0, &[&[0xF0], &most])).map(|(rows, _)| rows.len()), Ok(384));
         assert_eq!(rows(settings, &packet(PLAIN, 0, &[&[0xF0, 0xFC], &most])), Err(9));
-        assert_eq!(rows(settings, &packet(PLAIN, 0, &[&[0xF0], &[0xFC; 128], &[0x58]])), Err(7));
-        assert_eq!(rows(settings, &packet(PLAIN, 0, &[&[0xF0], &[0xFC; 128]])), Err(6));
+        assert_eq!(rows(settings, &packet(PLAIN, 0, &[&[0xF0], &[0xFC; 384], &[0x58]])), Err(7));
+        assert_eq!(rows(settings, &packet(PLAIN, 0, &[&[0xF0], &[0xFC; 384]])), Err(6));
     }
 }
 

@@ -50,11 +50,13 @@ fn reads_to(settings: Settings, table: &[u8], unit: usize) -> Vec<(u32, u32, u32
 
 #[test]
 fn thirteen_exactly_when_no_table_reads_to_it() {
-    for (format, channels) in [(1, 1), (2, 1), (1, 2), (2, 2)] {
+    // of six channels no more frame-blocks than fit a packet
+    for (format, channels, most) in [(1, 1, 4), (2, 1, 4), (1, 2, 4), (2, 2, 4), (1, 6, 3), (2, 6, 3)] {
         let settings = Settings { format, channels, payload_type: 97, redundancy_type: NO_REDUNDANCY };
         let (mut written, mut refused) = (0, 0);
-        for blocks in 1..=4usize {
-            let readable: std::collections::HashSet<_> = tables(format, blocks).iter().map(|t| reads_to(settings, t, 10)).collect();
+        for blocks in 1..=most {
+            let unit = 10 * channels as usize;
+            let readable: std::collections::HashSet<_> = tables(format, blocks).iter().map(|t| reads_to(settings, t, unit)).collect();
             // Every list of this many frame-blocks with steps 0 to 3 and those lengths, classes 0 and 1.
             let choices = 4 * 3;
             for number in 0..(choices as u32).pow(blocks as u32) {
@@ -142,6 +144,54 @@ fn thirteen_exactly_when_no_amr_table_reads_to_it() {
     }
 }
 
+/// The fewest bytes that entries of these many frame-blocks can take, however they are cut: "a byte counting frame-blocks" says 1 to 255,
+/// and kind 2 has four bits for each, and four more if the number is odd.
+fn shortest_entries(format: u8, blocks: usize) -> usize {
+    let mut shortest = vec![0];
+    for n in 1..=blocks {
+        let size = |last: usize| 2 + if format == 2 { last.div_ceil(2) } else { 0 };
+        shortest.push((1..=n.min(255)).map(|last| shortest[n - last] + size(last)).min().unwrap());
+    }
+    shortest[blocks]
+}
+
+/// Lists with long runs of no data between frames, of about 2,036 bytes: 13 exactly where no way of cutting the runs into entries has room.
+/// Where there is one, the payload written is one of the shortest.
+#[test]
+fn thirteen_exactly_by_size_with_long_runs() {
+    let lengths: Vec<usize> = (80..=220).step_by(10).chain((240..=320).step_by(20)).collect();
+    for format in [1, 2] {
+        let settings = Settings { format, channels: 1, payload_type: 97, redundancy_type: NO_REDUNDANCY };
+        let mut seen = std::collections::BTreeSet::new();
+        for none in 1..=MAX_ROWS {
+            let quiet = shortest_entries(format, none);
+            for before in 0..=6usize {
+                for after in 1..=4usize {
+                    for length in lengths.iter().filter(|length| **length != 320) {
+                        let tables = quiet + shortest_entries(format, before) + shortest_entries(format, after);
+                        let size = tables + 320 * before + length * after;
+                        if before + none + after > MAX_ROWS || !(MAX_PAYLOAD - 6..=MAX_PAYLOAD + 6).contains(&size) {
+                            continue;
+                        }
+                        let runs = [(320, before), (0, none), (*length as u32, after)];
+                        let frames = runs.iter().flat_map(|(length, blocks)| vec![*length; *blocks]);
+                        let words: Vec<u32> =
+                            frames.enumerate().flat_map(|(i, length)| [960 * i as u32, length.min(1) * 256, 0, length]).collect();
+                        let answer = write_payload(settings, NO_MODE_REQUEST, &words, &[0; SLOT_BYTES], &mut [0; MAX_PAYLOAD]);
+                        let expected = if size <= MAX_PAYLOAD { Ok(size as u32) } else { Err(NOT_WRITABLE) };
+                        assert_eq!(answer, expected, "{format} {runs:?}");
+                        seen.insert((none > 255, size));
+                    }
+                }
+            }
+        }
+        // in kind 1 the run over 255 is what is too much: tables of 6 bytes, or 8; in kind 2 there is every size
+        let sizes = |long| seen.iter().filter(|(over, _)| *over == long).map(|(_, size)| *size).collect::<Vec<_>>();
+        let every: Vec<usize> = (MAX_PAYLOAD - 6..=MAX_PAYLOAD + 6).collect();
+        assert_eq!([sizes(false), sizes(true)], if format == 1 { [vec![2036], vec![2038]] } else { [every.clone(), every] });
+    }
+}
+
 #[test]
 fn edges_of_the_sizes() {
     let settings = Settings { format: 1, channels: 1, payload_type: 97, redundancy_type: 121 };
@@ -159,8 +209,8 @@ fn edges_of_the_sizes() {
     assert_eq!(write_packet(settings, NO_MODE_REQUEST, true, 1, 2, &[8], &list(&lengths), &bytes, &mut out), Ok(MAX_PACKET as u32));
     lengths.insert(0, 0);
     assert_eq!(write_payload(settings, NO_MODE_REQUEST, &list(&lengths), &bytes, &mut out), Err(13));
-    // the most rows, of no data, and one more
-    assert_eq!(write_payload(settings, NO_MODE_REQUEST, &list(&[0; MAX_ROWS]), &[], &mut out), Ok(2));
+    // the most rows, of no data, in two entries; and one more
+    assert_eq!(write_payload(settings, NO_MODE_REQUEST, &list(&[0; MAX_ROWS]), &[], &mut out), Ok(4));
     assert_eq!(write_payload(settings, NO_MODE_REQUEST, &list(&[0; MAX_ROWS + 1]), &[], &mut out), Err(13));
     // an empty list, a part of a row, a row outside
     assert_eq!(write_payload(settings, NO_MODE_REQUEST, &[], &bytes, &mut out), Err(13));

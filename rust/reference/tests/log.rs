@@ -125,7 +125,7 @@ fn content_not_allowed() {
     for first in [&[1, 0, 0][..], &[1, 0, 3, 3, 1, 97], &[1, 0, 5, 3, 1, 97, 128, 0]] {
         assert_eq!(frames_and_ending(&[first, &last(0)]), (0, 19));
     }
-    for content in [[0, 1, 97, 128], [6, 1, 97, 128], [3, 2, 97, 128], [1, 0, 97, 128], [1, 3, 97, 128], [3, 1, 128, 97], [3, 1, 97, 97]] {
+    for content in [[0, 1, 97, 128], [6, 1, 97, 128], [3, 2, 97, 128], [1, 0, 97, 128], [1, 7, 97, 128], [3, 1, 128, 97], [3, 1, 97, 97]] {
         assert_eq!(frames_and_ending(&[&[1, 0, 4], &content, &last(0)]), (0, 19));
     }
     // tag 2: under 6 bytes, no frame byte, one more or less; channel 1; classes 0, 3, 5, 6
@@ -163,7 +163,8 @@ fn wrong_counts() {
 #[test]
 fn frames_that_the_settings_allow() {
     let of = |format: u8, channels: u8| -> usize {
-        let all = [0, 1, 2, 255]
+        let all = (0..=7)
+            .chain([255])
             .into_iter()
             .flat_map(|channel| (0..=8).flat_map(move |class| (0..400u16).map(move |length| (channel, class, length))));
         all.filter(|(channel, class, length)| {
@@ -175,8 +176,11 @@ fn frames_that_the_settings_allow() {
         })
         .count()
     };
-    // G.719 has 20 lengths, in one or two channels; GSM-HR sound and SID; AMR 8 of sound and a SID, AMR-WB 9, each good or damaged
-    assert_eq!([of(1, 1), of(1, 2), of(2, 1), of(2, 2), of(3, 1), of(4, 1), of(5, 1)], [20, 40, 20, 40, 2, 18, 20]);
+    // G.719 has 20 lengths, in one to six channels; GSM-HR sound and SID; AMR 8 of sound and a SID, AMR-WB 9, each good or damaged
+    for format in [1, 2] {
+        assert_eq!([0, 1, 2, 3, 4, 5, 6, 7].map(|channels| of(format, channels)), [0, 20, 40, 60, 80, 100, 120, 0]);
+    }
+    assert_eq!([of(3, 1), of(4, 1), of(5, 1)], [2, 18, 20]);
 }
 
 #[test]

@@ -18,7 +18,7 @@ fn entries() {
     assert_eq!(fault(1, &[&HEADER[..], &[0xA0, 1, 0x20]].concat()), (6, 14));
     assert_eq!(fault(1, &[&HEADER[..], &[0xA0, 1, 0x1C, 1]].concat()), (7, 14));
     assert_eq!(fault(1, &[&HEADER[..], &[0xA0, 1, 0x20, 0]].concat()), (8, 14));
-    assert_eq!(fault(1, &[&HEADER[..], &[0x80, 128, 0x00, 1]].concat()), (9, 14));
+    assert_eq!(fault(1, &[&HEADER[..], &[0x80, 255, 0x80, 129, 0x00, 1]].concat()), (9, 16));
     // "(where an empty payload, or else a missing one, would start)"
     assert_eq!(fault(1, &HEADER), (6, 12));
     assert_eq!(fault(1, &[&HEADER[..], &[0xA0, 1]].concat()), (6, 14));

@@ -9,8 +9,8 @@ Inv-loop rows₀ case₀ turns₀ rows case turns = Unit
 abbrev μ-loop : tie.MeasureT-loop
 μ-loop rows₀ case₀ turns₀ rows case turns = turns
 
-no-numbers-requires : tie.Need-no-numbers-requires Inv-loop μ-loop
-no-numbers-requires c κs = search needs
+no-rows-requires : tie.Need-no-rows-requires Inv-loop μ-loop
+no-rows-requires c κs = search needs
 
 unsettled-requires : tie.Need-unsettled-requires Inv-loop μ-loop
 unsettled-requires c κs = search needs
@@ -48,7 +48,7 @@ main-spec =
     (tie.spec
     Inv-loop
     μ-loop
-    no-numbers-requires
+    no-rows-requires
     unsettled-requires
     loop-holds
     next-requires

@@ -3,6 +3,7 @@ use mathlib.Core.Path.{_≡_, ap, subst, sym, _∙_}
 use native.Mathlib.Omega.{arith}
 use native.Mathlib.Nat.{mul-le-mul-left}
 use denote.Ref.{now}
+use Rattle.rtp.specs.Editions.{current}
 use Rattle.rtp.proofs.AreaLaws.{part-to-end}
 use Rattle.contents.specs.declared.entries.EntryRead.{EntryRead}
 use Rattle.contents.specs.declared.entries.ContentsRead.{ContentsRead}
@@ -62,36 +63,36 @@ here-at t c =
 -- what follows, as the call of itself read it
 rest-at : (t : ℕ) (c : At read-contents-lts.After-read-contents t)
     → let a = c .before .before .before .before .before .before .before .before .before .before .before .before .args in let e = c .before .before .before .before .before .before .before .entry .given .0 .0 in
-    c .read-contents .result ≡ sizesAnswer (a .format) (a .channels) (contents (a .format) (a .channels) (a .rows + e .blocks * a .channels) (drop (e .size) (now (a .s))))
+    c .read-contents .result ≡ sizesAnswer (a .format) (a .channels) (contents current (a .format) (a .channels) (a .rows + e .blocks * a .channels) (drop (e .size) (now (a .s))))
 rest-at t c =
     let a = c .before .before .before .before .before .before .before .before .before .before .before .before .args in
     let e = c .before .before .before .before .before .before .before .entry .given .0 .0 in
-    contents-is _ _ _ _ (c .read-contents .ensures) ∙ ap (λ (l : List ℕ). sizesAnswer (a .format) (a .channels) (contents (a .format) (a .channels) (a .rows + e .blocks * a .channels) l)) (part-to-end (e .size) (now (a .s)))
+    contents-is _ _ _ _ (c .read-contents .ensures) ∙ ap (λ (l : List ℕ). sizesAnswer (a .format) (a .channels) (contents current (a .format) (a .channels) (a .rows + e .blocks * a .channels) l)) (part-to-end (e .size) (now (a .s)))
 
 whole-at : (t : ℕ) (c : At read-contents-lts.After-read-contents t)
     → let a = c .before .before .before .before .before .before .before .before .before .before .before .before .args in let e = c .before .before .before .before .before .before .before .entry .given .0 .0 in
-    sizesAnswer (a .format) (a .channels) (contents (a .format) (a .channels) (a .rows) (now (a .s))) ≡ ahead (a .channels) e (c .read-contents .result)
+    sizesAnswer (a .format) (a .channels) (contents current (a .format) (a .channels) (a .rows) (now (a .s))) ≡ ahead (a .channels) e (c .read-contents .result)
 whole-at t c =
     let a = c .before .before .before .before .before .before .before .before .before .before .before .before .args in
     let e = c .before .before .before .before .before .before .before .entry .given .0 .0 in
-    at-more (a .format) (a .channels) (a .rows) (now (a .s)) e (read-at t (c .before .before .before .before .before .before .before)) (c .before .before .before .before .if1 .left) (c .before .before .if2 .taken)
+    at-more current (a .format) (a .channels) (a .rows) (now (a .s)) e (read-at t (c .before .before .before .before .before .before .before)) (c .before .before .before .before .if1 .left) (c .before .before .if2 .taken)
     ∙ ap (ahead (a .channels) e) (sym (rest-at t c))
 
 within-at : (t : ℕ) (c : At read-contents-lts.After-read-contents t)
-    → let a = c .before .before .before .before .before .before .before .before .before .before .before .before .args in let e = c .before .before .before .before .before .before .before .entry .given .0 .0 in Within (a .rows + e .blocks * a .channels) (length (drop (e .size) (now (a .s)))) (c .read-contents .result)
+    → let a = c .before .before .before .before .before .before .before .before .before .before .before .before .args in let e = c .before .before .before .before .before .before .before .entry .given .0 .0 in Within current (a .rows + e .blocks * a .channels) (length (drop (e .size) (now (a .s)))) (c .read-contents .result)
 within-at t c =
     let a = c .before .before .before .before .before .before .before .before .before .before .before .before .args in
     let e = c .before .before .before .before .before .before .before .entry .given .0 .0 in
-    subst (λ (r : ContentsRead). Within (a .rows + e .blocks * a .channels) (length (drop (e .size) (now (a .s)))) r)
+    subst (λ (r : ContentsRead). Within current (a .rows + e .blocks * a .channels) (length (drop (e .size) (now (a .s)))) r)
     (sym (rest-at t c))
-    (within (a .format) (a .channels) (a .rows + e .blocks * a .channels) (drop (e .size) (now (a .s))))
+    (within current (a .format) (a .channels) (a .rows + e .blocks * a .channels) (drop (e .size) (now (a .s))))
 
 small-at : (t : ℕ) (c : At read-contents-lts.After-rest t)
-    → let a = c .before .before .before .before .before .before .before .before .before .before .before .before .before .before .args in let e = c .before .before .before .before .before .before .before .before .before .entry .given .0 .0 in Small (a .rows + e .blocks * a .channels) (length (drop (e .size) (now (a .s)))) (c .rest .given .0 .0)
+    → let a = c .before .before .before .before .before .before .before .before .before .before .before .before .before .before .args in let e = c .before .before .before .before .before .before .before .before .before .entry .given .0 .0 in Small current (a .rows + e .blocks * a .channels) (length (drop (e .size) (now (a .s)))) (c .rest .given .0 .0)
 small-at t c =
     let a = c .before .before .before .before .before .before .before .before .before .before .before .before .before .before .args in
     let e = c .before .before .before .before .before .before .before .before .before .entry .given .0 .0 in
-    subst (λ (r : ContentsRead). Within (a .rows + e .blocks * a .channels) (length (drop (e .size) (now (a .s)))) r) (c .rest .given .1) (within-at t (c .before .before))
+    subst (λ (r : ContentsRead). Within current (a .rows + e .blocks * a .channels) (length (drop (e .size) (now (a .s)))) r) (c .rest .given .1) (within-at t (c .before .before))
 
 -- the place at fault
 place-at : (t : ℕ) (c : At read-contents-lts.After-fault t)
@@ -99,7 +100,7 @@ place-at : (t : ℕ) (c : At read-contents-lts.After-fault t)
 place-at t c =
     let a = c .before .before .before .before .before .before .before .before .before .before .before .before .before .before .args in
     let e = c .before .before .before .before .before .before .before .before .before .entry .given .0 .0 in
-    subst (λ (r : ContentsRead). Within (a .rows + e .blocks * a .channels) (length (drop (e .size) (now (a .s)))) r) (c .fault .given .1) (within-at t (c .before .before))
+    subst (λ (r : ContentsRead). Within current (a .rows + e .blocks * a .channels) (length (drop (e .size) (now (a .s)))) r) (c .fault .given .1) (within-at t (c .before .before))
 
 read-contents-sub-read-entry : (t : ℕ) → At read-contents-lts.Need-sub-read-entry t
 read-contents-sub-read-entry t c = search needs
@@ -126,7 +127,7 @@ read-contents-add-so-far : (t : ℕ) → At read-contents-lts.Need-add-so-far t
 read-contents-add-so-far t c = omega (arith, here-at t (c .before .before), c .before .before .before .before .before .before .before .fits .rows)
 
 read-contents-returns : (t : ℕ) → At read-contents-lts.Need-returns t
-read-contents-returns t c = let a = c .before .before .before .before .before .before .before .before .args in contents-has _ _ _ _ (sym (at-many (a .format) (a .channels) (a .rows) (now (a .s)) _ (read-at t (c .before .before .before)) (c .if1 .taken)))
+read-contents-returns t c = let a = c .before .before .before .before .before .before .before .before .args in contents-has _ _ _ _ (sym (at-many current (a .format) (a .channels) (a .rows) (now (a .s)) _ (read-at t (c .before .before .before)) (c .if1 .taken)))
 
 read-contents-mul-frames : (t : ℕ) → At read-contents-lts.Need-mul-frames t
 read-contents-mul-frames t c =
@@ -179,7 +180,7 @@ read-contents-add-t37 t c =
     omega (arith, w, here-at t (c .before .before .before .before .before .before .before .before .before .before .before .before .before), mul-le-mul-left (e .blocks * a .channels) (fair-at t (c .before .before .before .before .before .before .before .before .before .before .before .before .before) .short))
 
 read-contents-returns-2 : (t : ℕ) → At read-contents-lts.Need-returns-2 t
-read-contents-returns-2 t c = let a = c .before .before .before .before .before .before .args in contents-has _ _ _ _ (sym (at-refused (a .format) (a .channels) (a .rows) (now (a .s)) _ (sym (same-entry _ _ (c .before .before .before .read-entry .ensures) ∙ ap (entryOf (c .before .before .before .before .before .before .args .format)) (part-to-end 0 (now (c .before .before .before .before .before .before .args .s)))) ∙ c .before .refusal .given .1)))
+read-contents-returns-2 t c = let a = c .before .before .before .before .before .before .args in contents-has _ _ _ _ (sym (at-refused current (a .format) (a .channels) (a .rows) (now (a .s)) _ (sym (same-entry _ _ (c .before .before .before .read-entry .ensures) ∙ ap (entryOf (c .before .before .before .before .before .before .args .format)) (part-to-end 0 (now (c .before .before .before .before .before .before .args .s)))) ∙ c .before .refusal .given .1)))
 
 read-contents-returns-3 : (t : ℕ) → At read-contents-lts.Need-returns-3 t
 read-contents-returns-3 t c = contents-has _ _ _ _ (sym (whole-at t (c .before .before .before .before) ∙ ap (ahead (c .before .before .before .before .before .before .before .before .before .before .before .before .before .before .before .before .args .channels) (c .before .before .before .before .before .before .before .before .before .before .before .entry .given .0 .0)) (c .before .before .fault .given .1)))
@@ -188,7 +189,7 @@ read-contents-returns-4 : (t : ℕ) → At read-contents-lts.Need-returns-4 t
 read-contents-returns-4 t c = contents-has _ _ _ _ (sym (whole-at t (c .before .before .before .before .before .before) ∙ ap (ahead (c .before .before .before .before .before .before .before .before .before .before .before .before .before .before .before .before .before .before .args .channels) (c .before .before .before .before .before .before .before .before .before .before .before .before .before .entry .given .0 .0)) (c .before .before .before .before .rest .given .1)))
 
 read-contents-returns-5 : (t : ℕ) → At read-contents-lts.Need-returns-5 t
-read-contents-returns-5 t c = let a = c .before .before .before .before .before .before .before .before .before .before .args in contents-has _ _ _ _ (sym (at-last (a .format) (a .channels) (a .rows) (now (a .s)) _ (read-at t (c .before .before .before .before .before)) (c .before .before .if1 .left) (c .if2 .left)))
+read-contents-returns-5 t c = let a = c .before .before .before .before .before .before .before .before .before .before .args in contents-has _ _ _ _ (sym (at-last current (a .format) (a .channels) (a .rows) (now (a .s)) _ (read-at t (c .before .before .before .before .before)) (c .before .before .if1 .left) (c .if2 .left)))
 
 pub +read-contents-spec : {M : Type 1} → statement M
 +read-contents-spec = close μ-read-contents λ t. read-contents-lts.spec (callees t)

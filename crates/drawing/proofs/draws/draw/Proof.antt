@@ -2,6 +2,7 @@ use mathlib.Core.Path.{sym, _∙_, ap}
 use mathlib.Core.List.{List}
 use Prim.Native.Nat.{ℕ}
 use denote.Ref.{now}
+use Rattle.rtp.specs.Editions.{current}
 use Rattle.drawing.specs.declared.draws.Drawn.{Drawn}
 use Rattle.drawing.specs.Calls.{DrawOutcome, drawNumbers}
 use Rattle.drawing.proofs.CallLaws.{draw-out}
@@ -29,7 +30,7 @@ refuse-draw-requires c κs = search needs
 
 returns-2 : tie.Need-returns-2
 unfolding outcome
-returns-2 c = let a = c .before .before .before .before .before .before .args in ap (outcome (now (a .area))) (c .refuse-draw .ensures) ∙ sym (draw-out (a .buffer) (now (a .store)) (now (a .area)) (sym (c .before .before .in-range .ensures) ∙ c .before .if1 .left))
+returns-2 c = let a = c .before .before .before .before .before .before .args in ap (outcome (now (a .area))) (c .refuse-draw .ensures) ∙ sym (draw-out current (a .buffer) (now (a .store)) (now (a .area)) (sym (c .before .before .in-range .ensures) ∙ c .before .if1 .left))
 
 pub draw-spec : {M : Type 1} → statement M
 draw-spec =

@@ -4,6 +4,7 @@ use mathlib.Core.Bool.{true}
 use Prim.Native.Nat.{ℕ}
 use native.Mathlib.Omega.{arith}
 use denote.Ref.{now}
+use Rattle.rtp.specs.Editions.{current}
 use Rattle.drawing.specs.declared.draws.Drawn.{Drawn}
 use Rattle.layout.specs.Arrays.{Machine}
 use Rattle.slot_marks.specs.Bits.{heldIn}
@@ -38,7 +39,7 @@ returns c =
     let s = c .before .before .before .before .before .before .before .before .before .before .before .before .before .before .before in
     let a = s .args in
     ap (outcome (now (a .area))) (c .refuse-draw .ensures)
-    ∙ sym (draw-malformed (a .buffer) (now (a .store)) (now (a .area)) (s .pre) (failed (c .before .before .well-formed .ensures) (c .before .if1 .taken)))
+    ∙ sym (draw-malformed current (a .buffer) (now (a .store)) (now (a .area)) (s .pre) (failed (c .before .before .well-formed .ensures) (c .before .if1 .taken)))
 
 refuse-draw-requires-2 : tie.Need-refuse-draw-requires-2
 refuse-draw-requires-2 c κs = search needs
@@ -49,7 +50,7 @@ returns-2 c =
     let s = c .before .before .before .before .before .before .before .before .before .before .before .before .before .before .before .before in
     let a = s .args in
     ap (outcome (now (a .area))) (c .refuse-draw2 .ensures)
-    ∙ sym (draw-store (a .buffer) (now (a .store)) (now (a .area)) (s .pre) (fine-at (c .before .before)) (c .before .if2 .taken))
+    ∙ sym (draw-store current (a .buffer) (now (a .store)) (now (a .area)) (s .pre) (fine-at (c .before .before)) (c .before .if2 .taken))
 
 refuse-draw-requires-3 : tie.Need-refuse-draw-requires-3
 refuse-draw-requires-3 c κs = search needs
@@ -60,7 +61,7 @@ returns-3 c =
     let s = c .before .before .before .before .before .before .before .before .before .before .before .before .before .before .before .before .before in
     let a = s .args in
     ap (outcome (now (a .area))) (c .refuse-draw3 .ensures)
-    ∙ sym (draw-area (a .buffer) (now (a .store)) (now (a .area)) (s .pre) (fine-at (c .before .before .before)) (c .before .before .if2 .left) (c .before .if3 .taken))
+    ∙ sym (draw-area current (a .buffer) (now (a .store)) (now (a .area)) (s .pre) (fine-at (c .before .before .before)) (c .before .before .if2 .left) (c .before .if3 .taken))
 
 held-in-requires : tie.Need-held-in-requires
 held-in-requires c κs = search needs
@@ -72,7 +73,7 @@ returns-4 c =
     let a = s .args in
     let z : heldIn (a .buffer .occupied) ≡ 0 = sym (c .before .held-in .ensures .0) ∙ c .if4 .taken in
     let e : entriesFrom (a .buffer) (heldIn (a .buffer .occupied)) 0 ≡ [] = ap (λ (n : ℕ). entriesFrom (a .buffer) n 0) z in
-    sym (draw-goes (a .buffer) (now (a .store)) (now (a .area)) (s .pre) (fine-at (c .before .before .before .before)) (c .before .before .before .if2 .left) (c .before .before .if3 .left)
+    sym (draw-goes current (a .buffer) (now (a .store)) (now (a .area)) (s .pre) (fine-at (c .before .before .before .before)) (c .before .before .before .if2 .left) (c .before .before .if3 .left)
     ∙ ap (drawFirst (a .buffer) (now (a .store)) (now (a .area))) e)
 
 draw-first-requires : tie.Need-draw-first-requires
@@ -95,7 +96,7 @@ returns-5 c =
     let s = c .before .before .before .before .before .before .before .before .before .before .before .before .before .before .before .before .before .before .before .before .before .before in
     let a = s .args in
     c .before .before .draw-first .ensures
-    ∙ sym (draw-goes (a .buffer) (now (a .store)) (now (a .area)) (s .pre) (fine-at (c .before .before .before .before .before .before .before .before)) (c .before .before .before .before .before .before .before .if2 .left) (c .before .before .before .before .before .before .if3 .left))
+    ∙ sym (draw-goes current (a .buffer) (now (a .store)) (now (a .area)) (s .pre) (fine-at (c .before .before .before .before .before .before .before .before)) (c .before .before .before .before .before .before .before .if2 .left) (c .before .before .before .before .before .before .if3 .left))
 
 pub draw-checked-spec : {M : Type 1} → statement M
 draw-checked-spec =

@@ -5,15 +5,17 @@ use native.Mathlib.Nat.{mul-le-mul-left}
 use native.Mathlib.Numerals.{add-one}
 use lib.ListN.{length, getD, take, drop, length-drop}
 use denote.Ref.{now}
+use Rattle.rtp.specs.Editions.{current}
 use Rattle.rtp.specs.Sizes.{rowWidth}
 use Rattle.rtp.specs.Areas.{over}
 use Rattle.rtp.proofs.AreaLaws.{part-length, part-to-end}
 use Rattle.plans.specs.declared.lists.RowWords.{RowWords}
 use Rattle.plans.specs.Lists.{rowsIn}
+use Rattle.plans.specs.Entries.{inEntries}
 use Rattle.plans.specs.Plans.{planFrom}
 use Rattle.plans.specs.Room.{rowAs, wordsAt}
 use Rattle.encoder.specs.Room.{timed, joined, RunRoom, planBytes}
-use Rattle.encoder.proofs.TableLaws.{first-words, first-run, Entered, entered, put-no-run, put-run}
+use Rattle.encoder.proofs.TableLaws.{first-words, first-run, few-blocks, Entered, entered, put-no-run, put-run}
 use borrow.Author.Needs.{needs}
 use Prim.Native.Nat.{ℕ, suc, _+_, _-_, _*_, _≤_, _<_}
 use borrow.Fn.Kinds.{In, Out}
@@ -23,6 +25,7 @@ use Rattle.encoder.proofs.tables.put_table.Kinds as put-table-kinds
 use Rattle.encoder.proofs.tables.+put_table.Lts-put_table as put-table-lts
 use Rattle.plans.proofs.lists.first_row.Reads as first-row-reads
 use Rattle.encoder.proofs.tables.joined_blocks.Reads as joined-blocks-reads
+use Rattle.plans.proofs.planning.first_blocks.Reads as first-blocks-reads
 use Rattle.encoder.proofs.tables.put_entry.Reads as put-entry-reads
 use Rattle.contents.proofs.entries.entry_size.Reads as entry-size-reads
 use Rattle.encoder.proofs.tables.+put_table.{statement}
@@ -40,14 +43,14 @@ put-table-below t =
 
 -- what the callees ask and give
 abbrev callees : ℕ → put-table-lts.Claims
-callees t = (first-row-reads.Asked, first-row-reads.Learnt, joined-blocks-reads.Asked, joined-blocks-reads.Learnt, put-entry-reads.Asked, put-entry-reads.Learnt, entry-size-reads.Asked, entry-size-reads.Learnt, put-table-below t, put-table.Post)
+callees t = (first-row-reads.Asked, first-row-reads.Learnt, joined-blocks-reads.Asked, joined-blocks-reads.Learnt, first-blocks-reads.Asked, first-blocks-reads.Learnt, put-entry-reads.Asked, put-entry-reads.Learnt, entry-size-reads.Asked, entry-size-reads.Learnt, put-table-below t, put-table.Post)
 
 -- a need or a place at the measure t
 abbrev At : (put-table-lts.Claims → In 2 put-table-kinds.ps → Out 2 put-table-kinds.ps put-table-kinds.r → Type 0) → ℕ → Type 0
 At P t = P (callees t) (put-table-at t) put-table.Post
 
 words-at : (t : ℕ) (c : At put-table-lts.Else1 t) → rowWidth * c .before .before .before .args .channels ≤ length (now (c .before .before .before .args .rows))
-words-at t c = let a = c .before .before .before .args in first-words (a .format) (a .channels) (a .previous) (now (a .rows)) (length (now (a .out))) (c .before .before .before .pre .1) (c .if1 .left)
+words-at t c = let a = c .before .before .before .args in first-words current (a .format) (a .channels) (a .previous) (now (a .rows)) (length (now (a .out))) (c .before .before .before .pre .1) (c .if1 .left)
 
 -- the frame-blocks of the first run, as the list has them
 blocks-at : (t : ℕ) (c : At put-table-lts.After-joined-blocks t) → let a = c .before .before .before .before .before .before .args in let ws = now (a .rows) in
@@ -58,20 +61,24 @@ blocks-at t c =
     ∙ ap (λ (l : List ℕ). joined (a .format) (rowAs (c .before .before .first-row .result)) (planFrom (a .format) (a .channels) 0 (rowAs (c .before .before .first-row .result)) (rowsIn l))) (part-to-end (rowWidth * a .channels) (now (a .rows)))
     ∙ ap (λ (w : RowWords). joined (a .format) (rowAs w) (planFrom (a .format) (a .channels) 0 (rowAs w) (rowsIn (drop (rowWidth * a .channels) (now (a .rows)))))) (c .before .before .first-row .ensures))
 
-entered-at : (t : ℕ) (c : At put-table-lts.After-joined-blocks t) → let a = c .before .before .before .before .before .before .args in
-    Entered (a .format) (a .channels) (a .previous) (now (a .rows)) (length (now (a .out))) (c .joined-blocks .result + 1)
-entered-at t c = let a = c .before .before .before .before .before .before .args in entered (a .format) (a .channels) (a .previous) (now (a .rows)) (length (now (a .out))) (c .before .before .before .before .before .before .pre .1) (c .before .before .before .if1 .left) (c .joined-blocks .result + 1) (blocks-at t c)
+-- the first entry
+entered-at : (t : ℕ) (c : At put-table-lts.After-first-blocks t) → let a = c .before .before .before .before .before .before .before .args in
+    Entered current (a .format) (a .channels) (a .previous) (now (a .rows)) (length (now (a .out))) (c .first-blocks .result)
+entered-at t c =
+    let a = c .before .before .before .before .before .before .before .args in
+    let b = c .before in
+    subst (λ (n : ℕ). Entered current (a .format) (a .channels) (a .previous) (now (a .rows)) (length (now (a .out))) n) (sym (c .first-blocks .ensures))
+    (entered current (a .format) (a .channels) (a .previous) (now (a .rows)) (length (now (a .out))) (c .before .before .before .before .before .before .before .pre .1) (c .before .before .before .before .if1 .left) (b .joined-blocks .result + 1) (blocks-at t b))
 
--- where the run ends
-end-at : (t : ℕ) (c : At put-table-lts.After-joined-blocks t) → let a = c .before .before .before .before .before .before .args in let w = rowWidth * a .channels in
-    (w ≤ w * (c .joined-blocks .result + 1)) × (w * (c .joined-blocks .result + 1) ≤ length (now (a .rows)))
+-- where its frame-blocks end
+end-at : (t : ℕ) (c : At put-table-lts.After-first-blocks t) → let a = c .before .before .before .before .before .before .before .args in let w = rowWidth * a .channels in
+    (w ≤ w * c .first-blocks .result) × (w * c .first-blocks .result ≤ length (now (a .rows)))
 end-at t c =
-    let a = c .before .before .before .before .before .before .args in
-    let o : 1 ≤ c .joined-blocks .result + 1 = omega arith in
-    (omega (arith, mul-le-mul-left (rowWidth * a .channels) o), entered-at t c .entry .words)
+    let a = c .before .before .before .before .before .before .before .args in
+    (omega (arith, mul-le-mul-left (rowWidth * a .channels) (entered-at t c .some)), entered-at t c .entry .words)
 
 put-table-returns : (t : ℕ) → At put-table-lts.Need-returns t
-put-table-returns t c = let a = c .before .before .before .args in put-no-run (a .format) (a .channels) (a .previous) (now (a .rows)) (now (a .out)) (c .if1 .taken)
+put-table-returns t c = let a = c .before .before .before .args in put-no-run current (a .format) (a .channels) (a .previous) (now (a .rows)) (now (a .out)) (c .if1 .taken)
 
 put-table-mul-width : (t : ℕ) → At put-table-lts.Need-mul-width t
 put-table-mul-width t c = omega (arith, c .before .before .before .pre .1 .channels)
@@ -94,10 +101,14 @@ put-table-part-joined-blocks-end t c = search needs
 put-table-joined-blocks-requires : (t : ℕ) → At put-table-lts.Need-joined-blocks-requires t
 put-table-joined-blocks-requires t c κs = let a = c .before .before .before .before .before .args in
     rw (part-to-end (rowWidth * a .channels) (now (a .rows))) (subst (λ (w : RowWords). RunRoom (a .format) (a .channels) (rowAs w) (drop (rowWidth * a .channels) (now (a .rows)))) (sym (c .before .first-row .ensures))
-    (first-run (a .format) (a .channels) (a .previous) (now (a .rows)) (length (now (a .out))) (c .before .before .before .before .before .pre .1) (c .before .before .if1 .left)))
+    (first-run current (a .format) (a .channels) (a .previous) (now (a .rows)) (length (now (a .out))) (c .before .before .before .before .before .pre .1) (c .before .before .if1 .left)))
 
-put-table-add-blocks : (t : ℕ) → At put-table-lts.Need-add-blocks t
-put-table-add-blocks t c = omega (arith, entered-at t c .entry .few)
+put-table-add-run : (t : ℕ) → At put-table-lts.Need-add-run t
+put-table-add-run t c = let a = c .before .before .before .before .before .before .args in
+    omega (arith, few-blocks current (a .format) (a .channels) (a .previous) (now (a .rows)) (length (now (a .out))) (c .before .before .before .before .before .before .pre .1) (c .before .before .before .if1 .left) (c .joined-blocks .result + 1) (blocks-at t c))
+
+put-table-first-blocks-requires : (t : ℕ) → At put-table-lts.Need-first-blocks-requires t
+put-table-first-blocks-requires t c κs = search needs
 
 put-table-mul-end : (t : ℕ) → At put-table-lts.Need-mul-end t
 put-table-mul-end t c = omega (arith, end-at t c .1)
@@ -118,7 +129,7 @@ put-table-mul-last : (t : ℕ) → At put-table-lts.Need-mul-last t
 put-table-mul-last t c = omega (arith, end-at t (c .before .before .before .before .before) .1)
 
 put-table-shared-slice-read-last : (t : ℕ) → At put-table-lts.Need-shared-slice-read-last t
-put-table-shared-slice-read-last t c = omega (arith, end-at t (c .before .before .before .before .before .before), c .before .before .before .before .before .before .before .before .before .before .before .before .pre .1 .some)
+put-table-shared-slice-read-last t c = omega (arith, end-at t (c .before .before .before .before .before .before), c .before .before .before .before .before .before .before .before .before .before .before .before .before .pre .1 .some)
 
 put-table-mul-put-table : (t : ℕ) → At put-table-lts.Need-mul-put-table t
 put-table-mul-put-table t c = omega (arith, end-at t (c .before .before .before .before .before .before) .1)
@@ -142,9 +153,9 @@ put-table-part-put-table-end-2 : (t : ℕ) → At put-table-lts.Need-part-put-ta
 put-table-part-put-table-end-2 t c = search needs
 
 put-table-put-table-requires : (t : ℕ) → At put-table-lts.Need-put-table-requires t
-put-table-put-table-requires t c κs = let a = c .before .before .before .before .before .before .before .before .before .before .before .before .before .before .args in
-    let n = c .before .before .before .before .before .before .before .before .joined-blocks .result + 1 in (
-      rw (part-to-end (rowWidth * a .channels * n) (now (a .rows)), length-drop) (omega (arith, c .before .before .before .before .before .before .before .before .before .before .before .before .before .before .pre .0, c .before .before .before .before .before .before .before .before .before .before .before .before .before .before .pre .1 .some, end-at t (c .before .before .before .before .before .before .before .before))),
+put-table-put-table-requires t c κs = let a = c .before .before .before .before .before .before .before .before .before .before .before .before .before .before .before .args in
+    let n = c .before .before .before .before .before .before .before .before .first-blocks .result in (
+      rw (part-to-end (rowWidth * a .channels * n) (now (a .rows)), length-drop) (omega (arith, c .before .before .before .before .before .before .before .before .before .before .before .before .before .before .before .pre .0, c .before .before .before .before .before .before .before .before .before .before .before .before .before .before .before .pre .1 .some, end-at t (c .before .before .before .before .before .before .before .before))),
       rw (part-length (c .before .before .before .before .before .before .put-entry .last .1 .1 .1 .1 .1 .1 .0) (now (a .out)) (c .before .before .before .entry-size .result) (c .before .before .before .before .before .before .put-entry .kept .1 .1 .1 .1 .1 .1 .0), part-to-end (rowWidth * a .channels * n) (now (a .rows)), c .before .before .before .entry-size .ensures) (entered-at t (c .before .before .before .before .before .before .before .before) .rest),
     )
 
@@ -152,12 +163,12 @@ put-table-same-length : (t : ℕ) → At put-table-lts.Need-same-length t
 put-table-same-length t c = search needs
 
 put-table-returns-2 : (t : ℕ) → At put-table-lts.Need-returns-2 t
-put-table-returns-2 t c = let a = c .before .before .before .before .before .before .before .before .before .before .before .before .before .before .before .before .before .args in
-    let n = c .before .before .before .before .before .before .before .before .before .before .before .joined-blocks .result + 1 in
+put-table-returns-2 t c = let a = c .before .before .before .before .before .before .before .before .before .before .before .before .before .before .before .before .before .before .args in
+    let n = c .before .before .before .before .before .before .before .before .before .before .before .first-blocks .result in
     let m = c .before .before .before .before .before .before .before .before .before .put-entry .last .1 .1 .1 .1 .1 .1 .0 in
     let s = c .before .before .before .before .before .before .entry-size .result in
-    put-run (a .format) (a .channels) (a .previous) (now (a .rows)) (now (a .out)) n (length (now (a .out))) (entered-at t (c .before .before .before .before .before .before .before .before .before .before .before)) (c .before .before .before .before .before .before .before .before .before .before .before .before .before .before .before .before .before .pre .1 .some) m (c .before .before .before .before .before .before .before .before .before .put-entry .ensures) s (c .before .before .before .before .before .before .entry-size .ensures) _
-    (c .before .before .put-table .ensures ∙ ap (λ (l : List ℕ). over (planBytes (a .format) (planFrom (a .format) (a .channels) 0 (timed (getD (now (a .rows)) (rowWidth * a .channels * n - rowWidth * a .channels) 0)) (rowsIn l))) (take (length m - s) (drop s m))) (part-to-end (rowWidth * a .channels * n) (now (a .rows))))
+    put-run current (a .format) (a .channels) (a .previous) (now (a .rows)) (now (a .out)) n (length (now (a .out))) (entered-at t (c .before .before .before .before .before .before .before .before .before .before .before)) (c .before .before .before .before .before .before .before .before .before .before .before .before .before .before .before .before .before .before .pre .1 .some) m (c .before .before .before .before .before .before .before .before .before .put-entry .ensures) s (c .before .before .before .before .before .before .entry-size .ensures) _
+    (c .before .before .put-table .ensures ∙ ap (λ (l : List ℕ). over (planBytes (a .format) (inEntries (planFrom (a .format) (a .channels) 0 (timed (getD (now (a .rows)) (rowWidth * a .channels * n - rowWidth * a .channels) 0)) (rowsIn l)))) (take (length m - s) (drop s m))) (part-to-end (rowWidth * a .channels * n) (now (a .rows))))
 
 pub +put-table-spec : {M : Type 1} → statement M
 +put-table-spec = close μ-put-table λ t. put-table-lts.spec (callees t)
@@ -171,7 +182,8 @@ pub +put-table-spec : {M : Type 1} → statement M
     (put-table-part-joined-blocks-start t)
     (put-table-part-joined-blocks-end t)
     (put-table-joined-blocks-requires t)
-    (put-table-add-blocks t)
+    (put-table-add-run t)
+    (put-table-first-blocks-requires t)
     (put-table-mul-end t)
     (put-table-sub-more t)
     (put-table-put-entry-requires t)

@@ -1,3 +1,4 @@
+use Rattle.rtp.specs.Editions.{current}
 use Rattle.formats.specs.Frames.{maxClass}
 use lib.ListN.{length, take, drop}
 use denote.Ref.{now}
@@ -52,17 +53,17 @@ At P t = P (callees t) (put-contents-at t) put-contents.Post
 read-at : (t : ℕ) (c : At put-contents-lts.After-entry t) → entryOf (c .before .before .before .before .before .before .args .format) (now (c .before .before .before .before .before .before .args .s)) ≡ EntryRead.Entry (c .entry .given .0 .0)
 read-at t c = sym (same-entry _ _ (c .before .before .read-entry .ensures) ∙ ap (entryOf (c .before .before .before .before .before .before .args .format)) (part-to-end 0 (now (c .before .before .before .before .before .before .args .s)))) ∙ c .entry .given .1
 
-few-at : (t : ℕ) (c : At put-contents-lts.After-entry t) → let a = c .before .before .before .before .before .before .args in a .done + c .entry .given .0 .0 .blocks * a .channels ≤ maxRows
-few-at t c = let a = c .before .before .before .before .before .before .args in room-few (a .format) (a .channels) (a .done) (a .start) (length (now (a .rows))) (now (a .s)) _ (read-at t c) (c .before .before .before .before .before .before .pre .1)
+few-at : (t : ℕ) (c : At put-contents-lts.After-entry t) → let a = c .before .before .before .before .before .before .args in a .done + c .entry .given .0 .0 .blocks * a .channels ≤ maxRows current
+few-at t c = let a = c .before .before .before .before .before .before .args in room-few current (a .format) (a .channels) (a .done) (a .start) (length (now (a .rows))) (now (a .s)) _ (read-at t c) (c .before .before .before .before .before .before .pre .1)
 
 room-at : (t : ℕ) (c : At put-contents-lts.After-entry t) → let a = c .before .before .before .before .before .before .args in let e = c .entry .given .0 .0 in
     GroupRoom 0 (e .blocks) (a .channels) (256 * a .mark + e .class) (a .start) (e .length) (length (now (a .rows)))
-room-at t c = let a = c .before .before .before .before .before .before .args in room-group (a .format) (a .channels) (a .done) (a .start) (length (now (a .rows))) (now (a .s)) _ (read-at t c) (c .before .before .before .before .before .before .pre .1) (a .mark) (omega (arith, c .before .before .before .before .before .before .fits .mark)) (λ i. c .before .before .before .before .shared-slice-known .given i .fits)
+room-at t c = let a = c .before .before .before .before .before .before .args in room-group current (a .format) (a .channels) (a .done) (a .start) (length (now (a .rows))) (now (a .s)) _ (read-at t c) (c .before .before .before .before .before .before .pre .1) (a .mark) (omega (arith, c .before .before .before .before .before .before .fits .mark)) (λ i. c .before .before .before .before .shared-slice-known .given i .fits)
 
 rest-at : (t : ℕ) (c : At put-contents-lts.After-entry t) → c .entry .given .0 .0 .more ≡ true → let a = c .before .before .before .before .before .before .args in let e = c .entry .given .0 .0 in
     TableRoom (a .channels) (a .start + e .blocks * a .channels * e .length) (length (now (a .rows)) - rowWidth * (e .blocks * a .channels))
-    (sizesAnswer (a .format) (a .channels) (contents (a .format) (a .channels) (a .done + e .blocks * a .channels) (drop (e .size) (now (a .s)))))
-rest-at t c m = let a = c .before .before .before .before .before .before .args in room-rest (a .format) (a .channels) (a .done) (a .start) (length (now (a .rows))) (now (a .s)) _ (read-at t c) (c .before .before .before .before .before .before .pre .1) m
+    (sizesAnswer (a .format) (a .channels) (contents current (a .format) (a .channels) (a .done + e .blocks * a .channels) (drop (e .size) (now (a .s)))))
+rest-at t c m = let a = c .before .before .before .before .before .before .args in room-rest current (a .format) (a .channels) (a .done) (a .start) (length (now (a .rows))) (now (a .s)) _ (read-at t c) (c .before .before .before .before .before .before .pre .1) m
 
 put-contents-sub-read-entry : (t : ℕ) → At put-contents-lts.Need-sub-read-entry t
 put-contents-sub-read-entry t c = search needs
@@ -151,7 +152,7 @@ put-contents-put-contents-requires t c κs =
     )
 
 put-contents-returns : (t : ℕ) → At put-contents-lts.Need-returns t
-put-contents-returns t c = let a = c .before .before .before .before .before .before .args in put-refused (a .mark) (a .format) (a .channels) (a .time) (a .start) (a .done) (now (a .s)) (now (a .rows)) _ (sym (same-entry _ _ (c .before .before .read-entry .ensures) ∙ ap (entryOf (c .before .before .before .before .before .before .args .format)) (part-to-end 0 (now (c .before .before .before .before .before .before .args .s)))) ∙ c .enum-told .given .1)
+put-contents-returns t c = let a = c .before .before .before .before .before .before .args in put-refused current (a .mark) (a .format) (a .channels) (a .time) (a .start) (a .done) (now (a .s)) (now (a .rows)) _ (sym (same-entry _ _ (c .before .before .read-entry .ensures) ∙ ap (entryOf (c .before .before .before .before .before .before .args .format)) (part-to-end 0 (now (c .before .before .before .before .before .before .args .s)))) ∙ c .enum-told .given .1)
 
 put-contents-same-length : (t : ℕ) → At put-contents-lts.Need-same-length t
 put-contents-same-length t c = search needs
@@ -160,7 +161,7 @@ put-contents-returns-2 : (t : ℕ) → At put-contents-lts.Need-returns-2 t
 put-contents-returns-2 t c =
     let a = c .before .before .before .before .before .before .before .before .before .before .before .before .before .before .before .before .before .before .before .before .before .args in
     let e = c .before .before .before .before .before .before .before .before .before .before .before .before .before .before .before .entry .given .0 .0 in
-    put-more (a .mark) (a .format) (a .channels) (a .time) (a .start) (a .done) (now (a .s)) (now (a .rows)) e (read-at t (c .before .before .before .before .before .before .before .before .before .before .before .before .before .before .before)) (few-at t (c .before .before .before .before .before .before .before .before .before .before .before .before .before .before .before)) _ (rw (part-to-end 0 (now (a .s)), kind-mark (a .mark) (e .class) (class-at t (c .before .before .before .before .before .before .before .before .before .before .before .before .before .before .before)), kind-class (a .mark) (e .class) (class-at t (c .before .before .before .before .before .before .before .before .before .before .before .before .before .before .before))) at (c .before .before .before .before .before .before .before .before .before .before .put-group .ensures .1))
+    put-more current (a .mark) (a .format) (a .channels) (a .time) (a .start) (a .done) (now (a .s)) (now (a .rows)) e (read-at t (c .before .before .before .before .before .before .before .before .before .before .before .before .before .before .before)) (few-at t (c .before .before .before .before .before .before .before .before .before .before .before .before .before .before .before)) _ (rw (part-to-end 0 (now (a .s)), kind-mark (a .mark) (e .class) (class-at t (c .before .before .before .before .before .before .before .before .before .before .before .before .before .before .before)), kind-class (a .mark) (e .class) (class-at t (c .before .before .before .before .before .before .before .before .before .before .before .before .before .before .before))) at (c .before .before .before .before .before .before .before .before .before .before .put-group .ensures .1))
     (c .before .before .before .before .before .before .before .if1 .taken) _ (c .before .before .before .before .before .before .before .before .before .before .put-group .result) _ (rest-at t (c .before .before .before .before .before .before .before .before .before .before .before .before .before .before .before) (c .before .before .before .before .before .before .before .if1 .taken)) (rw (part-to-end 0 (now (a .s))) at (c .before .before .before .before .before .before .before .before .before .before .put-group .ensures .0)) (c .before .before .put-contents .ensures)
 
 put-contents-same-length-2 : (t : ℕ) → At put-contents-lts.Need-same-length-2 t
@@ -170,7 +171,7 @@ put-contents-returns-3 : (t : ℕ) → At put-contents-lts.Need-returns-3 t
 put-contents-returns-3 t c =
     let a = c .before .before .before .before .before .before .before .before .before .before .before .before .before .before .args in
     let e = c .before .before .before .before .before .before .before .before .entry .given .0 .0 in
-    put-last (a .mark) (a .format) (a .channels) (a .time) (a .start) (a .done) (now (a .s)) (now (a .rows)) e (read-at t (c .before .before .before .before .before .before .before .before)) (few-at t (c .before .before .before .before .before .before .before .before)) _ (rw (part-to-end 0 (now (a .s)), kind-mark (a .mark) (e .class) (class-at t (c .before .before .before .before .before .before .before .before)), kind-class (a .mark) (e .class) (class-at t (c .before .before .before .before .before .before .before .before))) at (c .before .before .before .put-group .ensures .1)) (c .if1 .left)
+    put-last current (a .mark) (a .format) (a .channels) (a .time) (a .start) (a .done) (now (a .s)) (now (a .rows)) e (read-at t (c .before .before .before .before .before .before .before .before)) (few-at t (c .before .before .before .before .before .before .before .before)) _ (rw (part-to-end 0 (now (a .s)), kind-mark (a .mark) (e .class) (class-at t (c .before .before .before .before .before .before .before .before)), kind-class (a .mark) (e .class) (class-at t (c .before .before .before .before .before .before .before .before))) at (c .before .before .before .put-group .ensures .1)) (c .if1 .left)
 
 pub +put-contents-spec : {M : Type 1} → statement M
 +put-contents-spec = close μ-put-contents λ t. put-contents-lts.spec (callees t)

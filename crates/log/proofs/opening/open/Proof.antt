@@ -1,4 +1,5 @@
 use mathlib.Core.Path.{sym, ap, _∙_}
+use Rattle.rtp.specs.Editions.{current}
 use Rattle.log.specs.declared.opening.OpenAnswer.{OpenAnswer}
 use Rattle.log.specs.Opening.{openNumbers}
 use Rattle.log.specs.declared.opening.Cursor.{Cursor}
@@ -20,12 +21,12 @@ no-cursor-requires : tie.Need-no-cursor-requires
 no-cursor-requires c κs = search needs
 
 returns : tie.Need-returns
-returns c = sym (open-as _ _ (sym (c .before .before .before .first-field .ensures) ∙ c .before .settings .given .1))
+returns c = sym (open-as current _ _ (sym (c .before .before .before .first-field .ensures) ∙ c .before .settings .given .1))
 
 returns-2 : tie.Need-returns-2
 returns-2 c =
     ap (λ (u : Cursor). record { answer = openNumbers (OpenAnswer.Refused (c .before .before .refusal .given .0 .0)); cursor = u }) (c .no-cursor .ensures)
-    ∙ sym (open-as _ _ (sym (c .before .before .before .before .first-field .ensures) ∙ c .before .before .refusal .given .1))
+    ∙ sym (open-as current _ _ (sym (c .before .before .before .before .first-field .ensures) ∙ c .before .before .refusal .given .1))
 
 pub open-spec : {M : Type 1} → statement M
 open-spec =

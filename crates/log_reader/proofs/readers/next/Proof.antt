@@ -44,6 +44,7 @@ use denote.Triple.Spec.{Meets, tripleOf}
 use denote.Triple.Table.{entered, cited}
 use denote.Triple.Walked.{says, Stays, stay-ref, walkOf, goes-ref, Walks, ends-at, walked, walk-meets}
 use denote.Triple.Clauses.{ensured, lasts}
+use Rattle.rtp.specs.Editions.{current}
 use Rattle.log.specs.Stepping.{stepNumbers, stepCall}
 use Rattle.log.specs.declared.opening.Cursor.{Cursor}
 use Rattle.log.specs.declared.stepping.StepAnswer.{StepAnswer}
@@ -120,7 +121,7 @@ module _ {M : Type 1} (𝓤 : URA M) (H : Heap 𝓤) (A : Atoms 𝓤) (W : Given
 
   -- what is said of the call's answer
   abbrev Told : Stepped → Type 0
-  Told r = record { answer = stepNumbers (r .answer); cursor = r .cursor } ≡ stepCall (h .cursor) (now (h .log))
+  Told r = record { answer = stepNumbers (r .answer); cursor = r .cursor } ≡ stepCall current (h .cursor) (now (h .log))
 
   -- what the callee is passed
   abbrev passed : Vals step.signature (κ′, tt)
@@ -159,7 +160,7 @@ module _ {M : Type 1} (𝓤 : URA M) (H : Heap 𝓤) (A : Atoms 𝓤) (W : Given
   again : (c : Cursor) → Is C.the-row c (C′.lowered c ∷ []) → ent 𝓤 (sem 𝓤 H A Own) (sem 𝓤 H A (B κ′ .own (moved c) (T′.lowered (moved c) ∷ [])))
   again c is = qed W (‵ Own ∷ []) ∵ owned ! C.the-row (Is C.the-row) (LL.makes C.the-type C′.the-plain 𝓤 H A) c (C′.lowered c ∷ []) is $ move ! (1 ∷ 0 ∷ []) $ by ! (own-put 𝓤 H A W D L 1 vd c mach)
 
-  exits : (a : StepAnswer) (c : Cursor) → Is S.the-row a (EL.vals S.the-type S′.the-laws a) → record { answer = stepNumbers a; cursor = c } ≡ stepCall (h .cursor) (now (h .log))
+  exits : (a : StepAnswer) (c : Cursor) → Is S.the-row a (EL.vals S.the-type S′.the-laws a) → record { answer = stepNumbers a; cursor = c } ≡ stepCall current (h .cursor) (now (h .log))
       → ent 𝓤 (⋆ 𝓤 H A (‵ (fobs γ (B κ′ .coded .code (moved c))) ∷ ‵ (fbor κ (Body (mem (B κ′)) b o γ)) ∷ ‵ (flft κ q) ∷ (‵ (flft κ′ q′) ⊛ ‵ ftrue) ∷ [])) (Post (EL.val S.the-type S′.the-laws a))
   exits a c is e =
       qed W (‵ (fobs γ (B κ′ .coded .code (moved c))) ∷ ‵ (fbor κ (Body (mem (B κ′)) b o γ)) ∷ ‵ (flft κ q) ∷ (‵ (flft κ′ q′) ⊛ ‵ ftrue) ∷ []) ∵

@@ -37,6 +37,7 @@ use denote.Triple.Table.{entered, cited}
 use denote.Triple.Walked.{says, Stays, stay-none-slice, walkOf, goes-none-slice, Walks, ends-at, walked, walk-meets}
 use denote.Triple.Clauses.{ensured, lasts}
 use denote.Exit.{yes}
+use Rattle.rtp.specs.Editions.{current}
 use Rattle.log.specs.Opening.{openNumbers, openCall, OpenOutcome}
 use Rattle.log.specs.declared.opening.Cursor.{Cursor}
 use Rattle.log.specs.declared.opening.Opened.{Opened}
@@ -86,7 +87,7 @@ module _ {M : Type 1} (𝓤 : URA M) (H : Heap 𝓤) (A : Atoms 𝓤) (W : Given
 
   -- what is said of the call's answer
   abbrev Told : Opened → Type 0
-  Told r = record { answer = openNumbers (r .answer); cursor = r .cursor } ≡ openCall (now s)
+  Told r = record { answer = openNumbers (r .answer); cursor = r .cursor } ≡ openCall current (now s)
 
   abbrev to : Opening 𝓤 H A mem run .Ghost
   to = (((κ, tt), (q, tt), tt, (s, tt), at), tt)
@@ -105,7 +106,7 @@ module _ {M : Type 1} (𝓤 : URA M) (H : Heap 𝓤) (A : Atoms 𝓤) (W : Given
   cursor-is : (r : Opened) (u : Val) → Is O.the-row r (u ∷ []) → Is C.the-row (r .cursor) (C′.lowered (r .cursor) ∷ [])
   cursor-is r u is = LL.owed O.the-type O′.the-laws r (u ∷ []) is .1 .0
 
-  exits : (c : Cursor) → Is C.the-row c (C′.lowered c ∷ []) → c ≡ openCall (now s) .cursor → ent 𝓤 (⋆ 𝓤 H A ((‵ (flft κ q) ⊛ ‵ ftrue) ∷ ‵ Own ∷ [])) (Post (T′.lowered (made c)))
+  exits : (c : Cursor) → Is C.the-row c (C′.lowered c ∷ []) → c ≡ openCall current (now s) .cursor → ent 𝓤 (⋆ 𝓤 H A ((‵ (flft κ q) ⊛ ‵ ftrue) ∷ ‵ Own ∷ [])) (Post (T′.lowered (made c)))
   exits c is e =
       qed W ((‵ (flft κ q) ⊛ ‵ ftrue) ∷ ‵ Own ∷ []) ∵
       suffices ! _ (ends-at 𝓤 H A opened.ended stayed (opened.clauses 𝓤 H A mem run) W (((κ, tt), (q, tt), tt, (s, tt), at), tt) (T′.lowered (made c)) (made c) (tt, tt) (tt, tt)) $ says ! (refl, e) $

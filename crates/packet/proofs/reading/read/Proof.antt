@@ -4,6 +4,7 @@ use mathlib.Core.Bool.{true}
 use mathlib.Core.Path.{_≡_, ap, sym, _∙_}
 use Prim.Native.Nat.{ℕ}
 use native.Mathlib.Omega.{arith}
+use Rattle.rtp.specs.Editions.{current}
 use Rattle.rtp_headers.proofs.HeaderLaws.{within}
 use Rattle.rtp.specs.Ranges.{inRange}
 use Rattle.rtp_headers.specs.Header.{header}
@@ -16,7 +17,7 @@ use borrow.Author.Needs.{needs}
 use Rattle.packet.proofs.reading.read.Statement.{statement}
 use Rattle.packet.proofs.reading.read.Tie as tie
 
-range-at : (c : tie.Then1) → inRange (c .before .before .before .before .args .settings) ≡ true
+range-at : (c : tie.Then1) → inRange current (c .before .before .before .before .args .settings) ≡ true
 range-at c = sym (c .before .in-range .ensures) ∙ c .if1 .taken
 
 -- the header that was read
@@ -24,14 +25,14 @@ head-at : (c : tie.After-head) → header (now (c .before .before .before .befor
 head-at c = sym (same-header _ _ (c .before .before .read-header .ensures)) ∙ c .head .given .1
 
 whole-at : (c : tie.After-head) → let a = c .before .before .before .before .before .before .before .before .args in let h = c .head .given .0 .0 in
-    reading (a .settings) (length (now (a .rows))) (now (a .packet)) ≡ outcomeOf h (typedRequest (a .settings) (h .«payload_type») (payloadIn (now (a .packet)) h)) (typedRows (a .settings) h (payloadIn (now (a .packet)) h))
-whole-at c = let a = c .before .before .before .before .before .before .before .before .args in reading-headed (a .settings) (length (now (a .rows))) (now (a .packet)) (range-at (c .before .before .before .before)) (c .before .before .before .if2 .left) _ (head-at c)
+    reading current (a .settings) (length (now (a .rows))) (now (a .packet)) ≡ outcomeOf h (typedRequest (a .settings) (h .«payload_type») (payloadIn (now (a .packet)) h)) (typedRows current (a .settings) h (payloadIn (now (a .packet)) h))
+whole-at c = let a = c .before .before .before .before .before .before .before .before .args in reading-headed current (a .settings) (length (now (a .rows))) (now (a .packet)) (range-at (c .before .before .before .before)) (c .before .before .before .if2 .left) _ (head-at c)
 
 in-range-requires : tie.Need-in-range-requires
 in-range-requires c κs = search needs
 
 returns : tie.Need-returns
-returns c = let a = c .before .before .before .before .before .args in comes-refused _ (now (a .rows)) _ (reading-short (a .settings) (length (now (a .rows))) (now (a .packet)) (range-at (c .before)) (c .if2 .taken))
+returns c = let a = c .before .before .before .before .before .args in comes-refused _ (now (a .rows)) _ (reading-short current (a .settings) (length (now (a .rows))) (now (a .packet)) (range-at (c .before)) (c .if2 .taken))
 
 read-header-requires : tie.Need-read-header-requires
 read-header-requires c κs = search needs
@@ -64,7 +65,7 @@ mode-request-requires : tie.Need-mode-request-requires
 mode-request-requires c κs = search needs
 
 returns-2 : tie.Need-returns-2
-returns-2 c = let a = c .before .before .before .before .before .before .before .before .before .args in comes-refused _ (now (a .rows)) _ (reading-refused (a .settings) (length (now (a .rows))) (now (a .packet)) (range-at (c .before .before .before .before .before)) (c .before .before .before .before .if2 .left) _ (sym (same-header _ _ (c .before .before .before .read-header .ensures)) ∙ c .before .refusal .given .1))
+returns-2 c = let a = c .before .before .before .before .before .before .before .before .before .args in comes-refused _ (now (a .rows)) _ (reading-refused current (a .settings) (length (now (a .rows))) (now (a .packet)) (range-at (c .before .before .before .before .before)) (c .before .before .before .before .if2 .left) _ (sym (same-header _ _ (c .before .before .before .read-header .ensures)) ∙ c .before .refusal .given .1))
 
 same-length : tie.Need-same-length
 same-length c = search needs
@@ -80,11 +81,11 @@ returns-4 c =
     let a = c .before .before .before .before .before .before .before .before .before .before .before .before .before .before .before .before .before .before .args in
     let h = c .before .before .before .before .before .before .before .before .before .before .head .given .0 .0 in
     comes-typed h (c .mode-request .result) _ _ (now (a .rows)) _ _ _
-    (whole-at (c .before .before .before .before .before .before .before .before .before .before) ∙ ap (λ (request : ℕ). outcomeOf h request (typedRows (a .settings) h (payloadIn (now (a .packet)) h))) (sym (c .mode-request .ensures)))
+    (whole-at (c .before .before .before .before .before .before .before .before .before .before) ∙ ap (λ (request : ℕ). outcomeOf h request (typedRows current (a .settings) h (payloadIn (now (a .packet)) h))) (sym (c .mode-request .ensures)))
     (c .before .before .before .before .before .before .before .read-typed .ensures) (c .before .before .before .count .given .1)
 
 returns-5 : tie.Need-returns-5
-returns-5 c = let a = c .before .before .before .before .args in comes-refused _ (now (a .rows)) _ (reading-out (a .settings) (length (now (a .rows))) (now (a .packet)) (sym (c .before .in-range .ensures) ∙ c .if1 .left))
+returns-5 c = let a = c .before .before .before .before .args in comes-refused _ (now (a .rows)) _ (reading-out current (a .settings) (length (now (a .rows))) (now (a .packet)) (sym (c .before .in-range .ensures) ∙ c .if1 .left))
 
 pub read-spec : {M : Type 1} → statement M
 read-spec =

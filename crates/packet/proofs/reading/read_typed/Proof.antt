@@ -1,6 +1,7 @@
 use denote.Ref.{now}
 use lib.ListN.{length}
 use native.Mathlib.Omega.{arith}
+use Rattle.rtp.specs.Editions.{current}
 use Rattle.rtp_headers.proofs.HeaderLaws.{within}
 use Rattle.red.proofs.AnswerLaws.{gives-read, gives-none, gives-same}
 use Rattle.packet.proofs.ReadingLaws.{payload-fits, typed-plain, typed-redundant, typed-other}
@@ -29,7 +30,7 @@ same-length c = search needs
 returns : tie.Need-returns
 returns c =
     let a = c .before .before .before .before .before .before .before .before .before .before .args in
-    gives-same _ (now (a .rows)) _ _ _ (typed-plain (a .settings) (a .head) (now (a .packet)) (c .before .before .before .before .before .before .before .before .before .before .pre .0) (length (now (a .rows))) (c .before .before .before .before .before .before .before .before .before .before .pre .1) (c .before .before .before .before .before .before .before .before .before .before .pre .2) (c .before .before .before .before .before .if1 .taken)) (gives-read _ _ _ _ (c .before .before .read-payload .ensures))
+    gives-same _ (now (a .rows)) _ _ _ (typed-plain current (a .settings) (a .head) (now (a .packet)) (c .before .before .before .before .before .before .before .before .before .before .pre .0) (length (now (a .rows))) (c .before .before .before .before .before .before .before .before .before .before .pre .1) (c .before .before .before .before .before .before .before .before .before .before .pre .2) (c .before .before .before .before .before .if1 .taken)) (gives-read _ _ _ _ (c .before .before .read-payload .ensures))
 
 sub-read-redundant : tie.Need-sub-read-redundant
 sub-read-redundant c = omega (arith, within _ _ (c .before .before .before .before .before .before .before .before .pre .2))
@@ -49,10 +50,10 @@ same-length-2 c = search needs
 returns-2 : tie.Need-returns-2
 returns-2 c =
     let a = c .before .before .before .before .before .before .before .before .before .before .before .before .before .args in
-    gives-same _ (now (a .rows)) _ _ _ (typed-redundant (a .settings) (a .head) (now (a .packet)) (c .before .before .before .before .before .before .before .before .if1 .left) (c .before .before .before .before .before .before .before .before .before .before .before .before .before .pre .0) (length (now (a .rows))) (c .before .before .before .before .before .before .before .before .before .before .before .before .before .pre .1) (c .before .before .before .before .before .before .before .before .before .before .before .before .before .pre .2) (c .before .before .before .before .before .if2 .taken)) (gives-read _ _ _ _ (c .before .before .read-redundant .ensures))
+    gives-same _ (now (a .rows)) _ _ _ (typed-redundant current (a .settings) (a .head) (now (a .packet)) (c .before .before .before .before .before .before .before .before .if1 .left) (c .before .before .before .before .before .before .before .before .before .before .before .before .before .pre .0) (length (now (a .rows))) (c .before .before .before .before .before .before .before .before .before .before .before .before .before .pre .1) (c .before .before .before .before .before .before .before .before .before .before .before .before .before .pre .2) (c .before .before .before .before .before .if2 .taken)) (gives-read _ _ _ _ (c .before .before .read-redundant .ensures))
 
 returns-3 : tie.Need-returns-3
-returns-3 c = let a = c .before .before .before .before .before .before .before .before .args in gives-none _ (now (a .rows)) _ (typed-other (a .settings) (a .head) (now (a .packet)) (c .before .before .before .if1 .left) (c .if2 .left))
+returns-3 c = let a = c .before .before .before .before .before .before .before .before .args in gives-none _ (now (a .rows)) _ (typed-other current (a .settings) (a .head) (now (a .packet)) (c .before .before .before .if1 .left) (c .if2 .left))
 
 pub read-typed-spec : {M : Type 1} → statement M
 read-typed-spec =

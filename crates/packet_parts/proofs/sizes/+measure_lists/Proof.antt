@@ -2,6 +2,7 @@ use mathlib.Core.Path.{_≡_, ap, sym, _∙_, subst}
 use native.Mathlib.Omega.{arith}
 use lib.ListN.{take, drop, length-take, length-drop, length}
 use denote.Ref.{now}
+use Rattle.rtp.specs.Editions.{current}
 use Rattle.rtp.proofs.AreaLaws.{part-to-end}
 use Rattle.payload_sizes.specs.Measures.{Numbers, writtenNumbers}
 use Rattle.packet_parts.specs.ListSizes.{redundantNumbers, addNumbers, listsNumbers}
@@ -44,15 +45,15 @@ At P t = P (callees t) (measure-lists-at t) measure-lists.Post
 
 -- the first list and the others
 abbrev first : (t : ℕ) → At measure-lists-lts.After-first-words t → Numbers
-first t c = let a = c .before .before .before .before .args in redundantNumbers (a .asked) (a .time) (take (c .first-words .result) (now (a .rows)))
+first t c = let a = c .before .before .before .before .args in redundantNumbers current (a .asked) (a .time) (take (c .first-words .result) (now (a .rows)))
 
 abbrev others : (t : ℕ) → At measure-lists-lts.After-first-words t → Numbers
-others t c = let a = c .before .before .before .before .args in listsNumbers (a .asked) (a .time) (drop 1 (now (a .counts))) (drop (c .first-words .result) (now (a .rows)))
+others t c = let a = c .before .before .before .before .args in listsNumbers current (a .asked) (a .time) (drop 1 (now (a .counts))) (drop (c .first-words .result) (now (a .rows)))
 
-more-at : (t : ℕ) (c : At measure-lists-lts.After-first-words t) → let a = c .before .before .before .before .args in listsNumbers (a .asked) (a .time) (now (a .counts)) (now (a .rows)) ≡ addNumbers (first t c) (others t c)
+more-at : (t : ℕ) (c : At measure-lists-lts.After-first-words t) → let a = c .before .before .before .before .args in listsNumbers current (a .asked) (a .time) (now (a .counts)) (now (a .rows)) ≡ addNumbers (first t c) (others t c)
 more-at t c = let a = c .before .before .before .before .args in
-    subst (λ (n : ℕ). listsNumbers (a .asked) (a .time) (now (a .counts)) (now (a .rows)) ≡ addNumbers (redundantNumbers (a .asked) (a .time) (take n (now (a .rows)))) (listsNumbers (a .asked) (a .time) (drop 1 (now (a .counts))) (drop n (now (a .rows)))))
-    (sym (c .first-words .ensures .0)) (lists-rest (a .asked) (a .time) (now (a .counts)) (now (a .rows)) (c .before .if1 .left))
+    subst (λ (n : ℕ). listsNumbers current (a .asked) (a .time) (now (a .counts)) (now (a .rows)) ≡ addNumbers (redundantNumbers current (a .asked) (a .time) (take n (now (a .rows)))) (listsNumbers current (a .asked) (a .time) (drop 1 (now (a .counts))) (drop n (now (a .rows)))))
+    (sym (c .first-words .ensures .0)) (lists-rest current (a .asked) (a .time) (now (a .counts)) (now (a .rows)) (c .before .if1 .left))
 
 size-at : (t : ℕ) (c : At measure-lists-lts.After-size t) → first t (c .before .before .before .before) ≡ record { refusal = 0; count = c .size .given .0 .0 }
 size-at t c = told-bytes _ _ _ (c .size .given .1) (c .before .before .measure-redundant .ensures)
@@ -67,7 +68,7 @@ measure-lists-measure-payload-requires : (t : ℕ) → At measure-lists-lts.Need
 measure-lists-measure-payload-requires t c κs = search needs
 
 measure-lists-returns : (t : ℕ) → At measure-lists-lts.Need-returns t
-measure-lists-returns t c = let a = c .before .before .before .before .args in c .measure-payload .ensures ∙ sym (lists-one (a .asked) (a .time) (now (a .counts)) (now (a .rows)) (c .before .if1 .taken))
+measure-lists-returns t c = let a = c .before .before .before .before .args in c .measure-payload .ensures ∙ sym (lists-one current (a .asked) (a .time) (now (a .counts)) (now (a .rows)) (c .before .if1 .taken))
 
 measure-lists-first-words-requires : (t : ℕ) → At measure-lists-lts.Need-first-words-requires t
 measure-lists-first-words-requires t c κs = search needs
@@ -119,8 +120,8 @@ measure-lists-enum-known-rest t c = search needs
 
 measure-lists-add-t27 : (t : ℕ) → At measure-lists-lts.Need-add-t27 t
 measure-lists-add-t27 t c = let a = c .before .before .before .before .before .before .before .before .before .before .before .before .before .before .before .args in
-    let s = redundant-small (a .asked) (a .time) (take (c .before .before .before .before .before .before .before .before .before .before .before .first-words .result) (now (a .rows))) in
-    let r = lists-small (a .asked) (a .time) (drop 1 (now (a .counts))) (drop (c .before .before .before .before .before .before .before .before .before .before .before .first-words .result) (now (a .rows))) in
+    let s = redundant-small current (a .asked) (a .time) (take (c .before .before .before .before .before .before .before .before .before .before .before .first-words .result) (now (a .rows))) in
+    let r = lists-small current (a .asked) (a .time) (drop 1 (now (a .counts))) (drop (c .before .before .before .before .before .before .before .before .before .before .before .first-words .result) (now (a .rows))) in
     let i = ap (λ (n : Numbers). n .count) (size-at t (c .before .before .before .before .before .before .before)) in
     let j = ap (λ (n : Numbers). n .count) (rest-at t (c .before)) in
     omega (arith, length-drop 1 (now (a .counts)), c .before .before .before .before .before .before .before .before .before .before .before .before .before .before .before .pre .1)

@@ -4,6 +4,7 @@ use native.Mathlib.Omega.{arith}
 use borrow.Author.Tests.{lt-ltb, le-ltb, eq-eqb, ne-eqb}
 use lib.ListN.{length}
 use denote.Ref.{now}
+use Rattle.rtp.specs.Editions.{current}
 use Rattle.payload_sizes.specs.Measures.{Numbers}
 use Rattle.plans.specs.Plans.{maxPayload}
 use Rattle.packet_parts.specs.Parts.{maxRedundant, maxBlock}
@@ -13,7 +14,7 @@ use borrow.Author.Needs.{needs}
 use Rattle.packet_parts.proofs.sizes.packet_size.Statement.{statement}
 use Rattle.packet_parts.proofs.sizes.packet_size.Tie as tie
 
-size-at : (c : tie.After-size) → let a = c .before .before .before .before .before .before .args in listsNumbers (a .asked) (a .time) (now (a .counts)) (now (a .rows)) ≡ record { refusal = 0; count = c .size .given .0 .0 }
+size-at : (c : tie.After-size) → let a = c .before .before .before .before .before .before .args in listsNumbers current (a .asked) (a .time) (now (a .counts)) (now (a .rows)) ≡ record { refusal = 0; count = c .size .given .0 .0 }
 size-at c = told-bytes _ _ _ (c .size .given .1) (c .before .before .measure-lists .ensures)
 
 -- it is small
@@ -21,18 +22,18 @@ small-at : (c : tie.After-size) → c .size .given .0 .0 ≤ (4 + maxBlock) * (m
 small-at c =
     let a = c .before .before .before .before .before .before .args in
     let j = ap (λ (n : Numbers). n .count) (size-at c) in
-    omega (arith, lists-small (a .asked) (a .time) (now (a .counts)) (now (a .rows)), c .before .before .before .if1 .left)
+    omega (arith, lists-small current (a .asked) (a .time) (now (a .counts)) (now (a .rows)), c .before .before .before .if1 .left)
 
 -- past the first test the bytes are those of the lists, with their headers
 few-at : (c : tie.After-measure-lists) → let a = c .before .before .before .before .args in
-    sizeNumbers (a .asked) (a .time) (now (a .counts)) (now (a .rows)) ≡ packetNumbers (a .asked) (length (now (a .counts))) (listsNumbers (a .asked) (a .time) (now (a .counts)) (now (a .rows)))
-few-at c = let a = c .before .before .before .before .args in size-few (a .asked) (a .time) (now (a .counts)) (now (a .rows)) (c .before .if1 .left)
+    sizeNumbers current (a .asked) (a .time) (now (a .counts)) (now (a .rows)) ≡ packetNumbers (a .asked) (length (now (a .counts))) (listsNumbers current (a .asked) (a .time) (now (a .counts)) (now (a .rows)))
+few-at c = let a = c .before .before .before .before .args in size-few current (a .asked) (a .time) (now (a .counts)) (now (a .rows)) (c .before .if1 .left)
 
 add-if1 : tie.Need-add-if1
 add-if1 c = search needs
 
 returns : tie.Need-returns
-returns c = size-many _ _ _ _ (c .if1 .taken)
+returns c = size-many current _ _ _ _ (c .if1 .taken)
 
 measure-lists-requires : tie.Need-measure-lists-requires
 measure-lists-requires c κs = search needs

@@ -1,3 +1,4 @@
+use Rattle.rtp.specs.Editions.{current}
 use Rattle.formats.specs.Formats.{stepOf}
 use Rattle.plans.specs.Plans.{gapBetween}
 use Rattle.plans.specs.Room.{attachPlan}
@@ -61,12 +62,12 @@ rest-at t c =
     ∙ ap (λ (n : ℕ). planAnswer (a .format) (a .channels) (planFrom (a .format) (a .channels) n (rowAs (c .before .before .before .before .before .first-row .result)) (rowsIn (drop rowWidth (now (a .rows)))))) (c .before .before .next-channel .ensures)
     ∙ ap (λ (w : RowWords). planAnswer (a .format) (a .channels) (planFrom (a .format) (a .channels) (nextChannel (a .channels) (a .c)) (rowAs w) (rowsIn (drop rowWidth (now (a .rows)))))) (c .before .before .before .before .before .first-row .ensures)
 
-small-at : (t : ℕ) (c : At plan-from-lts.After-plan-from t) → Small (c .before .before .before .before .before .before .before .before .args .format) (c .before .before .before .before .before .before .before .before .args .channels) maxRows (c .plan-from .result)
+small-at : (t : ℕ) (c : At plan-from-lts.After-plan-from t) → Small (c .before .before .before .before .before .before .before .before .args .format) (c .before .before .before .before .before .before .before .before .args .channels) (maxRows current) (c .plan-from .result)
 small-at t c =
     let a = c .before .before .before .before .before .before .before .before .args in
     let ws = drop rowWidth (now (a .rows)) in
-    subst (λ (x : Planned). Small (a .format) (a .channels) maxRows x) (sym (rest-at t c))
-    (small-weaker (a .format) (a .channels) (length (rowsIn ws)) maxRows (planAnswer (a .format) (a .channels) (planFrom (a .format) (a .channels) (nextChannel (a .channels) (a .c)) (rowAs (wordsAt (now (a .rows)) 0)) (rowsIn ws))) (omega (arith, length-rows ws, length-drop rowWidth (now (a .rows)), c .before .before .before .before .before .before .before .before .pre .1 .2)) (small-plan (a .format) (a .channels) (nextChannel (a .channels) (a .c)) (rowAs (wordsAt (now (a .rows)) 0)) (rowsIn ws)))
+    subst (λ (x : Planned). Small (a .format) (a .channels) (maxRows current) x) (sym (rest-at t c))
+    (small-weaker (a .format) (a .channels) (length (rowsIn ws)) (maxRows current) (planAnswer (a .format) (a .channels) (planFrom (a .format) (a .channels) (nextChannel (a .channels) (a .c)) (rowAs (wordsAt (now (a .rows)) 0)) (rowsIn ws))) (omega (arith, length-rows ws, length-drop rowWidth (now (a .rows)), c .before .before .before .before .before .before .before .before .pre .1 .2)) (small-plan (a .format) (a .channels) (nextChannel (a .channels) (a .c)) (rowAs (wordsAt (now (a .rows)) 0)) (rowsIn ws)))
 
 plan-from-returns : (t : ℕ) → At plan-from-lts.Need-returns t
 plan-from-returns t c = let a = c .before .before .before .args in sym (plan-empty (a .format) (a .channels) (a .c) (rowAs (a .previous)) (now (a .rows)) (c .before .if1 .taken) (c .if2 .taken))

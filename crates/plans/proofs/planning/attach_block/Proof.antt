@@ -1,10 +1,12 @@
 use mathlib.Core.Path.{subst}
 use Prim.Native.Nat.{_+_, _*_, _≤_, _<_}
 use native.Mathlib.Omega.{arith}
+use Rattle.rtp.specs.Editions.{current}
 use Rattle.rtp.specs.Sizes.{maxRows}
 use Rattle.plans.specs.declared.planning.Planned.{Planned}
 use Rattle.plans.specs.Room.{SmallPlan, Small}
-use Rattle.plans.proofs.PlanLaws.{block-frames, plan-frames, size-grows}
+use Rattle.plans.proofs.PlanLaws.{block-frames, plan-frames}
+use Rattle.plans.proofs.EntriesLaws.{run-half}
 use borrow.Author.Tests.{le-leb, lt-leb}
 use Rattle.formats.specs.Formats.{maxGap}
 use borrow.Author.Needs.{needs}
@@ -15,8 +17,8 @@ use Rattle.plans.proofs.planning.attach_block.Tie as tie
 here-at : (c : tie.Start) → c .args .channels * c .args .row .length ≤ 81600
 here-at c = block-frames (c .args .channels) (c .args .row .length) (c .pre .channels) (c .pre .short)
 
-small-at : (c : tie.After-rest) → SmallPlan (c .before .before .before .args .format) (c .before .before .before .args .channels) maxRows (c .rest .given .0 .0)
-small-at c = subst (λ (x : Planned). Small (c .before .before .before .args .format) (c .before .before .before .args .channels) maxRows x) (c .rest .given .1) (c .before .before .before .pre .small)
+small-at : (c : tie.After-rest) → SmallPlan (c .before .before .before .args .format) (c .before .before .before .args .channels) (maxRows current) (c .rest .given .0 .0)
+small-at c = subst (λ (x : Planned). Small (c .before .before .before .args .format) (c .before .before .before .args .channels) (maxRows current) x) (c .rest .given .1) (c .before .before .before .pre .small)
 
 tag-class-requires : tie.Need-tag-class-requires
 tag-class-requires c κs = search needs
@@ -33,8 +35,8 @@ enum-told c = search needs
 enum-told-2 : tie.Need-enum-told-2
 enum-told-2 c = search needs
 
-entry-size-requires : tie.Need-entry-size-requires
-entry-size-requires c κs = search needs
+run-size-requires : tie.Need-run-size-requires
+run-size-requires c κs = search needs
 
 enum-known-rest : tie.Need-enum-known-rest
 enum-known-rest c = search needs
@@ -45,26 +47,26 @@ add-all c = omega (arith, here-at (c .before .before .before .before .before), p
 joins-run-requires : tie.Need-joins-run-requires
 joins-run-requires c κs = search needs
 
-entry-size-requires-2 : tie.Need-entry-size-requires-2
-entry-size-requires-2 c κs = search needs
+run-size-requires-2 : tie.Need-run-size-requires-2
+run-size-requires-2 c κs = search needs
 
 sub-others : tie.Need-sub-others
-sub-others c = omega (arith, c .before .entry-size2 .ensures, small-at (c .before .before .before .before .before .before) .entry)
+sub-others c = omega (arith, c .before .run-size2 .ensures, small-at (c .before .before .before .before .before .before) .run)
 
 add-t18 : tie.Need-add-t18
 add-t18 c = omega (arith, small-at (c .before .before .before .before .before .before .before) .few)
 
-add-entry-size : tie.Need-add-entry-size
-add-entry-size c = omega (arith, small-at (c .before .before .before .before .before .before .before .before) .few)
+add-run-size : tie.Need-add-run-size
+add-run-size c = omega (arith, small-at (c .before .before .before .before .before .before .before .before) .few)
 
-entry-size-requires-3 : tie.Need-entry-size-requires-3
-entry-size-requires-3 c κs = search needs
+run-size-requires-3 : tie.Need-run-size-requires-3
+run-size-requires-3 c κs = search needs
 
 add-t21 : tie.Need-add-t21
-add-t21 c = omega (arith, small-at (c .before .before .before .before .before .before .before .before .before), c .entry-size3 .ensures, size-grows (c .before .before .before .before .before .before .before .before .before .before .before .before .args .format) (c .before .before .before .before .before .before .before .before .before .rest .given .0 .0 .blocks + 1))
+add-t21 c = omega (arith, small-at (c .before .before .before .before .before .before .before .before .before), c .run-size3 .ensures, run-half (c .before .before .before .before .before .before .before .before .before .before .before .before .args .format) (c .before .before .before .before .before .before .before .before .before .rest .given .0 .0 .blocks + 1))
 
 returns : tie.Need-returns
-returns c = simp (c .before .before .before .before .before .before .before .before .before .rest .given .1, ← (c .before .before .before .before .before .before .joins-run .ensures), c .before .before .before .before .before .if1 .taken, ← (c .before .before .before .before .entry-size2 .ensures), ← (c .entry-size3 .ensures))
+returns c = simp (c .before .before .before .before .before .before .before .before .before .rest .given .1, ← (c .before .before .before .before .before .before .joins-run .ensures), c .before .before .before .before .before .if1 .taken, ← (c .before .before .before .before .run-size2 .ensures), ← (c .run-size3 .ensures))
 
 max-gap-requires : tie.Need-max-gap-requires
 max-gap-requires c κs = search needs
@@ -76,20 +78,20 @@ near-at c = omega (arith, c .before .before .max-gap .ensures, c .if2 .taken)
 apart-at : (c : tie.Else2) → maxGap (c .before .before .before .before .before .before .before .before .before .before .args .format) < c .before .before .before .before .before .before .before .rest .given .0 .0 .gap
 apart-at c = omega (arith, c .before .before .max-gap .ensures, c .if2 .left)
 
-entry-size-requires-4 : tie.Need-entry-size-requires-4
-entry-size-requires-4 c κs = search needs
+run-size-requires-4 : tie.Need-run-size-requires-4
+run-size-requires-4 c κs = search needs
 
 add-t26 : tie.Need-add-t26
-add-t26 c = omega (arith, small-at (c .before .before .before .before .before .before .before .before .before), c .before .entry-size4 .ensures, size-grows (c .before .before .before .before .before .before .before .before .before .before .before .before .args .format) 1)
+add-t26 c = omega (arith, small-at (c .before .before .before .before .before .before .before .before .before), c .before .run-size4 .ensures, run-half (c .before .before .before .before .before .before .before .before .before .before .before .before .args .format) 1)
 
 returns-2 : tie.Need-returns-2
-returns-2 c = simp (c .before .before .before .before .before .before .before .before .before .rest .given .1, c .before .before .before .before .before .before .before .before .before .before .before .tag-class .ensures, ← (c .before .before .before .before .before .before .joins-run .ensures), c .before .before .before .before .before .if1 .left, le-leb _ _ (near-at (c .before .before)), ← (c .before .entry-size4 .ensures))
+returns-2 c = simp (c .before .before .before .before .before .before .before .before .before .rest .given .1, c .before .before .before .before .before .before .before .before .before .before .before .tag-class .ensures, ← (c .before .before .before .before .before .before .joins-run .ensures), c .before .before .before .before .before .if1 .left, le-leb _ _ (near-at (c .before .before)), ← (c .before .run-size4 .ensures))
 
 returns-3 : tie.Need-returns-3
 returns-3 c = search needs
 
 returns-4 : tie.Need-returns-4
-returns-4 c = simp (c .before .enum-told2 .given .1, c .before .before .before .tag-class .ensures, ← (c .entry-size .ensures))
+returns-4 c = simp (c .before .enum-told2 .given .1, c .before .before .before .tag-class .ensures, ← (c .run-size .ensures))
 
 returns-5 : tie.Need-returns-5
 returns-5 c = simp (c .before .before .before .before .before .before .before .rest .given .1, ← (c .before .before .before .before .joins-run .ensures), c .before .before .before .if1 .left, lt-leb _ _ (apart-at c))
@@ -103,19 +105,19 @@ attach-block-spec =
     mul-frames
     enum-told
     enum-told-2
-    entry-size-requires
+    run-size-requires
     enum-known-rest
     add-all
     joins-run-requires
-    entry-size-requires-2
+    run-size-requires-2
     sub-others
     add-t18
-    add-entry-size
-    entry-size-requires-3
+    add-run-size
+    run-size-requires-3
     add-t21
     returns
     max-gap-requires
-    entry-size-requires-4
+    run-size-requires-4
     add-t26
     returns-2
     returns-3

@@ -1,9 +1,10 @@
 use mathlib.Core.Path.{_≡_, ap, subst, sym, _∙_}
-use Prim.Native.Nat.{ℕ, _+_, _≤_}
+use Prim.Native.Nat.{ℕ, _+_, _*_, _≤_}
 use lib.ListN.{length}
 use native.Mathlib.Omega.{arith}
 use denote.Ref.{now}
 use borrow.Author.Tests.{lt-ltb, le-ltb}
+use Rattle.rtp.specs.Editions.{current}
 use Rattle.rtp.specs.Sizes.{maxRows}
 use Rattle.rtp.specs.Time.{difference}
 use Rattle.formats.specs.Formats.{formatOf}
@@ -33,24 +34,24 @@ made-at c =
     ∙ ap (λ (w : RowWords). planAnswer (a .format) (a .channels) (planFrom (a .format) (a .channels) 0 (stepBefore (a .format) (rowAs w)) (rowsIn (now (a .rows))))) (c .before .before .before .first-row .ensures)
 
 -- its numbers are small
-small-at : (c : tie.After-plan-from) (p : Plan) → c .plan-from .result ≡ Planned.Table p → p .table + p .frames ≤ 20000000
+small-at : (c : tie.After-plan-from) (p : Plan) → c .plan-from .result ≡ Planned.Table p → p .table + p .frames ≤ maxRows current * 90000
 small-at c p e =
     let a = c .before .before .before .before .before .before .before .before .args in
-    let s = small-weaker (a .format) (a .channels) (length (rowsIn (now (a .rows)))) maxRows (Planned.Table p) (omega (arith, length-rows (now (a .rows)), c .before .before .before .before .if3 .left))
+    let s = small-weaker (a .format) (a .channels) (length (rowsIn (now (a .rows)))) (maxRows current) (Planned.Table p) (omega (arith, length-rows (now (a .rows)), c .before .before .before .before .if3 .left))
     (subst (λ (x : Planned). Small (a .format) (a .channels) (length (rowsIn (now (a .rows)))) x) (sym (made-at c) ∙ e) (small-plan (a .format) (a .channels) 0 (stepBefore (a .format) (rowAs (wordsAt (now (a .rows)) 0))) (rowsIn (now (a .rows))))) in
     omega (arith, s .tabled, plan-frames (a .format) (a .channels) p s (omega arith))
 
-answer-at : (c : tie.After-plan-from) → let a = c .before .before .before .before .before .before .before .before .args in listAnswer (a .format) (a .channels) (plan (a .format) (a .channels) (rowsIn (now (a .rows)))) ≡ fittingPlan (a .format) (c .plan-from .result)
-answer-at c = let a = c .before .before .before .before .before .before .before .before .args in list-answer (a .format) (a .channels) (now (a .rows)) (c .before .before .before .before .before .if2 .left) (omega (arith, c .before .before .before .before .if3 .left)) (c .plan-from .result) (made-at c)
+answer-at : (c : tie.After-plan-from) → let a = c .before .before .before .before .before .before .before .before .args in listAnswer (a .format) (a .channels) (plan current (a .format) (a .channels) (rowsIn (now (a .rows)))) ≡ fittingPlan (a .format) (c .plan-from .result)
+answer-at c = let a = c .before .before .before .before .before .before .before .before .args in list-answer current (a .format) (a .channels) (now (a .rows)) (c .before .before .before .before .before .if2 .left) (omega (arith, c .before .before .before .before .if3 .left)) (c .plan-from .result) (made-at c)
 
 returns : tie.Need-returns
-returns c = let a = c .before .before .args in list-has _ _ _ _ (sym (no-channels-plan (a .format) (a .channels) (rowsIn (now (a .rows))) (c .if1 .taken)))
+returns c = let a = c .before .before .args in list-has _ _ _ _ (sym (no-channels-plan current (a .format) (a .channels) (rowsIn (now (a .rows))) (c .if1 .taken)))
 
 returns-2 : tie.Need-returns-2
-returns-2 c = let a = c .before .before .before .args in list-has _ _ _ _ (sym (list-none (a .format) (a .channels) (now (a .rows)) (c .if2 .taken)))
+returns-2 c = let a = c .before .before .before .args in list-has _ _ _ _ (sym (list-none current (a .format) (a .channels) (now (a .rows)) (c .if2 .taken)))
 
 returns-3 : tie.Need-returns-3
-returns-3 c = let a = c .before .before .before .before .args in list-has _ _ _ _ (sym (list-many (a .format) (a .channels) (now (a .rows)) (c .before .if2 .left) (c .if3 .taken)))
+returns-3 c = let a = c .before .before .before .before .args in list-has _ _ _ _ (sym (list-many current (a .format) (a .channels) (now (a .rows)) (c .before .if2 .left) (c .if3 .taken)))
 
 first-row-requires : tie.Need-first-row-requires
 first-row-requires c κs = search needs

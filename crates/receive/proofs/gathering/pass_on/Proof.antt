@@ -7,7 +7,14 @@ use Rattle.receive.proofs.gathering.pass_on.Reads as reads
 use Rattle.receive.proofs.gathering.pass_on.Lts as lts
 use Rattle.receive.proofs.gathering.draw_down.Reads as draw-down-reads
 use Rattle.receive.proofs.gathering.end.Reads as end-reads
+use Rattle.receive.proofs.gathering.make_room.Reads as make-room-reads
 use Rattle.receive.proofs.gathering.offer.Reads as offer-reads
+
+slice-aggregate-make-room : tie.Need-slice-aggregate-make-room
+slice-aggregate-make-room c = simp length-take (omega arith)
+
+make-room-requires : tie.Need-make-room-requires
+make-room-requires c κs = search needs
 
 slice-aggregate-offer : tie.Need-slice-aggregate-offer
 slice-aggregate-offer c = simp length-take (omega arith)
@@ -34,6 +41,8 @@ pub pass-on-spec : {M : Type 1} → statement M
 pass-on-spec =
     tie.close
     (tie.spec
+    slice-aggregate-make-room
+    make-room-requires
     slice-aggregate-offer
     offer-requires
     draw-down-requires

@@ -1,3 +1,4 @@
+use Rattle.rtp.specs.Editions.{current}
 use Rattle.tags.specs.Tags.{redundantMark}
 use denote.Ref.{now}
 use lib.ListN.{length, take, drop, length-take, length-drop}
@@ -55,30 +56,30 @@ read-at : (t : ℕ) (c : At check-blocks-lts.After-block t) → blockHeader (now
 read-at t c = sym (same-block _ _ (c .before .before .read-block-header .ensures)) ∙ c .block .given .1
 
 block-at : (t : ℕ) (c : At check-blocks-lts.After-block t) → c .block .given .0 .0 .length ≤ length (now (c .before .before .before .before .before .args .s))
-block-at t c = let a = c .before .before .before .before .before .args in block-in (a .settings) (a .done) rowArea 0 0 (now (a .headers)) (now (a .s)) (c .before .before .before .before .before .pre .1) (omega arith) _ (read-at t c)
+block-at t c = let a = c .before .before .before .before .before .args in block-in current (a .settings) (a .done) (rowArea current) 0 0 (now (a .headers)) (now (a .s)) (c .before .before .before .before .before .pre .1) (omega arith) _ (read-at t c)
 
 -- the rows of its block
 here-at : (t : ℕ) (c : At check-blocks-lts.After-here t) → let a = c .before .before .before .before .before .before .before .before .before .before .args in let e = c .before .before .before .before .before .block .given .0 .0 in
-    rowsAnswer (askedBlock redundantMark (a .settings) (a .done) rowArea 0 (e .«payload_type») 0 0 (take (e .length) (now (a .s)))) ≡ PayloadRead.Rows (c .here .given .0 .0)
+    rowsAnswer (askedBlock current redundantMark (a .settings) (a .done) (rowArea current) 0 (e .«payload_type») 0 0 (take (e .length) (now (a .s)))) ≡ PayloadRead.Rows (c .here .given .0 .0)
 here-at t c = sym (c .before .before .check-block2 .ensures) ∙ c .here .given .1
 
-few-at : (t : ℕ) (c : At check-blocks-lts.After-here t) → c .before .before .before .before .before .before .before .before .before .before .args .done + c .here .given .0 .0 ≤ maxRows
-few-at t c = let a = c .before .before .before .before .before .before .before .before .before .before .args in first-few (a .settings) (a .done) rowArea 0 0 (now (a .headers)) (now (a .s)) (c .before .before .before .before .before .before .before .before .before .before .pre .1) (omega arith) _ (read-at t (c .before .before .before .before .before)) 0 _ (here-at t c)
+few-at : (t : ℕ) (c : At check-blocks-lts.After-here t) → c .before .before .before .before .before .before .before .before .before .before .args .done + c .here .given .0 .0 ≤ maxRows current
+few-at t c = let a = c .before .before .before .before .before .before .before .before .before .before .args in first-few current (a .settings) (a .done) (rowArea current) 0 0 (now (a .headers)) (now (a .s)) (c .before .before .before .before .before .before .before .before .before .before .pre .1) (omega arith) _ (read-at t (c .before .before .before .before .before)) 0 _ (here-at t c)
 
 -- what follows, as the call of itself read it
 rest-at : (t : ℕ) (c : At check-blocks-lts.After-check-blocks t) → let a = c .before .before .before .before .before .before .before .before .before .before .before .before .before .before .args in let e = c .before .before .before .before .before .before .before .before .before .block .given .0 .0 in
-    c .check-blocks .result ≡ rowsAnswer (blocksFrom (a .settings) (a .done + c .before .before .before .before .here .given .0 .0) 0 0 (drop 4 (now (a .headers))) (drop (e .length) (now (a .s))))
+    c .check-blocks .result ≡ rowsAnswer (blocksFrom current (a .settings) (a .done + c .before .before .before .before .here .given .0 .0) 0 0 (drop 4 (now (a .headers))) (drop (e .length) (now (a .s))))
 rest-at t c =
     let a = c .before .before .before .before .before .before .before .before .before .before .before .before .before .before .args in
     c .check-blocks .ensures ∙ rw (part-to-end 4 (now (a .headers)), part-to-end (c .before .before .before .before .before .before .before .before .before .block .given .0 .0 .length) (now (a .s)))
 
 whole-at : (t : ℕ) (c : At check-blocks-lts.After-check-blocks t) → let a = c .before .before .before .before .before .before .before .before .before .before .before .before .before .before .args in let e = c .before .before .before .before .before .before .before .before .before .block .given .0 .0 in
-    rowsAnswer (blocksFrom (a .settings) (a .done) 0 0 (now (a .headers)) (now (a .s))) ≡ addAnswer (c .before .before .before .before .here .given .0 .0) (further (e .length) (c .check-blocks .result))
+    rowsAnswer (blocksFrom current (a .settings) (a .done) 0 0 (now (a .headers)) (now (a .s))) ≡ addAnswer (c .before .before .before .before .here .given .0 .0) (further (e .length) (c .check-blocks .result))
 whole-at t c =
     let a = c .before .before .before .before .before .before .before .before .before .before .before .before .before .before .args in
     let e = c .before .before .before .before .before .before .before .before .before .block .given .0 .0 in
-    checked (a .settings) (a .done) (now (a .headers)) (now (a .s)) (c .before .before .before .before .before .before .before .before .before .before .before .before .before .before .pre .1) e (read-at t (c .before .before .before .before .before .before .before .before .before))
-    ∙ ap (λ (p : PayloadRead). thenAnswer p (λ n. further (e .length) (rowsAnswer (blocksFrom (a .settings) (a .done + n) 0 0 (drop 4 (now (a .headers))) (drop (e .length) (now (a .s))))))) (here-at t (c .before .before .before .before))
+    checked current (a .settings) (a .done) (now (a .headers)) (now (a .s)) (c .before .before .before .before .before .before .before .before .before .before .before .before .before .before .pre .1) e (read-at t (c .before .before .before .before .before .before .before .before .before))
+    ∙ ap (λ (p : PayloadRead). thenAnswer p (λ n. further (e .length) (rowsAnswer (blocksFrom current (a .settings) (a .done + n) 0 0 (drop 4 (now (a .headers))) (drop (e .length) (now (a .s))))))) (here-at t (c .before .before .before .before))
     ∙ ap (λ (p : PayloadRead). addAnswer (c .before .before .before .before .here .given .0 .0) (further (e .length) p)) (sym (rest-at t c))
 
 -- a place at fault in it
@@ -87,11 +88,11 @@ place-at t c =
     let a = c .before .before .before .before .before .before .before .before .before .before .before .before .before .before .before .before .args in
     let e = c .before .before .before .before .before .before .before .before .before .before .before .block .given .0 .0 in
     let n = c .before .before .before .before .before .before .here .given .0 .0 in
-    let rest = asked-rest (a .settings) (a .done) rowArea 0 0 (now (a .headers)) (now (a .s)) (c .before .before .before .before .before .before .before .before .before .before .before .before .before .before .before .before .pre .1) (omega arith) e (read-at t (c .before .before .before .before .before .before .before .before .before .before .before)) n 0 (few-at t (c .before .before .before .before .before .before)) (omega arith) in
+    let rest = asked-rest current (a .settings) (a .done) (rowArea current) 0 0 (now (a .headers)) (now (a .s)) (c .before .before .before .before .before .before .before .before .before .before .before .before .before .before .before .before .pre .1) (omega arith) e (read-at t (c .before .before .before .before .before .before .before .before .before .before .before)) n 0 (few-at t (c .before .before .before .before .before .before)) (omega arith) in
     omega (
       arith,
       subst (λ (p : PayloadRead). Inside (0 + length (drop (e .length) (now (a .s)))) p) (sym (rest-at t (c .before .before)) ∙ c .fault2 .given .1)
-          (from-inside (a .settings) (a .done + n) 0 0 (drop 4 (now (a .headers))) (drop (e .length) (now (a .s))) (rest .headed)),
+          (from-inside current (a .settings) (a .done + n) 0 0 (drop 4 (now (a .headers))) (drop (e .length) (now (a .s))) (rest .headed)),
     )
 
 check-blocks-read-block-header-requires : (t : ℕ) → At check-blocks-lts.Need-read-block-header-requires t
@@ -149,7 +150,7 @@ check-blocks-check-blocks-requires t c κs =
     let q : length (take (length (now (a .headers)) - 4) (drop 4 (now (a .headers)))) < length (now (a .headers)) = rw part-to-end (shorter _ e (read-at t (c .before .before .before .before .before .before .before .before))) in (
       omega (arith, q, c .before .before .before .before .before .before .before .before .before .before .before .before .before .pre .0),
       rw (part-to-end 4 (now (a .headers)), part-to-end (e .length) (now (a .s)))
-          (asked-rest (a .settings) (a .done) rowArea 0 0 (now (a .headers)) (now (a .s)) (c .before .before .before .before .before .before .before .before .before .before .before .before .before .pre .1) (omega arith) e (read-at t (c .before .before .before .before .before .before .before .before)) _ 0 (few-at t (c .before .before .before)) (omega arith)),
+          (asked-rest current (a .settings) (a .done) (rowArea current) 0 0 (now (a .headers)) (now (a .s)) (c .before .before .before .before .before .before .before .before .before .before .before .before .before .pre .1) (omega arith) e (read-at t (c .before .before .before .before .before .before .before .before)) _ 0 (few-at t (c .before .before .before)) (omega arith)),
     )
 
 check-blocks-enum-known-fault-2 : (t : ℕ) → At check-blocks-lts.Need-enum-known-fault-2 t
@@ -167,21 +168,21 @@ check-blocks-add-t34 t c =
     let a = c .before .before .before .before .before .before .before .before .before .before .before .before .before .before .before .before .before .args in
     let e = c .before .before .before .before .before .before .before .before .before .before .before .before .block .given .0 .0 in
     let n = c .before .before .before .before .before .before .before .here .given .0 .0 in
-    let f = from-few (a .settings) (a .done + n) 0 0 (drop 4 (now (a .headers))) (drop (e .length) (now (a .s))) (few-at t (c .before .before .before .before .before .before .before)) in
-    omega (arith, subst (λ (p : PayloadRead). Few (a .done + n) p) (sym (rest-at t (c .before .before .before)) ∙ c .before .rest .given .1) f)
+    let f = from-few current (a .settings) (a .done + n) 0 0 (drop 4 (now (a .headers))) (drop (e .length) (now (a .s))) (few-at t (c .before .before .before .before .before .before .before)) in
+    omega (arith, subst (λ (p : PayloadRead). Few current (a .done + n) p) (sym (rest-at t (c .before .before .before)) ∙ c .before .rest .given .1) f)
 
 check-blocks-returns : (t : ℕ) → At check-blocks-lts.Need-returns t
-check-blocks-returns t c = let a = c .before .before .before .before .before .before .args in answer-none _ _ (from-refused (a .settings) (a .done) 0 0 (now (a .headers)) (now (a .s)) _ (sym (same-block _ _ (c .before .before .before .read-block-header .ensures)) ∙ c .before .refusal .given .1))
+check-blocks-returns t c = let a = c .before .before .before .before .before .before .args in answer-none _ _ (from-refused current (a .settings) (a .done) 0 0 (now (a .headers)) (now (a .s)) _ (sym (same-block _ _ (c .before .before .before .read-block-header .ensures)) ∙ c .before .refusal .given .1))
 
 check-blocks-returns-2 : (t : ℕ) → At check-blocks-lts.Need-returns-2 t
-check-blocks-returns-2 t c = let a = c .before .before .before .before .before .before .before .args in c .check-block .ensures ∙ checked-primary (a .settings) (a .done) (now (a .headers)) (now (a .s)) (c .before .before .before .before .before .before .before .pre .1) _ (sym (same-block _ _ (c .before .before .before .before .read-block-header .ensures)) ∙ c .before .before .block-type .given .1)
+check-blocks-returns-2 t c = let a = c .before .before .before .before .before .before .before .args in c .check-block .ensures ∙ checked-primary current (a .settings) (a .done) (now (a .headers)) (now (a .s)) (c .before .before .before .before .before .before .before .pre .1) _ (sym (same-block _ _ (c .before .before .before .before .read-block-header .ensures)) ∙ c .before .before .block-type .given .1)
 
 check-blocks-returns-3 : (t : ℕ) → At check-blocks-lts.Need-returns-3 t
 check-blocks-returns-3 t c =
     let a = c .before .before .before .before .before .before .before .before .before .before .before .args in
     let e = c .before .before .before .before .before .before .block .given .0 .0 in
-    sym (checked (a .settings) (a .done) (now (a .headers)) (now (a .s)) (c .before .before .before .before .before .before .before .before .before .before .before .pre .1) e (read-at t (c .before .before .before .before .before .before))
-    ∙ ap (λ (p : PayloadRead). thenAnswer p (λ n. further (e .length) (rowsAnswer (blocksFrom (a .settings) (a .done + n) 0 0 (drop 4 (now (a .headers))) (drop (e .length) (now (a .s))))))) (sym (c .before .before .before .check-block2 .ensures) ∙ c .before .fault .given .1))
+    sym (checked current (a .settings) (a .done) (now (a .headers)) (now (a .s)) (c .before .before .before .before .before .before .before .before .before .before .before .pre .1) e (read-at t (c .before .before .before .before .before .before))
+    ∙ ap (λ (p : PayloadRead). thenAnswer p (λ n. further (e .length) (rowsAnswer (blocksFrom current (a .settings) (a .done + n) 0 0 (drop 4 (now (a .headers))) (drop (e .length) (now (a .s))))))) (sym (c .before .before .before .check-block2 .ensures) ∙ c .before .fault .given .1))
 
 check-blocks-returns-4 : (t : ℕ) → At check-blocks-lts.Need-returns-4 t
 check-blocks-returns-4 t c =

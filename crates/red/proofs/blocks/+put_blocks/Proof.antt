@@ -1,3 +1,4 @@
+use Rattle.rtp.specs.Editions.{current}
 use Rattle.tags.specs.Tags.{redundantMark}
 use denote.Ref.{now}
 use lib.ListN.{length, take, drop, length-take}
@@ -52,18 +53,18 @@ read-at : (t : ℕ) (c : At put-blocks-lts.After-block t) → blockHeader (now (
 read-at t c = sym (same-block _ _ (c .before .before .read-block-header .ensures)) ∙ c .block .given .1
 
 block-at : (t : ℕ) (c : At put-blocks-lts.After-block t) → c .block .given .0 .0 .length ≤ length (now (c .before .before .before .before .before .before .args .s))
-block-at t c = let a = c .before .before .before .before .before .before .args in block-in (a .settings) (a .done) (length (now (a .rows))) (a .time) (a .at) (now (a .headers)) (now (a .s)) (c .before .before .before .before .before .before .pre .1 .asked) (c .before .before .before .before .before .before .pre .1 .area-fits) _ (read-at t c)
+block-at t c = let a = c .before .before .before .before .before .before .args in block-in current (a .settings) (a .done) (length (now (a .rows))) (a .time) (a .at) (now (a .headers)) (now (a .s)) (c .before .before .before .before .before .before .pre .1 .asked) (c .before .before .before .before .before .before .pre .1 .area-fits) _ (read-at t c)
 
 inside-at : (t : ℕ) (c : At put-blocks-lts.After-block t) → c .before .before .before .before .before .before .args .at + c .block .given .0 .0 .length ≤ maxPacket
 inside-at t c = omega (arith, block-at t c, c .before .before .before .before .before .before .pre .1 .asked .inside)
 
 -- the rows of its block
 here-at : (t : ℕ) (c : At put-blocks-lts.After-here t) → let a = c .before .before .before .before .before .before .before .before .before .before .before .before .before .before .args in let e = c .before .before .before .before .before .before .before .before .block .given .0 .0 in
-    rowsAnswer (askedBlock redundantMark (a .settings) (a .done) (length (now (a .rows))) (a .time) (e .«payload_type») (e .offset) (a .at) (take (e .length) (now (a .s)))) ≡ PayloadRead.Rows (c .here .given .0 .0)
+    rowsAnswer (askedBlock current redundantMark (a .settings) (a .done) (length (now (a .rows))) (a .time) (e .«payload_type») (e .offset) (a .at) (take (e .length) (now (a .s)))) ≡ PayloadRead.Rows (c .here .given .0 .0)
 here-at t c = sym (c .before .before .before .before .put-block2 .ensures .0) ∙ c .here .given .1
 
-few-at : (t : ℕ) (c : At put-blocks-lts.After-here t) → c .before .before .before .before .before .before .before .before .before .before .before .before .before .before .args .done + c .here .given .0 .0 ≤ maxRows
-few-at t c = let a = c .before .before .before .before .before .before .before .before .before .before .before .before .before .before .args in first-few (a .settings) (a .done) (length (now (a .rows))) (a .time) (a .at) (now (a .headers)) (now (a .s)) (c .before .before .before .before .before .before .before .before .before .before .before .before .before .before .pre .1 .asked) (c .before .before .before .before .before .before .before .before .before .before .before .before .before .before .pre .1 .area-fits) _ (read-at t (c .before .before .before .before .before .before .before .before)) _ _ (here-at t c)
+few-at : (t : ℕ) (c : At put-blocks-lts.After-here t) → c .before .before .before .before .before .before .before .before .before .before .before .before .before .before .args .done + c .here .given .0 .0 ≤ maxRows current
+few-at t c = let a = c .before .before .before .before .before .before .before .before .before .before .before .before .before .before .args in first-few current (a .settings) (a .done) (length (now (a .rows))) (a .time) (a .at) (now (a .headers)) (now (a .s)) (c .before .before .before .before .before .before .before .before .before .before .before .before .before .before .pre .1 .asked) (c .before .before .before .before .before .before .before .before .before .before .before .before .before .before .pre .1 .area-fits) _ (read-at t (c .before .before .before .before .before .before .before .before)) _ _ (here-at t c)
 
 -- the area that they were written over
 abbrev area-at : (t : ℕ) → At put-blocks-lts.After-put-block2 t → List ℕ
@@ -155,23 +156,23 @@ put-blocks-put-blocks-requires t c κs =
     let q : length (take (length (now (a .headers)) - 4) (drop 4 (now (a .headers)))) < length (now (a .headers)) = rw part-to-end (shorter _ e (read-at t (c .before .before .before .before .before .before .before .before .before .before .before .before))) in (
       omega (arith, q, c .before .before .before .before .before .before .before .before .before .before .before .before .before .before .before .before .before .before .pre .0),
       rw (part-to-end 4 (now (a .headers)), part-to-end (e .length) (now (a .s)), part-length (area-at t (c .before .before .before .before .before .before .before .before)) (now (a .rows)) (rowWidth * n) (kept-at t (c .before .before .before .before .before .before .before .before)))
-          (room-rest (a .settings) (a .done) (a .time) (a .at) (length (now (a .rows))) (now (a .headers)) (now (a .s)) (c .before .before .before .before .before .before .before .before .before .before .before .before .before .before .before .before .before .before .pre .1) e (read-at t (c .before .before .before .before .before .before .before .before .before .before .before .before)) n (here-at t (c .before .before .before .before))),
+          (room-rest current (a .settings) (a .done) (a .time) (a .at) (length (now (a .rows))) (now (a .headers)) (now (a .s)) (c .before .before .before .before .before .before .before .before .before .before .before .before .before .before .before .before .before .before .pre .1) e (read-at t (c .before .before .before .before .before .before .before .before .before .before .before .before)) n (here-at t (c .before .before .before .before))),
     )
 
 put-blocks-returns : (t : ℕ) → At put-blocks-lts.Need-returns t
-put-blocks-returns t c = let a = c .before .before .before .before .before .before .args in words-none _ _ (now (a .rows)) (from-refused (a .settings) (a .done) (a .time) (a .at) (now (a .headers)) (now (a .s)) _ (sym (same-block _ _ (c .before .before .read-block-header .ensures)) ∙ c .enum-told .given .1))
+put-blocks-returns t c = let a = c .before .before .before .before .before .before .args in words-none _ _ (now (a .rows)) (from-refused current (a .settings) (a .done) (a .time) (a .at) (now (a .headers)) (now (a .s)) _ (sym (same-block _ _ (c .before .before .read-block-header .ensures)) ∙ c .enum-told .given .1))
 
 put-blocks-same-length : (t : ℕ) → At put-blocks-lts.Need-same-length t
 put-blocks-same-length t c = search needs
 
 put-blocks-returns-2 : (t : ℕ) → At put-blocks-lts.Need-returns-2 t
-put-blocks-returns-2 t c = let a = c .before .before .before .before .before .before .before .before .before .before .before .args in c .before .before .put-block .ensures .1 ∙ ap (λ (x : Rows). over (rowsWords x) (now (a .rows))) (asked-primary (a .settings) (a .done) (length (now (a .rows))) (a .time) (a .at) (now (a .headers)) (now (a .s)) (c .before .before .before .before .before .before .before .before .before .before .before .pre .1 .asked) (c .before .before .before .before .before .before .before .before .before .before .before .pre .1 .area-fits) _ (sym (same-block _ _ (c .before .before .before .before .before .before .before .read-block-header .ensures)) ∙ c .before .before .before .before .before .block-type .given .1))
+put-blocks-returns-2 t c = let a = c .before .before .before .before .before .before .before .before .before .before .before .args in c .before .before .put-block .ensures .1 ∙ ap (λ (x : Rows). over (rowsWords x) (now (a .rows))) (asked-primary current (a .settings) (a .done) (length (now (a .rows))) (a .time) (a .at) (now (a .headers)) (now (a .s)) (c .before .before .before .before .before .before .before .before .before .before .before .pre .1 .asked) (c .before .before .before .before .before .before .before .before .before .before .before .pre .1 .area-fits) _ (sym (same-block _ _ (c .before .before .before .before .before .before .before .read-block-header .ensures)) ∙ c .before .before .before .before .before .block-type .given .1))
 
 put-blocks-same-length-2 : (t : ℕ) → At put-blocks-lts.Need-same-length-2 t
 put-blocks-same-length-2 t c = search needs
 
 put-blocks-returns-3 : (t : ℕ) → At put-blocks-lts.Need-returns-3 t
-put-blocks-returns-3 t c = let a = c .before .before .before .before .before .before .before .before .before .before .before .before .before .before .args in absurd (first-taken (a .settings) (a .done) (a .time) (a .at) (length (now (a .rows))) (now (a .headers)) (now (a .s)) (c .before .before .before .before .before .before .before .before .before .before .before .before .before .before .pre .1) _ (read-at t (c .before .before .before .before .before .before .before .before)) _ (sym (c .before .before .before .before .put-block2 .ensures .0) ∙ c .enum-told2 .given .1))
+put-blocks-returns-3 t c = let a = c .before .before .before .before .before .before .before .before .before .before .before .before .before .before .args in absurd (first-taken current (a .settings) (a .done) (a .time) (a .at) (length (now (a .rows))) (now (a .headers)) (now (a .s)) (c .before .before .before .before .before .before .before .before .before .before .before .before .before .before .pre .1) _ (read-at t (c .before .before .before .before .before .before .before .before)) _ (sym (c .before .before .before .before .put-block2 .ensures .0) ∙ c .enum-told2 .given .1))
 
 put-blocks-same-length-3 : (t : ℕ) → At put-blocks-lts.Need-same-length-3 t
 put-blocks-same-length-3 t c = search needs
@@ -180,7 +181,7 @@ put-blocks-returns-4 : (t : ℕ) → At put-blocks-lts.Need-returns-4 t
 put-blocks-returns-4 t c =
     let a = c .before .before .before .before .before .before .before .before .before .before .before .before .before .before .before .before .before .before .before .before .before .args in
     let e = c .before .before .before .before .before .before .before .before .before .before .before .before .before .before .before .block .given .0 .0 in
-    put-rest (a .settings) (a .done) (a .time) (a .at) (length (now (a .rows))) (now (a .headers)) (now (a .s)) (c .before .before .before .before .before .before .before .before .before .before .before .before .before .before .before .before .before .before .before .before .before .pre .1) e (read-at t (c .before .before .before .before .before .before .before .before .before .before .before .before .before .before .before)) _ (here-at t (c .before .before .before .before .before .before .before)) (now (a .rows)) (area-at t (c .before .before .before .before .before .before .before .before .before .before .before)) _ (c .before .before .before .before .before .before .before .before .before .before .before .put-block2 .ensures .1)
+    put-rest current (a .settings) (a .done) (a .time) (a .at) (length (now (a .rows))) (now (a .headers)) (now (a .s)) (c .before .before .before .before .before .before .before .before .before .before .before .before .before .before .before .before .before .before .before .before .before .pre .1) e (read-at t (c .before .before .before .before .before .before .before .before .before .before .before .before .before .before .before)) _ (here-at t (c .before .before .before .before .before .before .before)) (now (a .rows)) (area-at t (c .before .before .before .before .before .before .before .before .before .before .before)) _ (c .before .before .before .before .before .before .before .before .before .before .before .put-block2 .ensures .1)
     (rw (part-to-end 4 (now (a .headers)), part-to-end (e .length) (now (a .s))) at (c .before .before .put-blocks .ensures))
 
 pub +put-blocks-spec : {M : Type 1} → statement M

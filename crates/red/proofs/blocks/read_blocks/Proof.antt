@@ -3,6 +3,7 @@ use lib.ListN.{length, drop, length-drop}
 use mathlib.Core.Path.{_≡_, ap, sym, subst, _∙_}
 use Prim.Native.Nat.{_+_, _≤_}
 use native.Mathlib.Omega.{arith}
+use Rattle.rtp.specs.Editions.{current}
 use Rattle.rtp.specs.Areas.{over}
 use Rattle.rtp_headers.specs.Redundancy.{redundancyHeaders, headersAnswer}
 use Rattle.rtp_headers.specs.declared.redundancy.HeadersRead.{HeadersRead}
@@ -25,34 +26,34 @@ fault-at : (c : tie.After-fault) → headersAnswer (redundancyHeaders (now (c .b
 fault-at c = sym (headers-is _ _ (c .before .before .read-headers .ensures)) ∙ c .fault .given .1
 
 place-at : (c : tie.After-fault) → c .fault .given .0 .0 .offset ≤ length (now (c .before .before .before .before .before .args .s))
-place-at c = let a = c .before .before .before .before .before .args in split-place (a .settings) (a .timestamp) (a .at) (now (a .s)) (c .before .before .before .before .before .pre .2) _ (fault-at c)
+place-at c = let a = c .before .before .before .before .before .args in split-place current (a .settings) (a .timestamp) (a .at) (now (a .s)) (c .before .before .before .before .before .pre .2) _ (fault-at c)
 
 -- the sizes of the block headers that were read
 sizes-at : (c : tie.After-sizes) → headersAnswer (redundancyHeaders (now (c .before .before .before .before .before .args .s))) ≡ HeadersRead.Headers (c .sizes .given .0 .0)
 sizes-at c = sym (headers-is _ _ (c .before .before .read-headers .ensures)) ∙ c .sizes .given .1
 
 small-at : (c : tie.After-sizes) → Small (length (now (c .before .before .before .before .before .args .s))) (c .sizes .given .0 .0)
-small-at c = let a = c .before .before .before .before .before .args in split-small (a .settings) (a .timestamp) (a .at) (now (a .s)) (c .before .before .before .before .before .pre .2) _ (sizes-at (c)) (λ i. c .before .before .before .before .shared-slice-known .given i .fits)
+small-at c = let a = c .before .before .before .before .before .args in split-small current (a .settings) (a .timestamp) (a .at) (now (a .s)) (c .before .before .before .before .before .pre .2) _ (sizes-at (c)) (λ i. c .before .before .before .before .shared-slice-known .given i .fits)
 
 -- the answer, as the call of check_blocks found it
 checked-at : (c : tie.After-check-blocks) → let a = c .before .before .before .before .before .before .before .before .before .before .args in
-    c .check-blocks .result ≡ rowsAnswer (blocksFrom (a .settings) 0 0 0 (now (a .s)) (drop (c .before .before .before .before .before .sizes .given .0 .0 .size) (now (a .s))))
+    c .check-blocks .result ≡ rowsAnswer (blocksFrom current (a .settings) 0 0 0 (now (a .s)) (drop (c .before .before .before .before .before .sizes .given .0 .0 .size) (now (a .s))))
 checked-at c = c .check-blocks .ensures ∙ rw (part-to-end (c .before .before .before .before .before .sizes .given .0 .0 .size) (now (c .before .before .before .before .before .before .before .before .before .before .args .s)))
 
 answer-at : (c : tie.After-check-blocks) → let a = c .before .before .before .before .before .before .before .before .before .before .args in
-    rowsAnswer (redundantRows (a .settings) (a .timestamp) (a .at) (now (a .s))) ≡ further (a .at + c .before .before .before .before .before .sizes .given .0 .0 .size) (c .check-blocks .result)
-answer-at c = let a = c .before .before .before .before .before .before .before .before .before .before .args in split-answer (a .settings) (a .timestamp) (a .at) (now (a .s)) (c .before .before .before .before .before .before .before .before .before .before .pre .2) _ (sizes-at (c .before .before .before .before .before)) (c .before .before .if1 .left) ∙ ap (further (a .at + c .before .before .before .before .before .sizes .given .0 .0 .size)) (sym (checked-at c))
+    rowsAnswer (redundantRows current (a .settings) (a .timestamp) (a .at) (now (a .s))) ≡ further (a .at + c .before .before .before .before .before .sizes .given .0 .0 .size) (c .check-blocks .result)
+answer-at c = let a = c .before .before .before .before .before .before .before .before .before .before .args in split-answer current (a .settings) (a .timestamp) (a .at) (now (a .s)) (c .before .before .before .before .before .before .before .before .before .before .pre .2) _ (sizes-at (c .before .before .before .before .before)) (c .before .before .if1 .left) ∙ ap (further (a .at + c .before .before .before .before .before .sizes .given .0 .0 .size)) (sym (checked-at c))
 
 -- a place at fault in the blocks
 block-place-at : (c : tie.After-fault2) → c .fault2 .given .0 .0 .offset ≤ length (drop (c .before .before .before .before .before .before .before .sizes .given .0 .0 .size) (now (c .before .before .before .before .before .before .before .before .before .before .before .before .args .s)))
 block-place-at c =
     let a = c .before .before .before .before .before .before .before .before .before .before .before .before .args in
     let z = c .before .before .before .before .before .before .before .sizes .given .0 .0 in
-    let asked = split-asked (a .settings) (a .timestamp) (a .at) (now (a .s)) (c .before .before .before .before .before .before .before .before .before .before .before .before .pre .2) z (sizes-at (c .before .before .before .before .before .before .before)) (c .before .before .before .before .if1 .left) (c .before .before .before .before .before .before .before .before .before .before .before .before .pre .0) (small-at (c .before .before .before .before .before .before .before) .within) 0 (omega arith) in
+    let asked = split-asked current (a .settings) (a .timestamp) (a .at) (now (a .s)) (c .before .before .before .before .before .before .before .before .before .before .before .before .pre .2) z (sizes-at (c .before .before .before .before .before .before .before)) (c .before .before .before .before .if1 .left) (c .before .before .before .before .before .before .before .before .before .before .before .before .pre .0) (small-at (c .before .before .before .before .before .before .before) .within) 0 (omega arith) in
     omega (
       arith,
       subst (λ (p : PayloadRead). Inside (0 + length (drop (z .size) (now (a .s)))) p) (sym (checked-at (c .before .before)) ∙ c .fault2 .given .1)
-          (from-inside (a .settings) 0 0 0 (now (a .s)) (drop (z .size) (now (a .s))) (asked .headed)),
+          (from-inside current (a .settings) 0 0 0 (now (a .s)) (drop (z .size) (now (a .s))) (asked .headed)),
     )
 
 read-headers-requires : tie.Need-read-headers-requires
@@ -68,7 +69,7 @@ sub-if1 : tie.Need-sub-if1
 sub-if1 c = small-at (c .before) .within
 
 returns : tie.Need-returns
-returns c = let a = c .before .before .before .before .before .before .before .before .args in gives-none _ (now (a .rows)) _ (split-short (a .settings) (a .timestamp) (a .at) (now (a .s)) (c .before .before .before .before .before .before .before .before .pre .2) _ (sizes-at (c .before .before .before)) (c .if1 .taken))
+returns c = let a = c .before .before .before .before .before .before .before .before .args in gives-none _ (now (a .rows)) _ (split-short current (a .settings) (a .timestamp) (a .at) (now (a .s)) (c .before .before .before .before .before .before .before .before .pre .2) _ (sizes-at (c .before .before .before)) (c .if1 .taken))
 
 sub-check-blocks : tie.Need-sub-check-blocks
 sub-check-blocks c = small-at (c .before .before .before) .within
@@ -83,7 +84,7 @@ check-blocks-requires : tie.Need-check-blocks-requires
 check-blocks-requires c κs =
     let a = c .before .before .before .before .before .before .before .before .before .args in
     rw (part-to-end (c .before .before .before .before .sizes .given .0 .0 .size) (now (a .s)))
-    (split-asked (a .settings) (a .timestamp) (a .at) (now (a .s)) (c .before .before .before .before .before .before .before .before .before .pre .2) _ (sizes-at (c .before .before .before .before)) (c .before .if1 .left) (c .before .before .before .before .before .before .before .before .before .pre .0) (small-at (c .before .before .before .before) .within) 0 (omega arith))
+    (split-asked current (a .settings) (a .timestamp) (a .at) (now (a .s)) (c .before .before .before .before .before .before .before .before .before .pre .2) _ (sizes-at (c .before .before .before .before)) (c .before .if1 .left) (c .before .before .before .before .before .before .before .before .before .pre .0) (small-at (c .before .before .before .before) .within) 0 (omega arith))
 
 enum-known-fault-2 : tie.Need-enum-known-fault-2
 enum-known-fault-2 c = search needs
@@ -110,7 +111,7 @@ put-blocks-requires : tie.Need-put-blocks-requires
 put-blocks-requires c κs =
     let a = c .before .before .before .before .before .before .before .before .before .before .before .before .before .before .before .args in
     rw (part-to-end (c .before .before .before .before .before .before .before .before .before .before .sizes .given .0 .0 .size) (now (a .s)))
-    (split-room (a .settings) (a .timestamp) (a .at) (now (a .s)) (c .before .before .before .before .before .before .before .before .before .before .before .before .before .before .before .pre .2) _ (sizes-at (c .before .before .before .before .before .before .before .before .before .before)) (c .before .before .before .before .before .before .before .if1 .left) (c .before .before .before .before .before .before .before .before .before .before .before .before .before .before .before .pre .0) (small-at (c .before .before .before .before .before .before .before .before .before .before) .within) _ _ (c .before .before .before .before .before .before .before .before .before .before .before .before .before .before .before .pre .1) (sym (checked-at (c .before .before .before .before .before)) ∙ c .before .before .before .count .given .1))
+    (split-room current (a .settings) (a .timestamp) (a .at) (now (a .s)) (c .before .before .before .before .before .before .before .before .before .before .before .before .before .before .before .pre .2) _ (sizes-at (c .before .before .before .before .before .before .before .before .before .before)) (c .before .before .before .before .before .before .before .if1 .left) (c .before .before .before .before .before .before .before .before .before .before .before .before .before .before .before .pre .0) (small-at (c .before .before .before .before .before .before .before .before .before .before) .within) _ _ (c .before .before .before .before .before .before .before .before .before .before .before .before .before .before .before .pre .1) (sym (checked-at (c .before .before .before .before .before)) ∙ c .before .before .before .count .given .1))
 
 add-t16 : tie.Need-add-t16
 add-t16 c = omega (arith, place-at (c .before .before), c .before .before .before .before .before .before .before .pre .2)
@@ -125,7 +126,7 @@ add-t32 : tie.Need-add-t32
 add-t32 c = omega (arith, block-place-at (c .before .before), length-drop (c .before .before .before .before .before .before .before .before .before .sizes .given .0 .0 .size) (now (c .before .before .before .before .before .before .before .before .before .before .before .before .before .before .args .s)), small-at (c .before .before .before .before .before .before .before .before .before) .within, c .before .before .before .before .before .before .before .before .before .before .before .before .before .before .pre .2)
 
 returns-2 : tie.Need-returns-2
-returns-2 c = let a = c .before .before .before .before .before .before .before .args in gives-none _ (now (a .rows)) _ (split-refused (a .settings) (a .timestamp) (a .at) (now (a .s)) _ (fault-at (c .before .before)))
+returns-2 c = let a = c .before .before .before .before .before .before .before .args in gives-none _ (now (a .rows)) _ (split-refused current (a .settings) (a .timestamp) (a .at) (now (a .s)) _ (fault-at (c .before .before)))
 
 returns-3 : tie.Need-returns-3
 returns-3 c =
@@ -140,7 +141,7 @@ returns-4 c =
     let a = c .before .before .before .before .before .before .before .before .before .before .before .before .before .before .before .before .before .before .args in
     let z = c .before .before .before .before .before .before .before .before .before .before .before .before .before .sizes .given .0 .0 in (
       sym (answer-at (c .before .before .before .before .before .before .before .before) ∙ ap (further (a .at + z .size)) (c .before .before .before .before .before .before .count .given .1)),
-      (rw (part-to-end (z .size) (now (a .s))) at (c .before .before .put-blocks .ensures)) ∙ ap (λ (x : Rows). over (rowsWords x) (now (a .rows))) (sym (split-blocks (a .settings) (a .timestamp) (a .at) (now (a .s)) (c .before .before .before .before .before .before .before .before .before .before .before .before .before .before .before .before .before .before .pre .2) _ (sizes-at (c .before .before .before .before .before .before .before .before .before .before .before .before .before)) (c .before .before .before .before .before .before .before .before .before .before .if1 .left))),
+      (rw (part-to-end (z .size) (now (a .s))) at (c .before .before .put-blocks .ensures)) ∙ ap (λ (x : Rows). over (rowsWords x) (now (a .rows))) (sym (split-blocks current (a .settings) (a .timestamp) (a .at) (now (a .s)) (c .before .before .before .before .before .before .before .before .before .before .before .before .before .before .before .before .before .before .pre .2) _ (sizes-at (c .before .before .before .before .before .before .before .before .before .before .before .before .before)) (c .before .before .before .before .before .before .before .before .before .before .if1 .left))),
     )
 
 pub read-blocks-spec : {M : Type 1} → statement M

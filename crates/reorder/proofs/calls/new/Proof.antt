@@ -1,4 +1,5 @@
 use mathlib.Core.Path.{sym, _∙_, ap}
+use Rattle.rtp.specs.Editions.{current}
 use Rattle.rtp.specs.Refusals.{number}
 use Rattle.rtp.specs.declared.refusal.Refusal.the-variants.{SettingsOutOfRange}
 use Rattle.layout.specs.declared.buffer.Buffer.{Buffer}
@@ -20,14 +21,14 @@ fresh-buffer-requires c κs = search needs
 
 returns : tie.Need-returns
 unfolding outcome
-returns c = ap (outcome 0) (c .fresh-buffer .ensures) ∙ sym (new-in (c .before .before .before .args .settings) (sym (c .before .before .in-range .ensures) ∙ c .before .if1 .taken))
+returns c = ap (outcome 0) (c .fresh-buffer .ensures) ∙ sym (new-in current (c .before .before .before .args .settings) (sym (c .before .before .in-range .ensures) ∙ c .before .if1 .taken))
 
 fresh-buffer-requires-2 : tie.Need-fresh-buffer-requires-2
 fresh-buffer-requires-2 c κs = search needs
 
 returns-2 : tie.Need-returns-2
 unfolding outcome
-returns-2 c = ap (outcome (number SettingsOutOfRange)) (c .fresh-buffer2 .ensures) ∙ sym (new-out (c .before .before .before .args .settings) (sym (c .before .before .in-range .ensures) ∙ c .before .if1 .left))
+returns-2 c = ap (outcome (number SettingsOutOfRange)) (c .fresh-buffer2 .ensures) ∙ sym (new-out current (c .before .before .before .args .settings) (sym (c .before .before .in-range .ensures) ∙ c .before .if1 .left))
 
 pub new-spec : {M : Type 1} → statement M
 new-spec =

@@ -2,6 +2,7 @@ use mathlib.Core.Path.{sym, _∙_, ap}
 use mathlib.Core.List.{List}
 use Prim.Native.Nat.{ℕ}
 use denote.Ref.{now}
+use Rattle.rtp.specs.Editions.{current}
 use Rattle.reorder.specs.declared.calls.Offered.{Offered}
 use Rattle.reorder.specs.Calls.{OfferOutcome, offerNumbers}
 use Rattle.reorder.proofs.CallLaws.{offer-out}
@@ -32,7 +33,7 @@ refuse-offer-requires c κs = search needs
 
 returns-2 : tie.Need-returns-2
 unfolding outcome
-returns-2 c = let a = c .before .before .before .before .before .before .before .args in ap (outcome (now (a .rows)) (now (a .store))) (c .refuse-offer .ensures) ∙ sym (offer-out (a .buffer) (now (a .packet)) (now (a .rows)) (now (a .store)) (sym (c .before .before .in-range .ensures) ∙ c .before .if1 .left))
+returns-2 c = let a = c .before .before .before .before .before .before .before .args in ap (outcome (now (a .rows)) (now (a .store))) (c .refuse-offer .ensures) ∙ sym (offer-out current (a .buffer) (now (a .packet)) (now (a .rows)) (now (a .store)) (sym (c .before .before .in-range .ensures) ∙ c .before .if1 .left))
 
 pub offer-spec : {M : Type 1} → statement M
 offer-spec =

@@ -1,3 +1,4 @@
+use Rattle.rtp.specs.Editions.{current}
 use Rattle.reorder.specs.declared.calls.OfferAnswer.{OfferAnswer}
 use mathlib.Core.Path.{_≡_, sym, _∙_, ap}
 use mathlib.Core.List.{List}
@@ -35,14 +36,14 @@ fine-at c = passed (c .before .well-formed .ensures) (c .if1 .left)
 
 -- what was read
 read-at : (c : tie.After-head)
-    → readingNumbers (Reading.Read (c .head .given .0 .0)) ≡ outcomeNumbers (reading (c .before .before .before .before .before .before .before .before .before .before .before .before .before .before .before .before .before .before .before .before .before .before .before .args .buffer .settings) (length (now (c .before .before .before .before .before .before .before .before .before .before .before .before .before .before .before .before .before .before .before .before .before .before .before .args .rows))) (now (c .before .before .before .before .before .before .before .before .before .before .before .before .before .before .before .before .before .before .before .before .before .before .before .args .packet)))
+    → readingNumbers (Reading.Read (c .head .given .0 .0)) ≡ outcomeNumbers (reading current (c .before .before .before .before .before .before .before .before .before .before .before .before .before .before .before .before .before .before .before .before .before .before .before .args .buffer .settings) (length (now (c .before .before .before .before .before .before .before .before .before .before .before .before .before .before .before .before .before .before .before .before .before .before .before .args .rows))) (now (c .before .before .before .before .before .before .before .before .before .before .before .before .before .before .before .before .before .before .before .before .before .before .before .args .packet)))
 read-at c = ap readingNumbers (sym (c .head .given .1)) ∙ c .before .before .before .before .read .ensures .0
 
 fit-at : (c : tie.After-head) → rowWidth * c .head .given .0 .0 .rows ≤ length (now (c .before .before .before .before .before .before .before .before .before .before .before .before .before .before .before .before .before .before .before .before .before .before .before .args .rows))
 fit-at c =
     let s = c .before .before .before .before .before .before .before .before .before .before .before .before .before .before .before .before .before .before .before .before .before .before .before in
     let a = s .args in
-    words-fit (a .buffer) (now (a .packet)) (now (a .rows)) (now (a .store)) (s .pre) (fine-at (c .before .before .before .before .before .before .before .before)) (c .before .before .before .before .before .before .before .if2 .left) (c .before .before .before .before .before .before .if3 .left)
+    words-fit current (a .buffer) (now (a .packet)) (now (a .rows)) (now (a .store)) (s .pre) (fine-at (c .before .before .before .before .before .before .before .before)) (c .before .before .before .before .before .before .before .if2 .left) (c .before .before .before .before .before .before .if3 .left)
     (c .head .given .0 .0) (read-at c) _ (c .before .before .before .before .read .ensures .1)
 
 well-formed-requires : tie.Need-well-formed-requires
@@ -57,7 +58,7 @@ returns c =
     let s = c .before .before .before .before .before .before .before .before .before .before .before .before .before .before .before .before in
     let a = s .args in
     ap (outcome (now (a .rows)) (now (a .store))) (c .refuse-offer .ensures)
-    ∙ sym (offer-malformed (a .buffer) (now (a .packet)) (now (a .rows)) (now (a .store)) (s .pre) (failed (c .before .before .well-formed .ensures) (c .before .if1 .taken)))
+    ∙ sym (offer-malformed current (a .buffer) (now (a .packet)) (now (a .rows)) (now (a .store)) (s .pre) (failed (c .before .before .well-formed .ensures) (c .before .if1 .taken)))
 
 refuse-offer-requires-2 : tie.Need-refuse-offer-requires-2
 refuse-offer-requires-2 c κs = search needs
@@ -68,7 +69,7 @@ returns-2 c =
     let s = c .before .before .before .before .before .before .before .before .before .before .before .before .before .before .before .before .before in
     let a = s .args in
     ap (outcome (now (a .rows)) (now (a .store))) (c .refuse-offer2 .ensures)
-    ∙ sym (offer-rows (a .buffer) (now (a .packet)) (now (a .rows)) (now (a .store)) (s .pre) (fine-at (c .before .before)) (c .before .if2 .taken))
+    ∙ sym (offer-rows current (a .buffer) (now (a .packet)) (now (a .rows)) (now (a .store)) (s .pre) (fine-at (c .before .before)) (c .before .if2 .taken))
 
 refuse-offer-requires-3 : tie.Need-refuse-offer-requires-3
 refuse-offer-requires-3 c κs = search needs
@@ -79,7 +80,7 @@ returns-3 c =
     let s = c .before .before .before .before .before .before .before .before .before .before .before .before .before .before .before .before .before .before in
     let a = s .args in
     ap (outcome (now (a .rows)) (now (a .store))) (c .refuse-offer3 .ensures)
-    ∙ sym (offer-store (a .buffer) (now (a .packet)) (now (a .rows)) (now (a .store)) (s .pre) (fine-at (c .before .before .before)) (c .before .before .if2 .left) (c .before .if3 .taken))
+    ∙ sym (offer-store current (a .buffer) (now (a .packet)) (now (a .rows)) (now (a .store)) (s .pre) (fine-at (c .before .before .before)) (c .before .before .if2 .left) (c .before .if3 .taken))
 
 read-requires : tie.Need-read-requires
 read-requires c κs = search needs
@@ -110,7 +111,7 @@ offer-rows-requires : tie.Need-offer-rows-requires
 offer-rows-requires c κs =
     let s = c .before .before .before .before .before .before .before .before .before .before .before .before .before .before .before .before .before .before .before .before .before .before .before .before .before .before .before in
     let a = s .args in
-    offer-asks (a .buffer) (now (a .packet)) (now (a .rows)) (now (a .store)) (s .pre) (fine-at (c .before .before .before .before .before .before .before .before .before .before .before .before)) (c .before .before .before .before .before .before .before .before .before .before .before .if2 .left) (c .before .before .before .before .before .before .before .before .before .before .if3 .left)
+    offer-asks current (a .buffer) (now (a .packet)) (now (a .rows)) (now (a .store)) (s .pre) (fine-at (c .before .before .before .before .before .before .before .before .before .before .before .before)) (c .before .before .before .before .before .before .before .before .before .before .before .if2 .left) (c .before .before .before .before .before .before .before .before .before .before .if3 .left)
     (c .before .before .before .before .head .given .0 .0) (read-at (c .before .before .before .before)) _ (c .before .before .before .before .before .before .before .before .read .ensures .1) (machine-at s)
 
 same-length : tie.Need-same-length
@@ -123,13 +124,13 @@ returns-4 c =
     let a = s .args in
     let r = c .before .before .before .before .before .before .read in
     let q = c .before .before .fault .given in
-    let o = reading (a .buffer .settings) (length (now (a .rows))) (now (a .packet)) in
+    let o = reading current (a .buffer .settings) (length (now (a .rows))) (now (a .packet)) in
     let e : readingNumbers (Reading.Refused (q .0 .0)) ≡ outcomeNumbers o = ap readingNumbers (sym (q .1)) ∙ r .ensures .0 in
     let z : now (a .rows) ≡ r .last .1 .1 .0 = sym (r .ensures .1 ∙ ap (λ (x : List ℕ). over x (now (a .rows))) (refused-words o (q .0 .0) e) ∙ over-none (now (a .rows))) in
     ap (outcome (r .last .1 .1 .0) (now (a .store))) (c .refuse-offer4 .ensures)
     ∙ sym (ap (λ (x : List ℕ). outcome x (now (a .store)) (record { answer = OfferAnswer.Refused (q .0 .0); buffer = a .buffer })) z)
     ∙ refused-offer (a .buffer) (now (a .packet)) (now (a .rows)) (now (a .store)) o (q .0 .0) e
-    ∙ sym (offer-reads (a .buffer) (now (a .packet)) (now (a .rows)) (now (a .store)) (s .pre) (fine-at (c .before .before .before .before .before .before .before .before .before .before)) (c .before .before .before .before .before .before .before .before .before .if2 .left) (c .before .before .before .before .before .before .before .before .if3 .left))
+    ∙ sym (offer-reads current (a .buffer) (now (a .packet)) (now (a .rows)) (now (a .store)) (s .pre) (fine-at (c .before .before .before .before .before .before .before .before .before .before)) (c .before .before .before .before .before .before .before .before .before .if2 .left) (c .before .before .before .before .before .before .before .before .if3 .left))
 
 same-length-2 : tie.Need-same-length-2
 same-length-2 c = c .before .before .before .before .before .before .before .before .before .before .before .read .kept .1 .1 .0
@@ -141,7 +142,7 @@ returns-5 : tie.Need-returns-5
 returns-5 c =
     let s = c .before .before .before .before .before .before .before .before .before .before .before .before .before .before .before .before .before .before .before .before .before .before .before .before .before .before .before .before .before .before in
     let a = s .args in
-    offer-gives (a .buffer) (now (a .packet)) (now (a .rows)) (now (a .store)) (s .pre) (fine-at (c .before .before .before .before .before .before .before .before .before .before .before .before .before .before .before)) (c .before .before .before .before .before .before .before .before .before .before .before .before .before .before .if2 .left) (c .before .before .before .before .before .before .before .before .before .before .before .before .before .if3 .left)
+    offer-gives current (a .buffer) (now (a .packet)) (now (a .rows)) (now (a .store)) (s .pre) (fine-at (c .before .before .before .before .before .before .before .before .before .before .before .before .before .before .before)) (c .before .before .before .before .before .before .before .before .before .before .before .before .before .before .if2 .left) (c .before .before .before .before .before .before .before .before .before .before .before .before .before .if3 .left)
     (c .before .before .before .before .before .before .before .head .given .0 .0) (read-at (c .before .before .before .before .before .before .before)) _ (c .before .before .before .before .before .before .before .before .before .before .before .read .ensures .1) _ _ _ (c .before .before .offer-rows .ensures)
 
 pub offer-checked-spec : {M : Type 1} → statement M

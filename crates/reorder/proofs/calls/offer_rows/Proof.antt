@@ -2,6 +2,7 @@ use mathlib.Core.Path.{sym, subst}
 use mathlib.Core.List.{List}
 use Prim.Native.Nat.{ℕ}
 use denote.Ref.{now}
+use Rattle.rtp.specs.Editions.{current}
 use Rattle.frame_rows.specs.Rows.{rowsIn}
 use Rattle.layout.specs.declared.buffer.Buffer.{Buffer}
 use Rattle.reorder.specs.declared.judging.Judged.{Judged}
@@ -31,7 +32,7 @@ returns c =
     let e = c .before .before .before .before .before .before .before .none-judged .ensures in
     rows-offer (buffer-at s) (a .buffer .occupied) _ e _ (now (a .packet)) (rowsIn (now (a .rows))) _ (now (a .store)) _
     (c .before .before .before .before .before .judge-rows .ensures
-    (subst (λ (j : Judged). RowsJudgeable (buffer-at s (j .occupied)) (now (a .packet)) (rowsIn (now (a .rows))) (j .tally) (now (a .store))) (sym e) (s .pre)))
+    (subst (λ (j : Judged). RowsJudgeable current (buffer-at s (j .occupied)) (now (a .packet)) (rowsIn (now (a .rows))) (j .tally) (now (a .store))) (sym e) (s .pre)))
 
 pub offer-rows-spec : {M : Type 1} → statement M
 offer-rows-spec =

@@ -4,6 +4,7 @@ use Prim.Native.Nat.{ℕ, _<_}
 use native.Mathlib.Omega.{arith}
 use lib.ListN.{length}
 use denote.Ref.{now}
+use Rattle.rtp.specs.Editions.{current}
 use Rattle.rtp.specs.Sizes.{rowWidth}
 use Rattle.rtp.proofs.AreaLaws.{part-length}
 use Rattle.frame_rows.specs.Rows.{rowsIn}
@@ -49,7 +50,7 @@ rows-at t s = now (s .args .rows)
 judge-rows-returns : (t : ℕ) → At judge-rows-lts.Need-returns t
 judge-rows-returns t c p =
     let s = c .before .before .before .before in
-    rows-over (buffer-at t s) (now (s .args .packet)) (s .args .sum .tally) (now (s .args .store)) (rowsIn (rows-at t s)) p (rows-none (rows-at t s) (c .if1 .taken))
+    rows-over current (buffer-at t s) (now (s .args .packet)) (s .args .sum .tally) (now (s .args .store)) (rowsIn (rows-at t s)) p (rows-none (rows-at t s) (c .if1 .taken))
 
 judge-rows-judge-row-requires : (t : ℕ) → At judge-rows-lts.Need-judge-row-requires t
 judge-rows-judge-row-requires t c κs = c .before .before .before .before .before .if1 .left
@@ -75,7 +76,7 @@ judge-rows-returns-2 : (t : ℕ) → At judge-rows-lts.Need-returns-2 t
 judge-rows-returns-2 t c p =
     let s = c .before .before .before .before .before .before .before .before .before .before .before .before .before .before .before .before .before .before .before .before .before in
     let g = c .before .before .before .before .before .before .before .before .before .before .before .judge-row .ensures p in
-    rows-joined (buffer-at t s) (now (s .args .packet)) (s .args .sum .tally) (now (s .args .store)) (rows-at t s) (c .before .before .before .before .before .before .before .before .before .before .before .before .before .before .before .before .before .if1 .left) _ _ _
+    rows-joined current (buffer-at t s) (now (s .args .packet)) (s .args .sum .tally) (now (s .args .store)) (rows-at t s) (c .before .before .before .before .before .before .before .before .before .before .before .before .before .before .before .before .before .if1 .left) _ _ _
     (g .all _ _ _ (c .before .before .judge-rows .ensures (g .others)))
 
 pub +judge-rows-spec : {M : Type 1} → statement M

@@ -1,6 +1,7 @@
 use mathlib.Core.Path.{_≡_, sym, _∙_}
 use mathlib.Core.Bool.{false}
 use denote.Ref.{now}
+use Rattle.rtp.specs.Editions.{current}
 use Rattle.playout.specs.Copies.{Copy}
 use Rattle.playout.specs.Verdicts.{isLate, isFar}
 use Rattle.layout.specs.declared.buffer.Buffer.{Buffer}
@@ -20,7 +21,7 @@ copy-at s = copyIn (s .args .head) (now (s .args .frame))
 
 -- what is asked of the buffer, of the frame and of the store
 abbrev Asks : tie.Start → Type 0
-Asks s = let a = s .args in Judgeable (buffer-at s) (a .head) (now (a .frame)) (now (a .store))
+Asks s = let a = s .args in Judgeable current (buffer-at s) (a .head) (now (a .frame)) (now (a .store))
 
 late-at : (c : tie.Else1) → isLate (decode (buffer-at (c .before .before .before .before))) (copy-at (c .before .before .before .before)) ≡ false
 late-at c = sym (c .before .is-late .ensures) ∙ c .if1 .left

@@ -4,6 +4,7 @@ use Prim.Native.Nat.{ℕ, _+_, _-_}
 use native.Mathlib.Omega.{arith}
 use lib.ListN.{getD, take, drop}
 use denote.Ref.{now}
+use Rattle.rtp.specs.Editions.{current}
 use Rattle.formats.specs.Frames.{noData}
 use Rattle.tags.specs.Tags.{tagClass}
 use Rattle.frame_rows.specs.Rows.{Row, rowsIn}
@@ -28,13 +29,13 @@ head-at s = record { time = getD (rows-at s) 0 0; tag = getD (rows-at s) 1 0 }
 
 -- what is asked of the buffer, of the rows and of the store
 abbrev Asks : tie.Start → Type 0
-Asks s = let a = s .args in RowsJudgeable (buffer-at s) (now (a .packet)) (rowsIn (rows-at s)) (a .sum .tally) (now (a .store))
+Asks s = let a = s .args in RowsJudgeable current (buffer-at s) (now (a .packet)) (rowsIn (rows-at s)) (a .sum .tally) (now (a .store))
 
 -- the first row and the others can be judged
 asks-at : (s : tie.Start) → Asks s
-    → RowsJudgeable (buffer-at s) (now (s .args .packet)) (firstRow (rows-at s) ∷ rowsIn (restWords (rows-at s))) (s .args .sum .tally) (now (s .args .store))
+    → RowsJudgeable current (buffer-at s) (now (s .args .packet)) (firstRow (rows-at s) ∷ rowsIn (restWords (rows-at s))) (s .args .sum .tally) (now (s .args .store))
 asks-at s p =
-    subst (λ (rs : List Row). RowsJudgeable (buffer-at s) (now (s .args .packet)) rs (s .args .sum .tally) (now (s .args .store))) (rows-split (rows-at s) (s .pre)) p
+    subst (λ (rs : List Row). RowsJudgeable current (buffer-at s) (now (s .args .packet)) rs (s .args .sum .tally) (now (s .args .store))) (rows-split (rows-at s) (s .pre)) p
 
 some-at : (c : tie.Else1) → tagClass (getD (rows-at (c .before .before .before .before .before .before)) 1 0) ≡ noData → ⊥
 some-at c z = c .if1 .left (c .before .tag-class .ensures ∙ z)
@@ -61,8 +62,8 @@ returns c p =
     let a = s .args in
     let z : tagClass (getD (rows-at s) 1 0) ≡ noData = sym (c .before .tag-class .ensures) ∙ c .if1 .taken in
     record {
-      others = skip-asks (buffer-at s) (now (a .packet)) (a .sum .tally) (now (a .store)) (firstRow (rows-at s)) (rowsIn (restWords (rows-at s))) (asks-at s p);
-      all = skip-gives (buffer-at s) (now (a .packet)) (a .sum .tally) (now (a .store)) (firstRow (rows-at s)) (rowsIn (restWords (rows-at s))) z;
+      others = skip-asks current (buffer-at s) (now (a .packet)) (a .sum .tally) (now (a .store)) (firstRow (rows-at s)) (rowsIn (restWords (rows-at s))) (asks-at s p);
+      all = skip-gives current (buffer-at s) (now (a .packet)) (a .sum .tally) (now (a .store)) (firstRow (rows-at s)) (rowsIn (restWords (rows-at s))) z;
     }
 
 shared-slice-read-start : tie.Need-shared-slice-read-start
@@ -112,13 +113,13 @@ returns-3 c p =
     let q = asks-at s p in
     let z = some-at (c .before .before .before .before .before .before .before .before .before .before .before .before .before .before .before .before .before) in
     let j = c .before .before .before .before .judge-copy .ensures
-    (copy-asks (buffer-at s) (now (a .packet)) (a .sum .tally) (now (a .store)) (head-at s) (getD (rows-at s) 2 0) (getD (rows-at s) 3 0) (rowsIn (restWords (rows-at s))) q z (frame-at s) (cut-at s)) in
+    (copy-asks current (buffer-at s) (now (a .packet)) (a .sum .tally) (now (a .store)) (head-at s) (getD (rows-at s) 2 0) (getD (rows-at s) 3 0) (rowsIn (restWords (rows-at s))) q z (frame-at s) (cut-at s)) in
     record {
       others =
-          next-asks (buffer-at s) (now (a .packet)) (a .sum .tally) (now (a .store)) (head-at s) (getD (rows-at s) 2 0) (getD (rows-at s) 3 0) (rowsIn (restWords (rows-at s)))
+          next-asks current (buffer-at s) (now (a .packet)) (a .sum .tally) (now (a .store)) (head-at s) (getD (rows-at s) 2 0) (getD (rows-at s) 3 0) (rowsIn (restWords (rows-at s)))
           q z (frame-at s) (cut-at s) word _ _ _ j _ (c .count-verdict .ensures);
       all =
-          next-gives (buffer-at s) (now (a .packet)) (a .sum .tally) (now (a .store)) (head-at s) (getD (rows-at s) 2 0) (getD (rows-at s) 3 0) (rowsIn (restWords (rows-at s)))
+          next-gives current (buffer-at s) (now (a .packet)) (a .sum .tally) (now (a .store)) (head-at s) (getD (rows-at s) 2 0) (getD (rows-at s) 3 0) (rowsIn (restWords (rows-at s)))
           q z (frame-at s) (cut-at s) word _ _ _ j _ (c .count-verdict .ensures);
     }
 

@@ -4,6 +4,7 @@ use mir.Val.{Fits}
 use mir.Syntax.{w32}
 use lib.ListN.{length}
 use denote.Ref.{now}
+use Rattle.rtp.specs.Editions.{current}
 use Rattle.playout.specs.Sizes.{slotSize}
 use Rattle.layout.specs.declared.buffer.Buffer.{Buffer}
 use Rattle.placing.specs.declared.columns.Place.{Place}
@@ -25,7 +26,7 @@ buffer-at s = let a = s .args in assembled (now (a .times)) (now (a .tags)) (now
 
 -- what is asked of the buffer, of the frame and of the store
 abbrev Asks : tie.Start → Type 0
-Asks s = let a = s .args in Judgeable (buffer-at s) (a .head) (now (a .frame)) (now (a .store))
+Asks s = let a = s .args in Judgeable current (buffer-at s) (a .head) (now (a .frame)) (now (a .store))
 
 abbrev Timed : tie.Start → Type 0
 Timed s = Timely (buffer-at s) (copyIn (s .args .head) (now (s .args .frame)))
@@ -41,7 +42,7 @@ abbrev place-at : tie.Start → Place
 place-at s = let a = s .args in placeFrom (now (a .times)) (now (a .tags)) (a .head .time) (channelIn (a .head)) (a .n) 0
 
 parted-at : (s : tie.Start) → Asks s → Timed s → let a = s .args in Parted (now (a .times)) (now (a .tags)) (a .head .time) (channelIn (a .head)) (a .n)
-parted-at s g t = let a = s .args in parts (buffer-at s) (a .head) (now (a .frame)) (now (a .store)) g (word-at s) (t .not-late) (t .not-far) (a .n) (s .pre .0)
+parted-at s g t = let a = s .args in parts current (buffer-at s) (a .head) (now (a .frame)) (now (a .store)) g (word-at s) (t .not-late) (t .not-far) (a .n) (s .pre .0)
 
 found-at : (c : tie.After-find-place) → Asks (c .before .before .before .before .before .before) → Timed (c .before .before .before .before .before .before) → c .find-place .result .place ≡ place-at (c .before .before .before .before .before .before)
 found-at c g t =

@@ -4,6 +4,7 @@ use mathlib.Core.List.{List, _++_}
 use native.Mathlib.Omega.{arith}
 use lib.ListN.{length, getD, take, drop, length-take, length-drop}
 use denote.Ref.{now}
+use Rattle.rtp.specs.Editions.{current}
 use Rattle.rtp.specs.Sizes.{rowWidth}
 use Rattle.rtp.specs.Areas.{over}
 use Rattle.rtp.proofs.AreaLaws.{part-length, part-to-end}
@@ -49,11 +50,11 @@ words-at t c =
     c .first-words .ensures .0 ∙ words-counted (now (s .args .counts)) (now (s .args .rows)) (omega (arith, c .before .if1 .left)) (s .pre .1 .payloads .counted)
 
 -- room for the first block
-first-at : (t : ℕ) (c : At put-blocks-lts.After-first-words t) → let a = c .before .before .before .before .before .before .args in BlockRoom (a .asked) (a .mode-request) (a .time) (now (a .bytes)) (take (c .first-words .result) (now (a .rows))) (a .start) (length (now (a .out)))
+first-at : (t : ℕ) (c : At put-blocks-lts.After-first-words t) → let a = c .before .before .before .before .before .before .args in BlockRoom current (a .asked) (a .mode-request) (a .time) (now (a .bytes)) (take (c .first-words .result) (now (a .rows))) (a .start) (length (now (a .out)))
 first-at t c =
     let s = c .before .before .before .before .before .before in
     let a = s .args in
-    block-first (a .asked) (a .mode-request) (a .time) (now (a .bytes)) (now (a .counts)) (now (a .rows)) (a .start) (length (now (a .out))) (s .pre .1) (c .before .if1 .left) (c .first-words .result) (words-at t c)
+    block-first current (a .asked) (a .mode-request) (a .time) (now (a .bytes)) (now (a .counts)) (now (a .rows)) (a .start) (length (now (a .out))) (s .pre .1) (c .before .if1 .left) (c .first-words .result) (words-at t c)
 
 -- the first payload's bytes are inside the area
 size-at : (t : ℕ) (c : At put-blocks-lts.After-put-block t) → c .put-block .result ≤ length (now (c .before .before .before .before .before .before .before .before .before .args .out)) - c .before .before .before .before .before .before .before .before .before .args .start
@@ -77,7 +78,7 @@ put-blocks-put-list-requires t c κs =
     let s = c .before .before .before .before .before .before in
     let a = s .args in
     rw (part-length (now (a .out)) (now (a .out)) (a .start) refl)
-    (room-one (a .asked) (a .mode-request) (now (a .bytes)) (now (a .counts)) (now (a .rows)) (length (now (a .out)) - a .start) (s .pre .1 .payloads) (c .before .if1 .taken))
+    (room-one current (a .asked) (a .mode-request) (now (a .bytes)) (now (a .counts)) (now (a .rows)) (length (now (a .out)) - a .start) (s .pre .1 .payloads) (c .before .if1 .taken))
 
 put-blocks-slice-write-out : (t : ℕ) → At put-blocks-lts.Need-slice-write-out t
 put-blocks-slice-write-out t c = search needs
@@ -89,8 +90,8 @@ put-blocks-returns : (t : ℕ) → At put-blocks-lts.Need-returns t
 put-blocks-returns t c =
     let s = c .before .before .before .before .before .before .before .before .before in
     let a = s .args in
-    blocks-one (a .asked) (a .mode-request) (a .time) (now (a .bytes)) (now (a .counts)) (now (a .rows)) (a .start) (now (a .out)) _ (s .pre .1) (c .before .before .before .before .if1 .taken)
-    (from-part (listBytes (a .asked) (a .mode-request) (now (a .bytes)) (now (a .rows))) (now (a .out)) _ (a .start) (c .before .before .put-list .ensures .1))
+    blocks-one current (a .asked) (a .mode-request) (a .time) (now (a .bytes)) (now (a .counts)) (now (a .rows)) (a .start) (now (a .out)) _ (s .pre .1) (c .before .before .before .before .if1 .taken)
+    (from-part (listBytes current (a .asked) (a .mode-request) (now (a .bytes)) (now (a .rows))) (now (a .out)) _ (a .start) (c .before .before .put-list .ensures .1))
 
 put-blocks-first-words-requires : (t : ℕ) → At put-blocks-lts.Need-first-words-requires t
 put-blocks-first-words-requires t c κs = search needs
@@ -145,7 +146,7 @@ put-blocks-put-blocks-requires t c κs =
     let b = c .before .before .before .before .before in (
       rw (part-to-end 1 (now (a .counts)), length-drop) (omega (arith, s .pre .0, w .before .if1 .left)),
       rw (part-to-end 1 (now (a .counts)), part-to-end (w .first-words .result) (now (a .rows)), part-length (b .put-block .last .1 .1 .1 .1 .1 .1 .0) (now (a .out)) 4 (b .put-block .kept .1 .1 .1 .1 .1 .1 .0))
-          (blocks-rest (a .asked) (a .mode-request) (a .time) (now (a .bytes)) (now (a .counts)) (now (a .rows)) (a .start) (length (now (a .out))) (s .pre .1) (w .before .if1 .left) (w .first-words .result) (words-at t w) (b .put-block .result) (b .put-block .ensures .0)),
+          (blocks-rest current (a .asked) (a .mode-request) (a .time) (now (a .bytes)) (now (a .counts)) (now (a .rows)) (a .start) (length (now (a .out))) (s .pre .1) (w .before .if1 .left) (w .first-words .result) (words-at t w) (b .put-block .result) (b .put-block .ensures .0)),
     )
 
 put-blocks-same-length-2 : (t : ℕ) → At put-blocks-lts.Need-same-length-2 t
@@ -158,15 +159,15 @@ put-blocks-returns-2 t c =
     let w = c .before .before .before .before .before .before .before .before .before .before .before in
     let b = c .before .before .before .before .before .before .before .before in
     let n = w .first-words .result in
-    let p = listBytes (a .asked) (a .mode-request) (now (a .bytes)) (take n (now (a .rows))) in
-    let ps = listsPayloads (a .asked) (a .mode-request) (now (a .bytes)) (drop 1 (now (a .counts))) (drop n (now (a .rows))) in
-    from-both (listHeader (a .asked) (a .mode-request) (a .time) (now (a .bytes)) (take n (now (a .rows))))
-    (listsHeaders (a .asked) (a .mode-request) (a .time) (now (a .bytes)) (drop 1 (now (a .counts))) (drop n (now (a .rows)))) p ps (now (a .out)) (b .put-block .last .1 .1 .1 .1 .1 .1 .0) _ (a .start) (b .put-block .result)
+    let p = listBytes current (a .asked) (a .mode-request) (now (a .bytes)) (take n (now (a .rows))) in
+    let ps = listsPayloads current (a .asked) (a .mode-request) (now (a .bytes)) (drop 1 (now (a .counts))) (drop n (now (a .rows))) in
+    from-both (listHeader current (a .asked) (a .mode-request) (a .time) (now (a .bytes)) (take n (now (a .rows))))
+    (listsHeaders current (a .asked) (a .mode-request) (a .time) (now (a .bytes)) (drop 1 (now (a .counts))) (drop n (now (a .rows)))) p ps (now (a .out)) (b .put-block .last .1 .1 .1 .1 .1 .1 .0) _ (a .start) (b .put-block .result)
     refl (first-at t w .apart) (s .pre .1 .inside) (b .put-block .ensures .0) (b .put-block .ensures .1)
     (c .before .before .put-blocks .ensures ∙ rw (part-to-end 1 (now (a .counts)), part-to-end n (now (a .rows))))
-    ∙ ap (λ (x : List ℕ). over x (overFrom (a .start) (p ++ ps) (now (a .out)))) (sym (headers-split (a .asked) (a .mode-request) (a .time) (now (a .bytes)) (now (a .counts)) (now (a .rows)) (a .start) (length (now (a .out))) (s .pre .1) (w .before .if1 .left) n (words-at t w)))
-    ∙ ap (λ (x : List ℕ). over (listsHeaders (a .asked) (a .mode-request) (a .time) (now (a .bytes)) (now (a .counts)) (now (a .rows))) (overFrom (a .start) x (now (a .out))))
-    (sym (payloads-split (a .asked) (a .mode-request) (now (a .bytes)) (now (a .counts)) (now (a .rows)) (length (now (a .out)) - a .start) (s .pre .1 .payloads) (w .before .if1 .left) n (words-at t w)))
+    ∙ ap (λ (x : List ℕ). over x (overFrom (a .start) (p ++ ps) (now (a .out)))) (sym (headers-split current (a .asked) (a .mode-request) (a .time) (now (a .bytes)) (now (a .counts)) (now (a .rows)) (a .start) (length (now (a .out))) (s .pre .1) (w .before .if1 .left) n (words-at t w)))
+    ∙ ap (λ (x : List ℕ). over (listsHeaders current (a .asked) (a .mode-request) (a .time) (now (a .bytes)) (now (a .counts)) (now (a .rows))) (overFrom (a .start) x (now (a .out))))
+    (sym (payloads-split current (a .asked) (a .mode-request) (now (a .bytes)) (now (a .counts)) (now (a .rows)) (length (now (a .out)) - a .start) (s .pre .1 .payloads) (w .before .if1 .left) n (words-at t w)))
 
 pub +put-blocks-spec : {M : Type 1} → statement M
 +put-blocks-spec = close μ-put-blocks λ t. put-blocks-lts.spec (callees t)

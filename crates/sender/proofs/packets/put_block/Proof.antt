@@ -3,6 +3,7 @@ use mathlib.Core.Path.{_∙_}
 use native.Mathlib.Omega.{arith}
 use lib.ListN.{length}
 use denote.Ref.{now}
+use Rattle.rtp.specs.Editions.{current}
 use Rattle.packet_parts.proofs.HeadingLaws.{block-in}
 use Rattle.sender.specs.Room.{listBytes, overFrom}
 use Rattle.sender.proofs.FromLaws.{from-part, from-length}
@@ -35,7 +36,7 @@ returns : tie.Need-returns
 returns c =
     let a = c .before .before .before .before .before .before .before .before .before .before .before .before .args in
     let r = c .before .before .before .before .before .before .before .before .before .before .before .before .pre in
-    let p = listBytes (a .asked) (a .mode-request) (now (a .bytes)) (now (a .rows)) in
+    let p = listBytes current (a .asked) (a .mode-request) (now (a .bytes)) (now (a .rows)) in
     let laid = from-part p (now (a .out)) _ (a .start) (c .before .before .before .before .before .before .before .put-list .ensures .1) in
     let room : 4 ≤ length (overFrom (a .start) p (now (a .out))) = omega (arith, r .apart, from-length (a .start) p (now (a .out)) (r .inside)) in (
       c .before .before .before .before .before .before .before .put-list .ensures .0,

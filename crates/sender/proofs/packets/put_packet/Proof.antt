@@ -4,6 +4,7 @@ use mathlib.Core.List.{List, _++_}
 use native.Mathlib.Omega.{arith}
 use lib.ListN.{length}
 use denote.Ref.{now}
+use Rattle.rtp.specs.Editions.{current}
 use Rattle.rtp.specs.Sizes.{minPacket}
 use Rattle.rtp.specs.Areas.{over}
 use Rattle.rtp.proofs.AreaLaws.{over-part, part-length}
@@ -26,11 +27,11 @@ use Rattle.sender.proofs.packets.put_packet.Tie as tie
 abbrev heading : tie.Start → Heading
 heading c = record { marker = c .args .marker; sequence = c .args .sequence; source = c .args .source }
 
-plain-at : (c : tie.Then1) → let a = c .before .before .before .before .before .args in Plain (a .asked) (a .mode-request) (heading (c .before .before .before .before .before)) (a .time) (now (a .bytes)) (now (a .counts)) (now (a .rows)) (length (now (a .out))) (assembledFrom (a .asked) (heading (c .before .before .before .before .before)) (a .time) (parts (a .asked) (a .mode-request) (now (a .bytes)) (a .time) (now (a .counts)) (rowsIn (now (a .rows)))))
-plain-at c = let a = c .before .before .before .before .before .args in plain-packet (a .asked) (a .mode-request) (heading (c .before .before .before .before .before)) (a .time) (now (a .bytes)) (now (a .counts)) (now (a .rows)) (length (now (a .out))) (c .before .before .before .before .before .pre) (c .if1 .taken)
+plain-at : (c : tie.Then1) → let a = c .before .before .before .before .before .args in Plain current (a .asked) (a .mode-request) (heading (c .before .before .before .before .before)) (a .time) (now (a .bytes)) (now (a .counts)) (now (a .rows)) (length (now (a .out))) (assembledFrom (a .asked) (heading (c .before .before .before .before .before)) (a .time) (parts current (a .asked) (a .mode-request) (now (a .bytes)) (a .time) (now (a .counts)) (rowsIn (now (a .rows)))))
+plain-at c = let a = c .before .before .before .before .before .args in plain-packet current (a .asked) (a .mode-request) (heading (c .before .before .before .before .before)) (a .time) (now (a .bytes)) (now (a .counts)) (now (a .rows)) (length (now (a .out))) (c .before .before .before .before .before .pre) (c .if1 .taken)
 
-redundant-at : (c : tie.Else1) → let a = c .before .before .before .before .before .args in Redundant (a .asked) (a .mode-request) (heading (c .before .before .before .before .before)) (a .time) (now (a .bytes)) (now (a .counts)) (now (a .rows)) (length (now (a .out))) (assembledFrom (a .asked) (heading (c .before .before .before .before .before)) (a .time) (parts (a .asked) (a .mode-request) (now (a .bytes)) (a .time) (now (a .counts)) (rowsIn (now (a .rows)))))
-redundant-at c = let a = c .before .before .before .before .before .args in redundant-packet (a .asked) (a .mode-request) (heading (c .before .before .before .before .before)) (a .time) (now (a .bytes)) (now (a .counts)) (now (a .rows)) (length (now (a .out))) (c .before .before .before .before .before .pre) (c .if1 .left)
+redundant-at : (c : tie.Else1) → let a = c .before .before .before .before .before .args in Redundant current (a .asked) (a .mode-request) (heading (c .before .before .before .before .before)) (a .time) (now (a .bytes)) (now (a .counts)) (now (a .rows)) (length (now (a .out))) (assembledFrom (a .asked) (heading (c .before .before .before .before .before)) (a .time) (parts current (a .asked) (a .mode-request) (now (a .bytes)) (a .time) (now (a .counts)) (rowsIn (now (a .rows)))))
+redundant-at c = let a = c .before .before .before .before .before .args in redundant-packet current (a .asked) (a .mode-request) (heading (c .before .before .before .before .before)) (a .time) (now (a .bytes)) (now (a .counts)) (now (a .rows)) (length (now (a .out))) (c .before .before .before .before .before .pre) (c .if1 .left)
 
 put-header-requires : tie.Need-put-header-requires
 put-header-requires c κs = search needs
@@ -48,16 +49,16 @@ put-list-requires : tie.Need-put-list-requires
 put-list-requires c κs =
     let a = c .before .before .before .before .before .before .before .before .before .before .args in
     rw (part-length (c .before .before .before .put-header .last .0) (now (a .out)) minPacket (c .before .before .before .put-header .kept .0))
-    (room-one (a .asked) (a .mode-request) (now (a .bytes)) (now (a .counts)) (now (a .rows)) (length (now (a .out)) - minPacket) (plain-at (c .before .before .before .before .before) .payloads) (c .before .before .before .before .before .if1 .taken))
+    (room-one current (a .asked) (a .mode-request) (now (a .bytes)) (now (a .counts)) (now (a .rows)) (length (now (a .out)) - minPacket) (plain-at (c .before .before .before .before .before) .payloads) (c .before .before .before .before .before .if1 .taken))
 
 same-length : tie.Need-same-length
 same-length c = search needs
 
 returns : tie.Need-returns
 returns c = let a = c .before .before .before .before .before .before .before .before .before .before .before .before .before .args in
-    over-part (headerBytes (heading (c .before .before .before .before .before .before .before .before .before .before .before .before .before)) (a .asked .«payload_type») (a .time)) (listsPayloads (a .asked) (a .mode-request) (now (a .bytes)) (now (a .counts)) (now (a .rows))) (now (a .out)) (c .before .before .before .before .before .before .put-header .last .0) _ minPacket refl
-    (c .before .before .before .before .before .before .put-header .ensures ∙ header-in (heading (c .before .before .before .before .before .before .before .before .before .before .before .before .before)) (a .asked .«payload_type») (a .time) (now (a .out)) (ranged (a .asked) (asked (a .asked) (a .mode-request) (c .before .before .before .before .before .before .before .before .before .before .before .before .before .pre .settings) .settings) .plain) (plain-at (c .before .before .before .before .before .before .before .before) .room))
-    (c .before .before .put-list .ensures .1 ∙ rw (payloads-one (a .asked) (a .mode-request) (now (a .bytes)) (now (a .counts)) (now (a .rows)) (c .before .before .before .before .before .before .before .before .if1 .taken)))
+    over-part (headerBytes (heading (c .before .before .before .before .before .before .before .before .before .before .before .before .before)) (a .asked .«payload_type») (a .time)) (listsPayloads current (a .asked) (a .mode-request) (now (a .bytes)) (now (a .counts)) (now (a .rows))) (now (a .out)) (c .before .before .before .before .before .before .put-header .last .0) _ minPacket refl
+    (c .before .before .before .before .before .before .put-header .ensures ∙ header-in (heading (c .before .before .before .before .before .before .before .before .before .before .before .before .before)) (a .asked .«payload_type») (a .time) (now (a .out)) (ranged current (a .asked) (asked current (a .asked) (a .mode-request) (c .before .before .before .before .before .before .before .before .before .before .before .before .before .pre .settings) .settings) .plain) (plain-at (c .before .before .before .before .before .before .before .before) .room))
+    (c .before .before .put-list .ensures .1 ∙ rw (payloads-one current (a .asked) (a .mode-request) (now (a .bytes)) (now (a .counts)) (now (a .rows)) (c .before .before .before .before .before .before .before .before .if1 .taken)))
     ∙ ap (λ (x : List ℕ). over x (now (a .out))) (sym (plain-at (c .before .before .before .before .before .before .before .before) .packet))
 
 put-header-requires-2 : tie.Need-put-header-requires-2
@@ -89,11 +90,11 @@ same-length-2 c = search needs
 
 returns-2 : tie.Need-returns-2
 returns-2 c = let a = c .before .before .before .before .before .before .before .before .before .before .before .before .before .args in
-    over-part (headerBytes (heading (c .before .before .before .before .before .before .before .before .before .before .before .before .before)) (a .asked .«redundancy_type») (a .time)) (listsHeaders (a .asked) (a .mode-request) (a .time) (now (a .bytes)) (now (a .counts)) (now (a .rows)) ++ listsPayloads (a .asked) (a .mode-request) (now (a .bytes)) (now (a .counts)) (now (a .rows))) (now (a .out)) (c .before .before .before .before .before .before .put-header2 .last .0) _ minPacket refl
+    over-part (headerBytes (heading (c .before .before .before .before .before .before .before .before .before .before .before .before .before)) (a .asked .«redundancy_type») (a .time)) (listsHeaders current (a .asked) (a .mode-request) (a .time) (now (a .bytes)) (now (a .counts)) (now (a .rows)) ++ listsPayloads current (a .asked) (a .mode-request) (now (a .bytes)) (now (a .counts)) (now (a .rows))) (now (a .out)) (c .before .before .before .before .before .before .put-header2 .last .0) _ minPacket refl
     (c .before .before .before .before .before .before .put-header2 .ensures ∙ header-in (heading (c .before .before .before .before .before .before .before .before .before .before .before .before .before)) (a .asked .«redundancy_type») (a .time) (now (a .out)) (redundant-at (c .before .before .before .before .before .before .before .before) .type) (redundant-at (c .before .before .before .before .before .before .before .before) .room))
     (c .before .before .put-blocks .ensures
-    ∙ from-front (listsHeaders (a .asked) (a .mode-request) (a .time) (now (a .bytes)) (now (a .counts)) (now (a .rows))) (listsPayloads (a .asked) (a .mode-request) (now (a .bytes)) (now (a .counts)) (now (a .rows))) _
-    (listHeadersSize (length (now (a .counts)))) (length-headers (a .asked) (a .mode-request) (a .time) (now (a .bytes)) (now (a .counts)) (now (a .rows)))
+    ∙ from-front (listsHeaders current (a .asked) (a .mode-request) (a .time) (now (a .bytes)) (now (a .counts)) (now (a .rows))) (listsPayloads current (a .asked) (a .mode-request) (now (a .bytes)) (now (a .counts)) (now (a .rows))) _
+    (listHeadersSize (length (now (a .counts)))) (length-headers current (a .asked) (a .mode-request) (a .time) (now (a .bytes)) (now (a .counts)) (now (a .rows)))
     (rw (part-length (c .before .before .before .before .before .before .put-header2 .last .0) (now (a .out)) minPacket (c .before .before .before .before .before .before .put-header2 .kept .0)) (redundant-at (c .before .before .before .before .before .before .before .before) .blocks .inside)))
     ∙ ap (λ (x : List ℕ). over x (now (a .out))) (sym (redundant-at (c .before .before .before .before .before .before .before .before) .packet))
 

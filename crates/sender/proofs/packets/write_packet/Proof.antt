@@ -2,6 +2,7 @@ use mathlib.Core.Path.{_≡_, ap, sym, _∙_}
 use mathlib.Core.Bool.{true, false}
 use lib.ListN.{length}
 use denote.Ref.{now}
+use Rattle.rtp.specs.Editions.{current}
 use Rattle.rtp.specs.Areas.{over}
 use Rattle.frame_rows.specs.Rows.{rowsIn}
 use Rattle.plans.specs.Lists.{outside}
@@ -23,24 +24,24 @@ use Rattle.sender.proofs.packets.write_packet.Tie as tie
 abbrev heading : tie.Start → Heading
 heading c = record { marker = c .args .marker; sequence = c .args .sequence; source = c .args .source }
 
-range-at : (c : tie.Then1) → askable (c .before .before .before .before .before .before .args .asked) (c .before .before .before .before .before .before .args .mode-request) ≡ true
+range-at : (c : tie.Then1) → askable current (c .before .before .before .before .before .before .args .asked) (c .before .before .before .before .before .before .args .mode-request) ≡ true
 range-at c = sym (c .before .in-range .ensures) ∙ c .if1 .taken
 
 inside-at : (c : tie.Else2) → outside (length (now (c .before .before .before .before .before .before .before .before .args .bytes))) (rowsIn (now (c .before .before .before .before .before .before .before .before .args .rows))) ≡ false
 inside-at c = sym (c .before .any-outside .ensures) ∙ c .if2 .left
 
-fit-at : (c : tie.Then3) → countsFit (now (c .before .before .before .before .before .before .before .before .before .before .args .counts)) (now (c .before .before .before .before .before .before .before .before .before .before .args .rows)) ≡ true
+fit-at : (c : tie.Then3) → countsFit current (now (c .before .before .before .before .before .before .before .before .before .before .args .counts)) (now (c .before .before .before .before .before .before .before .before .before .before .args .rows)) ≡ true
 fit-at c = sym (c .before .counts-fit .ensures) ∙ c .if3 .taken
 
 fits-at : (c : tie.Then3) → Fitting (now (c .before .before .before .before .before .before .before .before .before .before .args .counts)) (now (c .before .before .before .before .before .before .before .before .before .before .args .rows))
-fits-at c = fitting (now (c .before .before .before .before .before .before .before .before .before .before .args .counts)) (now (c .before .before .before .before .before .before .before .before .before .before .args .rows)) (fit-at c)
+fits-at c = fitting current (now (c .before .before .before .before .before .before .before .before .before .before .args .counts)) (now (c .before .before .before .before .before .before .before .before .before .before .args .rows)) (fit-at c)
 
 -- the packet of the lists at the time of the primary one
 abbrev packet : tie.After-primary-time → Encoded
-packet c = let a = c .before .before .before .before .before .before .before .before .before .before .before .args in assembledFrom (a .asked) (heading (c .before .before .before .before .before .before .before .before .before .before .before)) (c .primary-time .result) (parts (a .asked) (a .mode-request) (now (a .bytes)) (c .primary-time .result) (now (a .counts)) (rowsIn (now (a .rows))))
+packet c = let a = c .before .before .before .before .before .before .before .before .before .before .before .args in assembledFrom (a .asked) (heading (c .before .before .before .before .before .before .before .before .before .before .before)) (c .primary-time .result) (parts current (a .asked) (a .mode-request) (now (a .bytes)) (c .primary-time .result) (now (a .counts)) (rowsIn (now (a .rows))))
 
-sending-at : (c : tie.After-primary-time) → let a = c .before .before .before .before .before .before .before .before .before .before .before .args in sending (a .asked) (a .mode-request) (heading (c .before .before .before .before .before .before .before .before .before .before .before)) (now (a .counts)) (now (a .rows)) (now (a .bytes)) (length (now (a .out))) ≡ roomFor (length (now (a .out))) (packet c)
-sending-at c = let a = c .before .before .before .before .before .before .before .before .before .before .before .args in sending-fit (a .asked) (a .mode-request) (heading (c .before .before .before .before .before .before .before .before .before .before .before)) (now (a .counts)) (now (a .rows)) (now (a .bytes)) (length (now (a .out))) (range-at (c .before .before .before .before .before)) (inside-at (c .before .before .before)) (fit-at (c .before)) (c .primary-time .result) (c .primary-time .ensures)
+sending-at : (c : tie.After-primary-time) → let a = c .before .before .before .before .before .before .before .before .before .before .before .args in sending current (a .asked) (a .mode-request) (heading (c .before .before .before .before .before .before .before .before .before .before .before)) (now (a .counts)) (now (a .rows)) (now (a .bytes)) (length (now (a .out))) ≡ roomFor (length (now (a .out))) (packet c)
+sending-at c = let a = c .before .before .before .before .before .before .before .before .before .before .before .args in sending-fit current (a .asked) (a .mode-request) (heading (c .before .before .before .before .before .before .before .before .before .before .before)) (now (a .counts)) (now (a .rows)) (now (a .bytes)) (length (now (a .out))) (range-at (c .before .before .before .before .before)) (inside-at (c .before .before .before)) (fit-at (c .before)) (c .primary-time .result) (c .primary-time .ensures)
 
 -- its bytes, as they were measured
 numbers-at : (c : tie.After-packet-size) → writtenNumbers (c .packet-size .result) ≡ encodedNumbers (packet (c .before))
@@ -49,9 +50,9 @@ numbers-at c =
     let t = c .before .primary-time .result in
     let f = fits-at (c .before .before) in
     c .packet-size .ensures
-    ∙ size-few (a .asked) t (now (a .counts)) (now (a .rows)) (f .few)
-    ∙ sym (assembled-numbers (a .asked) (a .mode-request) (heading (c .before .before .before .before .before .before .before .before .before .before .before .before)) t (now (a .bytes)) (now (a .counts)) (now (a .rows)) (parts (a .asked) (a .mode-request) (now (a .bytes)) t (now (a .counts)) (rowsIn (now (a .rows))))
-    (agrees (a .asked) (a .mode-request) (now (a .bytes)) t (asked (a .asked) (a .mode-request) (range-at (c .before .before .before .before .before .before)) .settings) (now (a .counts)) (now (a .rows)) (f .some) (f .counted) (inside-at (c .before .before .before .before))))
+    ∙ size-few current (a .asked) t (now (a .counts)) (now (a .rows)) (f .few)
+    ∙ sym (assembled-numbers current (a .asked) (a .mode-request) (heading (c .before .before .before .before .before .before .before .before .before .before .before .before)) t (now (a .bytes)) (now (a .counts)) (now (a .rows)) (parts current (a .asked) (a .mode-request) (now (a .bytes)) t (now (a .counts)) (rowsIn (now (a .rows))))
+    (agrees current (a .asked) (a .mode-request) (now (a .bytes)) t (asked current (a .asked) (a .mode-request) (range-at (c .before .before .before .before .before .before)) .settings) (now (a .counts)) (now (a .rows)) (f .some) (f .counted) (inside-at (c .before .before .before .before))))
 
 size-at : (c : tie.After-size) → encodedNumbers (packet (c .before .before .before)) ≡ record { refusal = 0; count = c .size .given .0 .0 }
 size-at c = told-bytes _ _ _ (c .size .given .1) (numbers-at (c .before .before))
@@ -63,7 +64,7 @@ any-outside-requires : tie.Need-any-outside-requires
 any-outside-requires c κs = search needs
 
 returns : tie.Need-returns
-returns c = let a = c .before .before .before .before .before .before .before .before .args in refused-pair _ _ (now (a .out)) (sending-outside (a .asked) (a .mode-request) (heading (c .before .before .before .before .before .before .before .before)) (now (a .counts)) (now (a .rows)) (now (a .bytes)) (length (now (a .out))) (range-at (c .before .before)) (sym (c .before .any-outside .ensures) ∙ c .if2 .taken))
+returns c = let a = c .before .before .before .before .before .before .before .before .args in refused-pair _ _ (now (a .out)) (sending-outside current (a .asked) (a .mode-request) (heading (c .before .before .before .before .before .before .before .before)) (now (a .counts)) (now (a .rows)) (now (a .bytes)) (length (now (a .out))) (range-at (c .before .before)) (sym (c .before .any-outside .ensures) ∙ c .if2 .taken))
 
 counts-fit-requires : tie.Need-counts-fit-requires
 counts-fit-requires c κs = search needs
@@ -95,7 +96,7 @@ put-packet-requires c κs = let f = fits-at (c .before .before .before .before .
 returns-3 : tie.Need-returns-3
 returns-3 c = let a = c .before .before .before .before .before .before .before .before .before .before .before .before .before .before .args in
     let t = c .before .before .before .primary-time .result in
-    let x = parts (a .asked) (a .mode-request) (now (a .bytes)) t (now (a .counts)) (rowsIn (now (a .rows))) in
+    let x = parts current (a .asked) (a .mode-request) (now (a .bytes)) t (now (a .counts)) (rowsIn (now (a .rows))) in
     refused-pair _ _ (now (a .out)) (sending-at (c .before .before .before) ∙ ap (λ (y : Encoded). roomFor (length (now (a .out))) y) (refused-packet (a .asked) (heading (c .before .before .before .before .before .before .before .before .before .before .before .before .before .before)) t x (told-none _ _ _ (c .enum-told .given .1) (numbers-at (c .before .before)))))
 
 same-length : tie.Need-same-length
@@ -109,10 +110,10 @@ returns-4 c = let a = c .before .before .before .before .before .before .before 
     )
 
 returns-5 : tie.Need-returns-5
-returns-5 c = let a = c .before .before .before .before .before .before .before .before .before .before .args in refused-pair _ _ (now (a .out)) (sending-unfit (a .asked) (a .mode-request) (heading (c .before .before .before .before .before .before .before .before .before .before)) (now (a .counts)) (now (a .rows)) (now (a .bytes)) (length (now (a .out))) (range-at (c .before .before .before .before)) (inside-at (c .before .before)) (sym (c .before .counts-fit .ensures) ∙ c .if3 .left))
+returns-5 c = let a = c .before .before .before .before .before .before .before .before .before .before .args in refused-pair _ _ (now (a .out)) (sending-unfit current (a .asked) (a .mode-request) (heading (c .before .before .before .before .before .before .before .before .before .before)) (now (a .counts)) (now (a .rows)) (now (a .bytes)) (length (now (a .out))) (range-at (c .before .before .before .before)) (inside-at (c .before .before)) (sym (c .before .counts-fit .ensures) ∙ c .if3 .left))
 
 returns-6 : tie.Need-returns-6
-returns-6 c = let a = c .before .before .before .before .before .before .args in refused-pair _ _ (now (a .out)) (sending-out (a .asked) (a .mode-request) (heading (c .before .before .before .before .before .before)) (now (a .counts)) (now (a .rows)) (now (a .bytes)) (length (now (a .out))) (sym (c .before .in-range .ensures) ∙ c .if1 .left))
+returns-6 c = let a = c .before .before .before .before .before .before .args in refused-pair _ _ (now (a .out)) (sending-out current (a .asked) (a .mode-request) (heading (c .before .before .before .before .before .before)) (now (a .counts)) (now (a .rows)) (now (a .bytes)) (length (now (a .out))) (sym (c .before .in-range .ensures) ∙ c .if1 .left))
 
 pub write-packet-spec : {M : Type 1} → statement M
 write-packet-spec =
