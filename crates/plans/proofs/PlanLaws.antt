@@ -56,46 +56,44 @@ frames-more n ch len = rw (suc-mul n ch, add-mul (n * ch) ch len) (omega arith)
 pub answer-attach : (format ch : ℕ) (r : Row) (gap : ℕ) (x : Contents) → planAnswer format ch (attach format r gap x) ≡ attachPlan format ch r gap (planAnswer format ch x)
 unfolding planAnswer framesIn
 answer-attach format ch r gap (refused q) = refl
-answer-attach format ch r gap (groups []) = unfold entriesOf sizeIn in rw (size-entries format (single r gap) [], one-mul ch, add-zero, add-zero)
+answer-attach format ch r gap (groups []) = unfold entriesOf sizeIn in rw (one-mul ch, add-zero)
 answer-attach format ch r gap (groups (g ∷ gs)) =
     by-test (joins format r g)
     (λ a.
     let n = length (g .gaps) in
-    let t : runSize format (suc n) + sizeIn format (entriesOf gs) ≡ runSize format (n + 1) + (runSize format n + sizeIn format (entriesOf gs) - runSize format n) =
-    rw (add-one (length (g .gaps))) (omega arith) in
     let f : suc n * ch * g .length + framesIn ch gs ≡ ch * r .length + (n * ch * g .length + framesIn ch gs) =
     rw (joins-true format r g a .length, frames-more n ch (g .length)) (omega arith) in
-    rw (a, size-entries, size-entries, t, f, add-one n))
-    (λ a. by-test (leb (headGap g) (maxGap format)) (λ b. rw (a, b, size-entries format (single r gap) (g ∷ gs), one-mul ch)) (λ b. rw (a, b)))
+    rw (a, f, add-one n))
+    (λ a. by-test (leb (headGap g) (maxGap format)) (λ b. rw (a, b, size-entries format g gs, one-mul ch)) (λ b. rw (a, b)))
 
 -- Bounds
 
 pub small-more : (format ch n : ℕ) (x : Planned) → Small format ch n x → Small format ch (suc n) x
-small-more format ch n (Planned.Table p) s = record { few = omega arith; run = s .run; tabled = omega arith; framed = rw suc-mul (omega arith) }
+small-more format ch n (Planned.Table p) s = record { few = omega arith; whole = s .whole; tabled = omega arith; framed = rw suc-mul (omega arith) }
 small-more format ch n Planned.Empty s = tt
 small-more format ch n Planned.Unwritable s = tt
 
 pub small-weaker : (format ch m n : ℕ) (x : Planned) → m ≤ n → Small format ch m x → Small format ch n x
-small-weaker format ch m n (Planned.Table p) l s = record { few = omega arith; run = s .run; tabled = omega arith; framed = omega (arith, mul-le-mul-right {m = m} {n = n} (ch * maxFrame) l) }
+small-weaker format ch m n (Planned.Table p) l s = record { few = omega arith; whole = s .whole; tabled = omega arith; framed = omega (arith, mul-le-mul-right {m = m} {n = n} (ch * maxFrame) l) }
 small-weaker format ch m n Planned.Empty l s = tt
 small-weaker format ch m n Planned.Unwritable l s = tt
 
 small-attach : (format ch n : ℕ) (r : Row) (gap : ℕ) (x : Planned) → r .length ≤ maxFrame → Small format ch n x → Small format ch (suc n) (attachPlan format ch r gap x)
 small-attach format ch n r gap Planned.Unwritable l s = tt
 small-attach format ch n r gap Planned.Empty l s =
-    record { few = omega arith; run = omega arith; tabled = omega (arith, run-first format); framed = rw suc-mul (omega (arith, mul-le-mul-left ch l)) }
+    record { few = omega arith; whole = refl; tabled = omega (arith, run-first format); framed = rw suc-mul (omega (arith, mul-le-mul-left ch l)) }
 small-attach format ch n r gap (Planned.Table p) l s =
     by-test (joinsRun format r (p .class) (p .length) (p .gap))
     (λ a. rw a (record {
       few = omega arith;
-      run = omega arith;
-      tabled = omega (arith, run-next format (p .blocks), s .run, s .tabled);
+      whole = refl;
+      tabled = omega (arith, run-next format (p .blocks), s .whole, s .tabled);
       framed = rw suc-mul (omega (arith, mul-le-mul-left ch l, s .framed));
     }))
     (λ a. by-test (leb (p .gap) (maxGap format))
     (λ b. rw (a, b) (record {
       few = omega arith;
-      run = omega arith;
+      whole = refl;
       tabled = omega (arith, run-first format, s .tabled);
       framed = rw suc-mul (omega (arith, mul-le-mul-left ch l, s .framed));
     }))
@@ -162,16 +160,18 @@ abbrev pub fittingPlan : ℕ → Planned → ListPlan
 fittingPlan format Planned.Unwritable = ListPlan.Unwritable
 fittingPlan format Planned.Empty = ListPlan.Fits (record { table = 0; payload = formatOf format .header + 0 + 0 })
 fittingPlan format (Planned.Table p) =
-    cond (ltb maxPayload (formatOf format .header + p .table + p .frames)) ListPlan.Unwritable
-    (ListPlan.Fits (record { table = p .table; payload = formatOf format .header + p .table + p .frames }))
+    let table = p .run + p .others in
+    cond (ltb maxPayload (formatOf format .header + table + p .frames)) ListPlan.Unwritable
+    (ListPlan.Fits (record { table = table; payload = formatOf format .header + table + p .frames }))
 
 answer-fitting : (format ch : ℕ) (x : Contents) → listAnswer format ch (fitting format ch (inEntries x)) ≡ fittingPlan format (planAnswer format ch x)
 unfolding planAnswer listAnswer
 answer-fitting format ch (refused q) = refl
 answer-fitting format ch (groups []) = unfold entriesOf sizeIn framesIn in rw (le-ltb maxPayload (formatOf format .header + 0 + 0) (omega (arith, header-small format)))
 answer-fitting format ch (groups (g ∷ gs)) =
-    rw (frames-entries ch (g ∷ gs))
-    (by-test (ltb maxPayload (formatOf format .header + sizeIn format (entriesOf (g ∷ gs)) + framesIn ch (g ∷ gs))) (λ a. rw a) (λ a. rw (a, frames-entries ch (g ∷ gs))))
+    rw (frames-entries ch (g ∷ gs), size-entries format g gs)
+    (by-test (ltb maxPayload (formatOf format .header + (runSize format (length (g .gaps)) + sizeIn format (entriesOf gs)) + framesIn ch (g ∷ gs))) (λ a. rw a)
+    (λ a. rw (a, frames-entries ch (g ∷ gs), size-entries format g gs)))
 
 -- no list of no channels has a plan: after its first row none stands at the first channel again
 no-channels : (format c : ℕ) (p : Row) (rs : List Row) → (c ≡ 0 → ⊥) → planAnswer format 0 (planFrom format 0 c p rs) ≡ Planned.Unwritable

@@ -1,5 +1,6 @@
 -- Rows and plans as the code holds them, and what the functions that plan ask of one another inside this crate.
 use Prim.Native.Nat.{ℕ, _+_, _-_, _*_, _≤_, _<_}
+use mathlib.Core.Path.{_≡_}
 use mathlib.Core.List.{List, [], _∷_}
 use mathlib.Core.Bool.{cond}
 use lib.ListN.{length, getD}
@@ -30,7 +31,7 @@ rowAs w = rowOf (w .time) (w .tag) (w .start) (w .length)
 unfoldable pub runSize : ℕ → ℕ → ℕ
 runSize format n = cond (leb n maxBlocks) (entrySize format n) (entrySize format firstPart + entrySize format (n - firstPart))
 
--- a plan by its first run; the bytes are those of its entries
+-- a plan by its first run, with the bytes of its entries and of those after it
 unfoldable pub planAnswer : ℕ → ℕ → Contents → Planned
 planAnswer format ch (refused q) = Planned.Unwritable
 planAnswer format ch (groups []) = Planned.Empty
@@ -39,7 +40,8 @@ planAnswer format ch (groups (g ∷ gs)) = Planned.Table (record {
   length = g .length;
   gap = headGap g;
   blocks = length (g .gaps);
-  table = sizeIn format (entriesOf (g ∷ gs));
+  run = runSize format (length (g .gaps));
+  others = sizeIn format (entriesOf gs);
   frames = framesIn ch (g ∷ gs);
 })
 
@@ -51,7 +53,8 @@ attachPlan format ch r gap Planned.Empty = Planned.Table (record {
   length = r .length;
   gap = gap;
   blocks = 1;
-  table = runSize format 1;
+  run = runSize format 1;
+  others = 0;
   frames = ch * r .length;
 })
 attachPlan format ch r gap (Planned.Table p) =
@@ -61,7 +64,8 @@ attachPlan format ch r gap (Planned.Table p) =
       length = p .length;
       gap = gap;
       blocks = p .blocks + 1;
-      table = runSize format (p .blocks + 1) + (p .table - runSize format (p .blocks));
+      run = runSize format (p .blocks + 1);
+      others = p .others;
       frames = ch * r .length + p .frames;
     }))
     (cond (leb (p .gap) (maxGap format))
@@ -70,7 +74,8 @@ attachPlan format ch r gap (Planned.Table p) =
       length = r .length;
       gap = gap;
       blocks = 1;
-      table = runSize format 1 + p .table;
+      run = runSize format 1;
+      others = p .run + p .others;
       frames = ch * r .length + p .frames;
     }))
     Planned.Unwritable)
@@ -78,8 +83,8 @@ attachPlan format ch r gap (Planned.Table p) =
 -- the numbers of a plan of at most n frame-blocks stay small
 pub record SmallPlan (format ch n : ℕ) (p : Plan) : Type 0 where
   pub few : p .blocks ≤ n
-  pub run : runSize format (p .blocks) ≤ p .table
-  pub tabled : p .table ≤ 3 * n
+  pub whole : p .run ≡ runSize format (p .blocks)
+  pub tabled : p .run + p .others ≤ 3 * n
   pub framed : p .frames ≤ n * (ch * maxFrame)
 
 abbrev pub Small : ℕ → ℕ → ℕ → Planned → Type 0

@@ -23,13 +23,14 @@ ghost use Rattle.plans.specs.Lists.{rowsIn};
 ghost use Rattle.plans.specs.Plans.{ticksAfter, gapBetween, nextChannel, starts, continues, follows, joinsRun, planFrom, plan};
 ghost use Rattle.plans.specs.Room.{rowAs, runSize, planAnswer, attachPlan, Attachable, listPlanNumbers, listNumbers};
 
-// A plan by its first run: class, length, the gap before it and its frame-blocks; and the bytes of the whole table and of all frames.
+// A plan by its first run: class, length, the gap before it and its frame-blocks; the bytes of its entries and of those after it, and of all frames.
 pub struct Plan {
     pub class: u32,
     pub length: u32,
     pub gap: u32,
     pub blocks: usize,
-    pub table: usize,
+    pub run: usize,
+    pub others: usize,
     pub frames: usize,
 }
 
@@ -178,19 +179,20 @@ fn attach_block(format: u8, channels: u32, row: RowWords, gap: u32, rest: Planne
             length,
             gap,
             blocks: 1,
-            table: run_size(format, 1),
+            run: run_size(format, 1),
+            others: 0,
             frames,
         }),
         Planned::Table(plan) => {
             let all = frames + plan.frames;
             if joins_run(format, row, plan.class, plan.length, plan.gap) {
-                let others = plan.table - run_size(format, plan.blocks);
                 return Planned::Table(Plan {
                     class: plan.class,
                     length: plan.length,
                     gap,
                     blocks: plan.blocks + 1,
-                    table: run_size(format, plan.blocks + 1) + others,
+                    run: run_size(format, plan.blocks + 1),
+                    others: plan.others,
                     frames: all,
                 });
             }
@@ -200,7 +202,8 @@ fn attach_block(format: u8, channels: u32, row: RowWords, gap: u32, rest: Planne
                     length,
                     gap,
                     blocks: 1,
-                    table: run_size(format, 1) + plan.table,
+                    run: run_size(format, 1),
+                    others: plan.run + plan.others,
                     frames: all,
                 });
             }
@@ -283,14 +286,12 @@ pub fn plan_list(format: u8, channels: u8, rows: &[u32]) -> ListPlan
     };
     match plan_from(format, channels as u32, 0, before, rows) {
         Planned::Table(plan) => {
-            let payload = payload_size(format, plan.table, plan.frames);
+            let table = plan.run + plan.others;
+            let payload = payload_size(format, table, plan.frames);
             if MAX_PAYLOAD < payload {
                 return ListPlan::Unwritable;
             }
-            ListPlan::Fits(Sizes {
-                table: plan.table,
-                payload,
-            })
+            ListPlan::Fits(Sizes { table, payload })
         }
         Planned::Empty => ListPlan::Unwritable,
         Planned::Unwritable => ListPlan::Unwritable,

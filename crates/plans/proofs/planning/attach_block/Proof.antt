@@ -6,7 +6,6 @@ use Rattle.rtp.specs.Sizes.{maxRows}
 use Rattle.plans.specs.declared.planning.Planned.{Planned}
 use Rattle.plans.specs.Room.{SmallPlan, Small}
 use Rattle.plans.proofs.PlanLaws.{block-frames, plan-frames}
-use Rattle.plans.proofs.EntriesLaws.{run-half}
 use borrow.Author.Tests.{le-leb, lt-leb}
 use Rattle.formats.specs.Formats.{maxGap}
 use borrow.Author.Needs.{needs}
@@ -47,26 +46,17 @@ add-all c = omega (arith, here-at (c .before .before .before .before .before), p
 joins-run-requires : tie.Need-joins-run-requires
 joins-run-requires c κs = search needs
 
+add-t17 : tie.Need-add-t17
+add-t17 c = omega (arith, small-at (c .before .before .before .before .before) .few)
+
+add-run-size : tie.Need-add-run-size
+add-run-size c = omega (arith, small-at (c .before .before .before .before .before .before) .few)
+
 run-size-requires-2 : tie.Need-run-size-requires-2
 run-size-requires-2 c κs = search needs
 
-sub-others : tie.Need-sub-others
-sub-others c = omega (arith, c .before .run-size2 .ensures, small-at (c .before .before .before .before .before .before) .run)
-
-add-t18 : tie.Need-add-t18
-add-t18 c = omega (arith, small-at (c .before .before .before .before .before .before .before) .few)
-
-add-run-size : tie.Need-add-run-size
-add-run-size c = omega (arith, small-at (c .before .before .before .before .before .before .before .before) .few)
-
-run-size-requires-3 : tie.Need-run-size-requires-3
-run-size-requires-3 c κs = search needs
-
-add-t21 : tie.Need-add-t21
-add-t21 c = omega (arith, small-at (c .before .before .before .before .before .before .before .before .before), c .run-size3 .ensures, run-half (c .before .before .before .before .before .before .before .before .before .before .before .before .args .format) (c .before .before .before .before .before .before .before .before .before .rest .given .0 .0 .blocks + 1))
-
 returns : tie.Need-returns
-returns c = simp (c .before .before .before .before .before .before .before .before .before .rest .given .1, ← (c .before .before .before .before .before .before .joins-run .ensures), c .before .before .before .before .before .if1 .taken, ← (c .before .before .before .before .run-size2 .ensures), ← (c .run-size3 .ensures))
+returns c = simp (c .before .before .before .before .before .before .before .rest .given .1, ← (c .before .before .before .before .joins-run .ensures), c .before .before .before .if1 .taken, ← (c .run-size2 .ensures))
 
 max-gap-requires : tie.Need-max-gap-requires
 max-gap-requires c κs = search needs
@@ -78,14 +68,14 @@ near-at c = omega (arith, c .before .before .max-gap .ensures, c .if2 .taken)
 apart-at : (c : tie.Else2) → maxGap (c .before .before .before .before .before .before .before .before .before .before .args .format) < c .before .before .before .before .before .before .before .rest .given .0 .0 .gap
 apart-at c = omega (arith, c .before .before .max-gap .ensures, c .if2 .left)
 
-run-size-requires-4 : tie.Need-run-size-requires-4
-run-size-requires-4 c κs = search needs
+run-size-requires-3 : tie.Need-run-size-requires-3
+run-size-requires-3 c κs = search needs
 
-add-t26 : tie.Need-add-t26
-add-t26 c = omega (arith, small-at (c .before .before .before .before .before .before .before .before .before), c .before .run-size4 .ensures, run-half (c .before .before .before .before .before .before .before .before .before .before .before .before .args .format) 1)
+add-t24 : tie.Need-add-t24
+add-t24 c = omega (arith, small-at (c .before .before .before .before .before .before .before .before .before) .tabled)
 
 returns-2 : tie.Need-returns-2
-returns-2 c = simp (c .before .before .before .before .before .before .before .before .before .rest .given .1, c .before .before .before .before .before .before .before .before .before .before .before .tag-class .ensures, ← (c .before .before .before .before .before .before .joins-run .ensures), c .before .before .before .before .before .if1 .left, le-leb _ _ (near-at (c .before .before)), ← (c .before .run-size4 .ensures))
+returns-2 c = simp (c .before .before .before .before .before .before .before .before .before .rest .given .1, c .before .before .before .before .before .before .before .before .before .before .before .tag-class .ensures, ← (c .before .before .before .before .before .before .joins-run .ensures), c .before .before .before .before .before .if1 .left, le-leb _ _ (near-at (c .before .before)), ← (c .before .run-size3 .ensures))
 
 returns-3 : tie.Need-returns-3
 returns-3 c = search needs
@@ -109,16 +99,13 @@ attach-block-spec =
     enum-known-rest
     add-all
     joins-run-requires
-    run-size-requires-2
-    sub-others
-    add-t18
+    add-t17
     add-run-size
-    run-size-requires-3
-    add-t21
+    run-size-requires-2
     returns
     max-gap-requires
-    run-size-requires-4
-    add-t26
+    run-size-requires-3
+    add-t24
     returns-2
     returns-3
     returns-4

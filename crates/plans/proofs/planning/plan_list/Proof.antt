@@ -34,7 +34,8 @@ made-at c =
     ∙ ap (λ (w : RowWords). planAnswer (a .format) (a .channels) (planFrom (a .format) (a .channels) 0 (stepBefore (a .format) (rowAs w)) (rowsIn (now (a .rows))))) (c .before .before .before .first-row .ensures)
 
 -- its numbers are small
-small-at : (c : tie.After-plan-from) (p : Plan) → c .plan-from .result ≡ Planned.Table p → p .table + p .frames ≤ maxRows current * 90000
+small-at : (c : tie.After-plan-from) (p : Plan) → c .plan-from .result ≡ Planned.Table p
+    → p .run + p .others + p .frames ≤ maxRows current * 90000
 small-at c p e =
     let a = c .before .before .before .before .before .before .before .before .args in
     let s = small-weaker (a .format) (a .channels) (length (rowsIn (now (a .rows)))) (maxRows current) (Planned.Table p) (omega (arith, length-rows (now (a .rows)), c .before .before .before .before .if3 .left))
@@ -68,11 +69,19 @@ plan-from-requires c κs = search needs
 enum-known-plan : tie.Need-enum-known-plan
 enum-known-plan c = search needs
 
+add-table : tie.Need-add-table
+add-table c = omega (arith, small-at (c .before .before .before .before) (c .before .before .plan .given .0 .0) (c .before .before .plan .given .1))
+
 payload-size-requires : tie.Need-payload-size-requires
-payload-size-requires c κs = omega (arith, small-at (c .before .before .before) (c .before .plan .given .0 .0) (c .before .plan .given .1))
+payload-size-requires c κs = omega (arith, small-at (c .before .before .before .before) (c .before .before .plan .given .0 .0) (c .before .before .plan .given .1))
 
 returns-4 : tie.Need-returns-4
-returns-4 c = let f = c .before .before .before .before .before .before .before .before .before .before .before .before .before .args .format in list-has _ _ ListPlan.Unwritable _ (sym (answer-at (c .before .before .before .before .before) ∙ ap (fittingPlan f) (c .before .before .before .plan .given .1) ∙ rw (lt-ltb maxPayload (formatOf f .header + c .before .before .before .plan .given .0 .0 .table + c .before .before .before .plan .given .0 .0 .frames) (omega (arith, c .if4 .taken, c .before .payload-size .ensures)))))
+returns-4 c =
+    let f = c .before .before .before .before .before .before .before .before .before .before .before .before .before .before .args .format in
+    let p = c .before .before .before .before .plan .given .0 .0 in
+    list-has _ _ ListPlan.Unwritable _
+    (sym (answer-at (c .before .before .before .before .before .before) ∙ ap (fittingPlan f) (c .before .before .before .before .plan .given .1)
+    ∙ rw (lt-ltb maxPayload (formatOf f .header + (p .run + p .others) + p .frames) (omega (arith, c .if4 .taken, c .before .payload-size .ensures)))))
 
 enum-told : tie.Need-enum-told
 enum-told c = search needs
@@ -81,7 +90,12 @@ enum-told-2 : tie.Need-enum-told-2
 enum-told-2 c = search needs
 
 returns-5 : tie.Need-returns-5
-returns-5 c = let f = c .before .before .before .before .before .before .before .before .before .before .before .before .before .args .format in list-has _ _ (ListPlan.Fits (record { table = c .before .before .before .plan .given .0 .0 .table; payload = c .before .payload-size .result })) _ (sym (answer-at (c .before .before .before .before .before) ∙ ap (fittingPlan f) (c .before .before .before .plan .given .1) ∙ rw (le-ltb maxPayload (formatOf f .header + c .before .before .before .plan .given .0 .0 .table + c .before .before .before .plan .given .0 .0 .frames) (omega (arith, c .if4 .left, c .before .payload-size .ensures)), c .before .payload-size .ensures)))
+returns-5 c =
+    let f = c .before .before .before .before .before .before .before .before .before .before .before .before .before .before .args .format in
+    let p = c .before .before .before .before .plan .given .0 .0 in
+    list-has _ _ (ListPlan.Fits (record { table = p .run + p .others; payload = c .before .payload-size .result })) _
+    (sym (answer-at (c .before .before .before .before .before .before) ∙ ap (fittingPlan f) (c .before .before .before .before .plan .given .1)
+    ∙ rw (le-ltb maxPayload (formatOf f .header + (p .run + p .others) + p .frames) (omega (arith, c .if4 .left, c .before .payload-size .ensures)), c .before .payload-size .ensures)))
 
 returns-6 : tie.Need-returns-6
 returns-6 c = let a = c .before .before .before .before .before .before .before .before .before .before .args in absurd (never-empty (a .format) (a .channels) _ (now (a .rows)) (omega (arith, c .before .before .before .before .before .before .before .before .if1 .left)) (c .before .before .before .before .before .before .before .if2 .left) (sym (made-at (c .before .before)) ∙ c .enum-told .given .1))
@@ -101,6 +115,7 @@ plan-list-spec =
     difference-requires
     plan-from-requires
     enum-known-plan
+    add-table
     payload-size-requires
     returns-4
     enum-told
