@@ -77,8 +77,8 @@ pub fn log_written_fields(answer: LogWritten) -> LogWrittenFields
     ensures { λ r. ⌜ logWrittenFields r ≡ writtenNumbers answer ⌝ }
 {
     match answer {
-        LogWritten::Refused(reason) => LogWrittenFields {
-            refusal: refusal::refusal_number(reason),
+        LogWritten::Refused(why) => LogWrittenFields {
+            refusal: refusal::refusal_number(why),
             length: 0,
         },
         LogWritten::Bytes(count) => LogWrittenFields {
