@@ -11,14 +11,14 @@ use buffer_slots::bits::SLOTS;
 use row_tags::tagging;
 
 // Where a pair is held, or belongs.
-#[derive(Drop)]
+#[derive(Clone, Copy)]
 pub enum Place {
     FoundAt(usize),
     InsertAt(usize),
 }
 
 // A place, and how many entries were compared with the pair to find it.
-#[derive(Drop)]
+#[derive(Clone, Copy)]
 pub struct Search {
     pub place: Place,
     pub compared: usize,

@@ -8,7 +8,7 @@ use rtp::time;
 pub const HALF: u32 = 2147483648;
 
 // Where a pair lies from another.
-#[derive(Drop)]
+#[derive(Clone, Copy)]
 pub enum Side {
     Before,
     Same,

@@ -1,5 +1,5 @@
 // The verdict on a frame that is offered.
-#[derive(Drop)]
+#[derive(Clone, Copy)]
 pub enum Verdict {
     Late,
     Far,

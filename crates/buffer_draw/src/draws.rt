@@ -16,7 +16,7 @@ use rtp::refusal::Refusal;
 use rtp::settings;
 
 // A frame that is handed out, and whether it was heard first-hand; its bytes are at the front of the draw area.
-#[derive(Drop)]
+#[derive(Clone, Copy)]
 pub struct DrawnFrame {
     pub time: u32,
     pub channel: u32,
@@ -25,14 +25,14 @@ pub struct DrawnFrame {
     pub primary: u32,
 }
 
-#[derive(Drop)]
+#[derive(Clone, Copy)]
 pub enum DrawAnswer {
     Frame(DrawnFrame),
     Empty,
     Refused(Refusal),
 }
 
-#[derive(Drop)]
+#[derive(Clone, Copy)]
 pub struct Drawn {
     pub answer: DrawAnswer,
     pub buffer: Buffer,

@@ -1,2 +1,4 @@
 // The reorder buffer hands out its earliest frame: the call draw.
+#![tactic(auto)]
+
 pub mod draws;

@@ -17,7 +17,7 @@ const COUNT: u32 = SLOTS as u32;
 const SIZE: u32 = SLOT_SIZE as u32;
 
 // A frame that is offered, its bytes aside: the first two words of its row.
-#[derive(Drop)]
+#[derive(Clone, Copy)]
 pub struct FrameHead {
     pub time: u32,
     pub tag: u32,

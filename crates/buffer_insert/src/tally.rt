@@ -5,7 +5,7 @@ ghost use Rattle.buffer_insert.specs.Tallies.{counts_of, no_tally, one_more, tal
 use buffer_copies::verdict::Verdict;
 
 // How often each verdict was given.
-#[derive(Drop)]
+#[derive(Clone, Copy)]
 pub struct Tally {
     pub late: u32,
     pub far: u32,

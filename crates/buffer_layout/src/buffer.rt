@@ -14,7 +14,7 @@ pub const STORE_SIZE: usize = SLOTS * SLOT_SIZE;
 // Entries in time order, one column for each part of an entry, unused ones zero; a tag is 65536 * mark + 256 * class + channel, as in a row.
 // Then which slots are occupied, the last pair drawn, 1 if there is one, and the settings. Laid out as C's hsp_buffer.
 #[repr(C)]
-#[derive(Drop)]
+#[derive(Clone, Copy)]
 pub struct Buffer {
     pub times: [u32; SLOTS],
     pub tags: [u32; SLOTS],
@@ -28,7 +28,7 @@ pub struct Buffer {
 }
 
 // What of a buffer stays the same while a packet's rows are judged.
-#[derive(Drop)]
+#[derive(Clone, Copy)]
 pub struct Fixed {
     pub last_time: u32,
     pub last_channel: u32,

@@ -21,25 +21,25 @@ use rtp::settings;
 use rtp::settings::Settings;
 use rtp::sizes::{ROW_AREA, ROW_WIDTH};
 
-#[derive(Drop)]
+#[derive(Clone, Copy)]
 pub enum NewAnswer {
     Accepted,
     Refused(Refusal),
 }
 
-#[derive(Drop)]
+#[derive(Clone, Copy)]
 pub struct Fresh {
     pub answer: NewAnswer,
     pub buffer: Buffer,
 }
 
-#[derive(Drop)]
+#[derive(Clone, Copy)]
 pub enum OfferAnswer {
     Judged(Tally),
     Refused(Fault),
 }
 
-#[derive(Drop)]
+#[derive(Clone, Copy)]
 pub struct Offered {
     pub answer: OfferAnswer,
     pub buffer: Buffer,

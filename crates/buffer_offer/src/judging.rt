@@ -25,14 +25,14 @@ use row_tags::tagging;
 use rtp::sizes::ROW_WIDTH;
 
 // The verdict on a frame, and the occupied slots after it.
-#[derive(Drop)]
+#[derive(Clone, Copy)]
 pub struct Step {
     pub verdict: Verdict,
     pub occupied: [u64; 3],
 }
 
 // What judging rows comes to.
-#[derive(Drop)]
+#[derive(Clone, Copy)]
 pub struct Judged {
     pub tally: Tally,
     pub occupied: [u64; 3],

@@ -19,7 +19,7 @@ pub fn new_number(answer: NewAnswer) -> u32
 }
 
 // hsp_offered, the place of the fault not yet a word.
-#[derive(Drop)]
+#[derive(Clone, Copy)]
 pub struct OfferFields {
     pub refusal: u32,
     pub offset: usize,
@@ -62,7 +62,7 @@ pub fn offer_fields(answer: OfferAnswer) -> OfferFields
 }
 
 // hsp_drawn.
-#[derive(Drop)]
+#[derive(Clone, Copy)]
 pub struct DrawFields {
     pub refusal: u32,
     pub empty: u32,

@@ -7,7 +7,7 @@ use read_packet::reading::Reading;
 use rtp::refusal;
 
 // hsp_reading, the place of the fault not yet a word.
-#[derive(Drop)]
+#[derive(Clone, Copy)]
 pub struct ReadingFields {
     pub refusal: u32,
     pub offset: usize,

@@ -7,7 +7,7 @@ use report::calls::{PacketAnswer, ReportAnswer};
 use rtp::refusal;
 
 // hsp_received.
-#[derive(Drop)]
+#[derive(Clone, Copy)]
 pub struct ReceivedFields {
     pub refusal: u32,
     pub valid: u32,
@@ -33,7 +33,7 @@ pub fn received_fields(answer: PacketAnswer) -> ReceivedFields
 }
 
 // hsp_reported.
-#[derive(Drop)]
+#[derive(Clone, Copy)]
 pub struct ReportedFields {
     pub refusal: u32,
     pub fraction_lost: u32,

@@ -7,7 +7,7 @@ use rtp::refusal;
 use write_sizes::measuring::Written;
 
 // hsp_written, the byte count not yet a word.
-#[derive(Drop)]
+#[derive(Clone, Copy)]
 pub struct WrittenFields {
     pub refusal: u32,
     pub length: usize,

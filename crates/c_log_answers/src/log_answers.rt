@@ -21,7 +21,7 @@ pub fn opened_number(answer: OpenAnswer) -> u32
 }
 
 // hsp_log_stepped.
-#[derive(Drop)]
+#[derive(Clone, Copy)]
 pub struct SteppedFields {
     pub refusal: u32,
     pub end: u32,
@@ -70,7 +70,7 @@ pub fn stepped_fields(answer: StepAnswer) -> SteppedFields
 }
 
 // hsp_log_written.
-#[derive(Drop)]
+#[derive(Clone, Copy)]
 pub struct LogWrittenFields {
     pub refusal: u32,
     pub length: usize,

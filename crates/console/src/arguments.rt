@@ -9,7 +9,7 @@ use rtp::settings;
 use rtp::settings::Settings;
 
 // The settings that are asked for; or nothing more to do, and what there was to say is said.
-#[derive(Drop)]
+#[derive(Clone, Copy)]
 pub enum Asked {
     Agreed(Settings),
     Nothing,

@@ -5,7 +5,7 @@ ghost use Rattle.console.specs.Answers.{Within};
 use libc::STDIN_FILENO;
 
 // So many bytes, at the front of the area; more than it has room for; or a read that failed, and errno says why.
-#[derive(Drop)]
+#[derive(Clone, Copy)]
 pub enum AllRead {
     Bytes(usize),
     TooLong,

@@ -9,7 +9,7 @@ use libc::{STDERR_FILENO, STDIN_FILENO};
 pub const AREA: usize = 65536;
 
 // A packet of so many bytes, at the front of the area; or the end, also where a packet is cut.
-#[derive(Drop)]
+#[derive(Clone, Copy)]
 pub enum Input {
     Packet(usize),
     End,

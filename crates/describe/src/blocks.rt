@@ -7,7 +7,7 @@ use read_headers::redundancy::{BlockHeader, HeadersRead, Redundant};
 use rtp::time;
 
 // What follows a block header: another, none, or nothing more is printed.
-#[derive(Drop)]
+#[derive(Clone, Copy)]
 enum Next {
     Another,
     Last,

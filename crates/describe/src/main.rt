@@ -1,5 +1,7 @@
 // Prints RTP packets in words: header, redundancy blocks, mode request and frames, or why a packet is refused and at which byte. What is
 // printed is the library's answer. The packets come on standard input in the framing of RFC 4571.
+#![tactic(auto)]
+
 mod blocks;
 mod description;
 mod frames;

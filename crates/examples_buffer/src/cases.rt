@@ -7,7 +7,7 @@ use examples_text::values::ROOM;
 use examples_text::{script, values};
 
 // The buffer, the time of frame-block 0, and how many bytes the packet has.
-#[derive(Drop)]
+#[derive(Clone, Copy)]
 pub(crate) struct Case {
     buffer: Buffer,
     base: u32,

@@ -2,6 +2,8 @@
 // until the buffer is empty; then packets of AMR and AMR-WB, some that are refused, and frames heard first-hand or not. Prints for each
 // offer how often each verdict was given, or the refusal and its offset in the packet, and the frame-blocks drawn. All offers and draws
 // are on standard input.
+#![tactic(auto)]
+
 mod cases;
 mod example;
 

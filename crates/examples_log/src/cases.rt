@@ -7,7 +7,7 @@ use log_walk::opening::Cursor;
 use rtp::settings::Settings;
 
 // What is agreed, and how many bytes and words of rows are given.
-#[derive(Drop)]
+#[derive(Clone, Copy)]
 pub(crate) struct Case {
     settings: Settings,
     bytes: usize,

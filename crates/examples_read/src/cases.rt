@@ -6,7 +6,7 @@ use examples_text::{script, values};
 use rtp::settings::Settings;
 
 // What is agreed, and the words of the area for rows.
-#[derive(Drop)]
+#[derive(Clone, Copy)]
 pub(crate) struct Case {
     settings: Settings,
     words: u32,

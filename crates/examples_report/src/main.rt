@@ -1,4 +1,6 @@
 // Streams of packets of one source, with the arrival clock, and reports between them: prints of each packet whether it is valid, and each report.
+#![tactic(auto)]
+
 mod example;
 mod jitter;
 mod made;

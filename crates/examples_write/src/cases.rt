@@ -10,7 +10,7 @@ use rtp::sizes::{ROW_AREA, ROW_WIDTH};
 pub(crate) const LIST: usize = ROW_AREA + ROW_WIDTH;
 
 // What is agreed, the mode request, and how many words of rows there are.
-#[derive(Drop)]
+#[derive(Clone, Copy)]
 pub(crate) struct Case {
     settings: Settings,
     mode_request: u8,

@@ -5,7 +5,7 @@ ghost use Rattle.formats.specs.Formats.{g719_format, graded_format, format_of};
 use rtp::settings::{AMR, AMR_WB, G719, G719_INTERLEAVED, GSM_HR};
 
 // The frame tables; an empty one has reserved codes only.
-#[derive(Drop)]
+#[derive(Clone, Copy)]
 pub enum FrameTable {
     G719,
     GsmHr,
@@ -17,7 +17,7 @@ pub enum FrameTable {
 // The bytes before the table of contents; the ticks of a frame-block; the weight of the code's lowest bit in an entry's first byte, and the number of codes; whether an entry's second byte
 // counts frame-blocks, which then join in runs, or it is one frame-block; whether it has a displacement for each frame-block; whether the code's lowest bit is a quality bit below the frame
 // type, or the code is the type; the type that is a SID.
-#[derive(Drop)]
+#[derive(Clone, Copy)]
 pub struct Format {
     pub header: usize,
     pub step: u32,

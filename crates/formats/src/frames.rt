@@ -32,14 +32,14 @@ const G719_LENGTHS: [u16; 32] = [
 // The bytes of a GSM-HR frame.
 pub const GSM_HR_FRAME: usize = 14;
 
-#[derive(Drop)]
+#[derive(Clone, Copy)]
 pub struct Frame {
     pub class: usize,
     pub length: usize,
 }
 
 // What a code in a table of contents stands for.
-#[derive(Drop)]
+#[derive(Clone, Copy)]
 pub enum Coded {
     Frame(Frame),
     Reserved,

@@ -1,4 +1,6 @@
 // The payload formats as data: what each is, and its frame table.
+#![tactic(auto)]
+
 mod amr;
 pub mod facts;
 pub mod frames;

@@ -13,7 +13,7 @@ use rtp::settings::Settings;
 
 // hsp_fresh: the refusal number or 0.
 #[repr(C)]
-#[derive(Drop)]
+#[derive(Clone, Copy)]
 pub struct HspFresh {
     pub refusal: u32,
     pub buffer: Buffer,
@@ -22,7 +22,7 @@ pub struct HspFresh {
 // hsp_offered: the refusal number or 0; for 6 to 10 the place of the fault as an offset in the packet, else 0; then how often each verdict was given, zeros
 // on refusal.
 #[repr(C)]
-#[derive(Drop)]
+#[derive(Clone, Copy)]
 pub struct HspOffered {
     pub refusal: u32,
     pub offset: u32,
@@ -38,7 +38,7 @@ pub struct HspOffered {
 // hsp_drawn: the refusal number or 0, 1 if no frame is held, and the frame and whether it was heard first-hand, or zeros. C has four
 // bytes of padding before the buffer; named, they spare two copies of it (docs/PERFORMANCE.md).
 #[repr(C)]
-#[derive(Drop)]
+#[derive(Clone, Copy)]
 pub struct HspDrawn {
     pub refusal: u32,
     pub empty: u32,

@@ -16,7 +16,7 @@ use rtp::settings::Settings;
 
 // hsp_log_opened: the refusal number or 0, and the cursor, zeros on refusal.
 #[repr(C)]
-#[derive(Drop)]
+#[derive(Clone, Copy)]
 pub struct HspLogOpened {
     pub refusal: u32,
     pub cursor: Cursor,
@@ -24,7 +24,7 @@ pub struct HspLogOpened {
 
 // hsp_log_stepped: the refusal number or 0, 1 at the end, then the frame, zeros where there is none; the cursor behind it, or as given.
 #[repr(C)]
-#[derive(Drop)]
+#[derive(Clone, Copy)]
 pub struct HspLogStepped {
     pub refusal: u32,
     pub end: u32,
@@ -38,7 +38,7 @@ pub struct HspLogStepped {
 
 // hsp_log_written: the refusal number or 0, and the byte count, 0 on refusal.
 #[repr(C)]
-#[derive(Drop)]
+#[derive(Clone, Copy)]
 pub struct HspLogWritten {
     pub refusal: u32,
     pub length: usize,

@@ -12,7 +12,7 @@ use rtp::settings::Settings;
 // hsp_reading: the refusal number or 0; for 6 to 10 the place of the fault as an offset in the packet, else 0; then the row count, the header's fields and
 // the mode request, all 0 on refusal.
 #[repr(C)]
-#[derive(Drop)]
+#[derive(Clone, Copy)]
 pub struct HspReading {
     pub refusal: u32,
     pub offset: u32,

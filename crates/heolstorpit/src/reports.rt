@@ -9,7 +9,7 @@ use report::record::Reception;
 
 // hsp_received: the refusal number or 0, and whether the packet is valid.
 #[repr(C)]
-#[derive(Drop)]
+#[derive(Clone, Copy)]
 pub struct HspReceived {
     pub refusal: u32,
     pub valid: u32,
@@ -18,7 +18,7 @@ pub struct HspReceived {
 
 // hsp_reported: the refusal number or 0; then the report block, zeros on refusal.
 #[repr(C)]
-#[derive(Drop)]
+#[derive(Clone, Copy)]
 pub struct HspReported {
     pub refusal: u32,
     pub fraction_lost: u32,

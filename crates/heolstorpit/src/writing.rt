@@ -11,7 +11,7 @@ use write_payload::writing;
 
 // hsp_written: the refusal number or 0, and the byte count, 0 on refusal.
 #[repr(C)]
-#[derive(Drop)]
+#[derive(Clone, Copy)]
 pub struct HspWritten {
     pub refusal: u32,
     pub length: u32,

@@ -1,1 +1,2 @@
 // Theorems about kept logs (document 02, P3): specs/ states them, proofs/ proves them. There is no code.
+#![tactic(auto)]

@@ -24,14 +24,14 @@ pub const END_SIZE: usize = 4;
 // The bytes of the first field, which is the settings.
 pub const FIRST_SIZE: usize = HEAD_SIZE + SETTINGS_SIZE;
 
-#[derive(Drop)]
+#[derive(Clone, Copy)]
 pub struct FieldHead {
     pub tag: u8,
     pub length: u16,
 }
 
 // No byte is left; a field of this tag that is cut; a whole field.
-#[derive(Drop)]
+#[derive(Clone, Copy)]
 pub enum Field {
     Stopped,
     Cut(u8),

@@ -13,7 +13,7 @@ use rtp::refusal::{Fault, Refusal};
 use rtp::settings::Settings;
 
 // So many frames, and with them all that there is to print; or standard output did not take all.
-#[derive(Drop)]
+#[derive(Clone, Copy)]
 pub enum Printed {
     Frames(usize),
     Failed,

@@ -10,7 +10,7 @@ use log_walk::opening::Cursor;
 use log_walk::stepping::StepAnswer;
 use log_walk::{opening, stepping};
 
-#[derive(Drop)]
+#[derive(Clone, Copy)]
 pub struct LogReader<'a> {
     pub log: &'a [u8],
     pub cursor: Cursor,

@@ -14,7 +14,7 @@ use rtp::refusal::{Fault, Refusal};
 use rtp::settings::Settings;
 
 // A frame as a part of the log: its time, channel and class, where its bytes start and how many they are.
-#[derive(Drop)]
+#[derive(Clone, Copy)]
 pub struct Shown {
     pub time: u32,
     pub channel: u8,
@@ -24,7 +24,7 @@ pub struct Shown {
 }
 
 // A frame, the end, a field passed over by so many bytes, or a fault.
-#[derive(Drop)]
+#[derive(Clone, Copy)]
 pub enum Next {
     Frame(Shown),
     End,

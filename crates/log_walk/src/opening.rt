@@ -12,20 +12,20 @@ use rtp::settings::Settings;
 
 // What the log reader's record keeps beside the log: settings, the place of the next field, and the number of frames shown.
 #[repr(C)]
-#[derive(Drop)]
+#[derive(Clone, Copy)]
 pub struct Cursor {
     pub settings: Settings,
     pub place: usize,
     pub count: usize,
 }
 
-#[derive(Drop)]
+#[derive(Clone, Copy)]
 pub enum OpenAnswer {
     Opened(Settings),
     Refused(Refusal),
 }
 
-#[derive(Drop)]
+#[derive(Clone, Copy)]
 pub struct Opened {
     pub answer: OpenAnswer,
     pub cursor: Cursor,

@@ -11,14 +11,14 @@ use rtp::refusal::{Fault, Refusal};
 use rtp::settings;
 use rtp::settings::Settings;
 
-#[derive(Drop)]
+#[derive(Clone, Copy)]
 pub enum StepAnswer {
     Frame(Shown),
     End,
     Refused(Fault),
 }
 
-#[derive(Drop)]
+#[derive(Clone, Copy)]
 pub struct Stepped {
     pub answer: StepAnswer,
     pub cursor: Cursor,

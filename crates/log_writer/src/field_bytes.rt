@@ -25,7 +25,7 @@ pub(crate) const FRAME_START: usize = HEAD_SIZE + FRAME_HEAD;
 pub(crate) const LAST_SIZE: usize = HEAD_SIZE + END_SIZE;
 
 // The number of bytes written, or why there are none.
-#[derive(Drop)]
+#[derive(Clone, Copy)]
 pub enum LogWritten {
     Bytes(usize),
     Refused(Refusal),

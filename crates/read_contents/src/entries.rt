@@ -11,7 +11,7 @@ use rtp::refusal::{Fault, Refusal};
 use rtp::sizes::MAX_ROWS;
 
 // One table entry: whether another follows, the frames' class and length, the number of frame-blocks, and the entry's own bytes.
-#[derive(Drop)]
+#[derive(Clone, Copy)]
 pub struct Entry {
     pub more: bool,
     pub class: usize,
@@ -20,21 +20,21 @@ pub struct Entry {
     pub size: usize,
 }
 
-#[derive(Drop)]
+#[derive(Clone, Copy)]
 pub enum EntryRead {
     Entry(Entry),
     Refused(Refusal),
 }
 
 // A whole table: its rows, its own bytes, and the bytes of the frames that follow it.
-#[derive(Drop)]
+#[derive(Clone, Copy)]
 pub struct Sizes {
     pub rows: usize,
     pub size: usize,
     pub frames: usize,
 }
 
-#[derive(Drop)]
+#[derive(Clone, Copy)]
 pub enum ContentsRead {
     Contents(Sizes),
     Refused(Fault),

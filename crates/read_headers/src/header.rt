@@ -8,7 +8,7 @@ use rtp::refusal::Refusal;
 use rtp::sizes::{MAX_PACKET, MIN_PACKET};
 
 // What a header says; the payload is the packet's part from `start` up to `end`.
-#[derive(Drop)]
+#[derive(Clone, Copy)]
 pub struct Header {
     pub marker: u8,
     pub payload_type: u8,
@@ -19,14 +19,14 @@ pub struct Header {
     pub end: usize,
 }
 
-#[derive(Drop)]
+#[derive(Clone, Copy)]
 pub enum HeaderRead {
     Header(Header),
     Refused(Refusal),
 }
 
 // A place in the packet.
-#[derive(Drop)]
+#[derive(Clone, Copy)]
 pub enum Bound {
     At(usize),
     Refused(Refusal),

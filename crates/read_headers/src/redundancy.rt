@@ -8,7 +8,7 @@ use rtp::refusal::{Fault, Refusal};
 use rtp::sizes::MAX_PACKET;
 
 // The four-byte header of a redundant block.
-#[derive(Drop)]
+#[derive(Clone, Copy)]
 pub struct Redundant {
     pub payload_type: u8,
     pub offset: u32,
@@ -16,7 +16,7 @@ pub struct Redundant {
 }
 
 // One block header: of a redundant block, or the primary block's single byte, its payload type.
-#[derive(Drop)]
+#[derive(Clone, Copy)]
 pub enum BlockHeader {
     Redundant(Redundant),
     Primary(u8),
@@ -24,13 +24,13 @@ pub enum BlockHeader {
 }
 
 // All the block headers: their own bytes, and the bytes of the redundant blocks.
-#[derive(Drop)]
+#[derive(Clone, Copy)]
 pub struct HeaderSizes {
     pub size: usize,
     pub redundant: usize,
 }
 
-#[derive(Drop)]
+#[derive(Clone, Copy)]
 pub enum HeadersRead {
     Headers(HeaderSizes),
     Refused(Fault),

@@ -1,2 +1,4 @@
 // The mode request of a packet.
+#![tactic(auto)]
+
 pub mod requests;

@@ -1,2 +1,4 @@
 // Packets: read into frame rows.
+#![tactic(auto)]
+
 pub mod reading;

@@ -21,7 +21,7 @@ use rtp::settings::Settings;
 use rtp::sizes::ROW_AREA;
 
 // What a packet that was read says of itself: the number of its rows, its header, and its mode request.
-#[derive(Drop)]
+#[derive(Clone, Copy)]
 pub struct Packet {
     pub rows: u32,
     pub marker: u8,
@@ -31,7 +31,7 @@ pub struct Packet {
     pub mode_request: u8,
 }
 
-#[derive(Drop)]
+#[derive(Clone, Copy)]
 pub enum Reading {
     Read(Packet),
     Refused(Fault),

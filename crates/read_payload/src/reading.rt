@@ -19,7 +19,7 @@ use rtp::sizes::{MAX_PACKET, ROW_AREA, ROW_WIDTH};
 pub const NO_REQUEST: u8 = 15;
 
 // The number of rows, or why there are none.
-#[derive(Drop)]
+#[derive(Clone, Copy)]
 pub enum PayloadRead {
     Rows(u32),
     Refused(Fault),

@@ -2,7 +2,7 @@
 use rtp::time;
 
 // The time of the last frame drawn, if one was; how many gaps there are so far, and the frame-blocks missing in them all.
-#[derive(Drop)]
+#[derive(Clone, Copy)]
 pub(crate) struct Gaps {
     pub drawn: bool,
     pub last: u32,

@@ -22,7 +22,7 @@ const KEPT: usize = 64;
 
 // The buffer, the ticks of a frame-block, whether the frames go to a log, what was counted, whether the input may have more, and whether all that was
 // to be written is.
-#[derive(Drop)]
+#[derive(Clone, Copy)]
 struct State {
     buffer: Buffer,
     step: u32,
@@ -35,7 +35,7 @@ struct State {
 }
 
 // The state after a frame was drawn, or as it stood.
-#[derive(Drop)]
+#[derive(Clone, Copy)]
 struct Advance {
     state: State,
     more: bool,

@@ -1,6 +1,8 @@
 // Receives a stream: reads packets from standard input, in the framing of RFC 4571, and prints every frame once, in time order, as soon
 // as the reorder buffer has to make room, every gap between frames, and every packet refused; then a summary. Or it writes the frames as a log. The
 // arguments are the settings, and `log` for a log.
+#![tactic(auto)]
+
 mod gaps;
 mod gathering;
 mod logging;

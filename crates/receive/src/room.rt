@@ -14,7 +14,7 @@ use rtp::settings::Settings;
 use rtp::sizes::{MAX_ROWS, ROW_AREA, ROW_WIDTH};
 
 // The times of a packet's frames that need a slot: neither late nor held.
-#[derive(Drop)]
+#[derive(Clone, Copy)]
 pub(crate) struct Wanted {
     times: [u32; MAX_ROWS],
     pub count: usize,

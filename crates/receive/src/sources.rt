@@ -6,7 +6,7 @@ use report::calls;
 use report::record::Reception;
 
 // The first packet's source, if there was a packet, with its reception, and how many packets are of another.
-#[derive(Drop)]
+#[derive(Clone, Copy)]
 pub(crate) struct Sources {
     pub known: bool,
     pub first: u32,

@@ -8,7 +8,7 @@ use rtp::refusal::Refusal;
 // Refusal numbers are below this.
 pub(crate) const REFUSALS: usize = 16;
 
-#[derive(Drop)]
+#[derive(Clone, Copy)]
 pub(crate) struct Totals {
     pub packets: u64,
     pub refused: u64,

@@ -12,21 +12,21 @@ use report_sequence::sequence;
 use rtp::refusal::Refusal;
 use rtp::time;
 
-#[derive(Drop)]
+#[derive(Clone, Copy)]
 pub enum PacketAnswer {
     Valid,
     Invalid,
     Refused(Refusal),
 }
 
-#[derive(Drop)]
+#[derive(Clone, Copy)]
 pub struct Received {
     pub answer: PacketAnswer,
     pub reception: Reception,
 }
 
 // The report block of RFC 3550, but for source and times.
-#[derive(Drop)]
+#[derive(Clone, Copy)]
 pub struct ReportBlock {
     pub fraction_lost: u32,
     pub cumulative_lost: i32,
@@ -34,13 +34,13 @@ pub struct ReportBlock {
     pub jitter: u32,
 }
 
-#[derive(Drop)]
+#[derive(Clone, Copy)]
 pub enum ReportAnswer {
     Block(ReportBlock),
     Refused(Refusal),
 }
 
-#[derive(Drop)]
+#[derive(Clone, Copy)]
 pub struct Reported {
     pub answer: ReportAnswer,
     pub reception: Reception,

@@ -9,7 +9,7 @@ pub const MAX_SUM: u64 = 0x8_0000_0000 - 8;
 
 // The jitter sum (16 times the jitter), what A.1 keeps, and the transit of the last valid packet, if there was one.
 #[repr(C)]
-#[derive(Drop)]
+#[derive(Clone, Copy)]
 pub struct Reception {
     pub jitter: u64,
     pub counts: Counts,

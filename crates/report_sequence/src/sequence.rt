@@ -4,7 +4,7 @@ ghost use Rattle.report_sequence.specs.Sequence.{following, anew, counted, first
 
 use crate::record::{Counts, MAX_DROPOUT, MAX_MISORDER, MIN_SEQUENTIAL, NO_SEQUENCE, SEQUENCES};
 
-#[derive(Drop)]
+#[derive(Clone, Copy)]
 pub struct Judged {
     pub valid: bool,
     pub counts: Counts,

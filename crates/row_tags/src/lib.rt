@@ -1,2 +1,4 @@
 // A row's second word.
+#![tactic(auto)]
+
 pub mod tagging;

@@ -1,4 +1,6 @@
 // RTP: time round the wrap, numbers in bytes, the paper's figures, settings and refusals.
+#![tactic(auto)]
+
 pub mod bytes;
 pub mod refusal;
 pub mod settings;

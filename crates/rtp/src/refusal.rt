@@ -2,7 +2,7 @@
 ghost use Rattle.std.specs.Prelude.{◌≡◌};
 ghost use Rattle.rtp.specs.Refusals.{number};
 
-#[derive(Drop)]
+#[derive(Clone, Copy)]
 pub enum Refusal {
     PacketLength,
     Version,
@@ -26,7 +26,7 @@ pub enum Refusal {
 }
 
 // Why bytes were refused, and where: the offset of the place at fault from the front of what was read, 0 where a refusal has none.
-#[derive(Drop)]
+#[derive(Clone, Copy)]
 pub struct Fault {
     pub refusal: Refusal,
     pub offset: usize,

@@ -22,7 +22,7 @@ pub const NO_REDUNDANCY: u8 = 128;
 
 // Laid out as C's hsp_settings.
 #[repr(C)]
-#[derive(Drop)]
+#[derive(Clone, Copy)]
 pub struct Settings {
     pub format: u8,
     pub channels: u8,

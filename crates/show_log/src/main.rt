@@ -1,4 +1,6 @@
 // Prints a log from standard input in words: its settings, a line for each frame, and the end, or why the log is refused and at which byte.
+#![tactic(auto)]
+
 use console::standard_input::AllRead;
 use console::{arguments, standard_input};
 use console_text::lines;

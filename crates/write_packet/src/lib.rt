@@ -1,2 +1,4 @@
 // Packets written from frame rows.
+#![tactic(auto)]
+
 pub mod packets;

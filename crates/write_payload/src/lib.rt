@@ -1,3 +1,5 @@
 // Payloads written from frame rows.
+#![tactic(auto)]
+
 pub mod tables;
 pub mod writing;

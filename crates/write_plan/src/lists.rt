@@ -6,7 +6,7 @@ ghost use Rattle.write_plan.specs.Room.{words_at};
 use rtp::sizes::ROW_WIDTH;
 
 // The four words of a row.
-#[derive(Drop)]
+#[derive(Clone, Copy)]
 pub struct RowWords {
     pub time: u32,
     pub tag: u32,

@@ -18,7 +18,7 @@ use rtp::sizes::{MAX_PACKET, MAX_ROWS, MIN_PACKET, ROW_WIDTH};
 use rtp::time;
 
 // A plan by its first run: class, length, the gap before it and its frame-blocks; the bytes of its entries and of those after it, and of all frames.
-#[derive(Drop)]
+#[derive(Clone, Copy)]
 pub struct Plan {
     pub class: u32,
     pub length: u32,
@@ -29,7 +29,7 @@ pub struct Plan {
     pub frames: usize,
 }
 
-#[derive(Drop)]
+#[derive(Clone, Copy)]
 pub enum Planned {
     Table(Plan),
     Empty,
@@ -250,13 +250,13 @@ fn payload_size(format: u8, table: usize, frames: usize) -> usize
 }
 
 // The bytes of a payload's table, and of the whole payload.
-#[derive(Drop)]
+#[derive(Clone, Copy)]
 pub struct Sizes {
     pub table: usize,
     pub payload: usize,
 }
 
-#[derive(Drop)]
+#[derive(Clone, Copy)]
 pub enum ListPlan {
     Fits(Sizes),
     Unwritable,

@@ -11,7 +11,7 @@ use write_plan::planning;
 use write_plan::planning::ListPlan;
 
 // The number of bytes written, or why there are none.
-#[derive(Drop)]
+#[derive(Clone, Copy)]
 pub enum Written {
     Bytes(usize),
     Refused(Refusal),
