@@ -1,0 +1,10 @@
+use borrow.Author.Tests.{lt-ltb, le-ltb}
+use Rattle.buffer_columns.proofs.columns.used.Goals as goal
+
+pub returns-then-n-lt-SLOTS : goal.returns-then-n-lt-SLOTS
+returns-then-n-lt-SLOTS c =
+    rw (lt-ltb _ _ c.if-n-lt-SLOTS.true)
+
+pub returns : goal.returns
+returns c =
+    rw (le-ltb _ _ c.if-n-lt-SLOTS.false)

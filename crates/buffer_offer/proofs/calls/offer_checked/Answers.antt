@@ -1,0 +1,105 @@
+use Rattle.rtp.specs.Editions.{current}
+use Rattle.buffer_offer.specs.declared.calls.OfferAnswer.{OfferAnswer}
+use mathlib.Core.Path.{◌≡◌, sym, ◌∙◌, ap}
+use mathlib.Core.List.{List}
+use mathlib.Core.Bool.{true}
+use Prim.Native.Nat.{ℕ, ◌*◌, ◌≤◌}
+use native.Mathlib.Omega.{arith}
+use lib.ListN.{length}
+use lib.Seq.{length-take-le}
+use Rattle.rtp.specs.Sizes.{row_width}
+use Rattle.rtp.specs.Areas.{over}
+use Rattle.rtp.proofs.AreaLaws.{over_none}
+use Rattle.read_packet.specs.Readings.{reading, reading_numbers, outcome_numbers}
+use Rattle.read_packet.specs.declared.reading.Reading.{Reading}
+use Rattle.buffer_offer.specs.declared.calls.Offered.{Offered}
+use Rattle.buffer_layout.specs.WellFormed.{well_formed}
+use Rattle.buffer_layout.specs.Arrays.{Machine}
+use Rattle.buffer_offer.specs.Calls.{OfferOutcome, offer_numbers}
+use Rattle.buffer_layout.proofs.CheckLaws.{passed, failed}
+use Rattle.buffer_offer.proofs.CallLaws.{offer_malformed, offer_rows, offer_store, offer_reads}
+use Rattle.buffer_layout.proofs.MachineLaws.{owned_machine}
+use Rattle.buffer_offer.proofs.OfferLaws.{refused_words, refused_offer_lem, words_fit, offer_asks, offer_gives}
+use borrow.Author.Rules.{rules}
+use Rattle.buffer_offer.proofs.calls.offer_checked.Goals.{Else-not-well_formed, In-Read}
+use Rattle.buffer_offer.proofs.calls.offer_checked.Goals as goal
+
+outcome : List ℕ → List ℕ → Offered → OfferOutcome
+outcome rows store r = record { answer = offer_numbers r.answer; buffer = r.buffer; rows = rows; store = store }
+
+fine-at : (c : Else-not-well_formed) → well_formed c.args.buffer ≡ true
+fine-at c =
+    passed c.well_formed-2.ensures c.if-not-well_formed.false
+
+-- what was read
+read_at : (c : In-Read) → reading_numbers (Reading.Read c.in-Read.head) ≡ outcome_numbers (reading current c.args.buffer.settings (length c.args.rows.now) c.args.packet.now)
+read_at c =
+    ap reading_numbers (sym c.in-Read.is) ∙ c.read.ensures.0
+
+fit_at : (c : In-Read) → row_width * c.in-Read.head.rows ≤ length c.args.rows.now
+fit_at c =
+    let fine-at : well_formed c.args.buffer ≡ true = passed c.well_formed-2.ensures c.if-not-well_formed.false in
+    let read_at : reading_numbers (Reading.Read c.in-Read.head) ≡ outcome_numbers (reading current c.args.buffer.settings (length c.args.rows.now) c.args.packet.now) = ap reading_numbers (sym c.in-Read.is) ∙ c.read.ensures.0 in
+    let a = c.args in
+    words_fit current a.buffer a.packet.now a.rows.now a.store.now c.requires (fine-at) c.if-rows-lt-ROW_AREA.false c.if-store-lt-STORE_SIZE.false
+    c.in-Read.head (read_at) _ c.read.ensures.1
+
+pub returns-then-not-well_formed : goal.returns-then-not-well_formed
+unfolding outcome
+returns-then-not-well_formed c =
+    let a = c.args in
+    ap (outcome a.rows.now a.store.now) c.refuse_offer.ensures
+    ∙ sym (offer_malformed current a.buffer a.packet.now a.rows.now a.store.now c.requires (failed c.well_formed-2.ensures c.if-not-well_formed.true))
+
+pub returns-then-rows-lt-ROW_AREA : goal.returns-then-rows-lt-ROW_AREA
+unfolding outcome
+returns-then-rows-lt-ROW_AREA c =
+    let a = c.args in
+    ap (outcome a.rows.now a.store.now) c.refuse_offer-then-rows-lt-ROW_AREA.ensures
+    ∙ sym (offer_rows current a.buffer a.packet.now a.rows.now a.store.now c.requires (fine-at (goal.at.returns-then-rows-lt-ROW_AREA c).Else-not-well_formed) c.if-rows-lt-ROW_AREA.true)
+
+pub returns-then-store-lt-STORE_SIZE : goal.returns-then-store-lt-STORE_SIZE
+unfolding outcome
+returns-then-store-lt-STORE_SIZE c =
+    let a = c.args in
+    ap (outcome a.rows.now a.store.now) c.refuse_offer-then-store-lt-STORE_SIZE.ensures
+    ∙ sym (offer_store current a.buffer a.packet.now a.rows.now a.store.now c.requires (fine-at (goal.at.returns-then-store-lt-STORE_SIZE c).Else-not-well_formed) c.if-rows-lt-ROW_AREA.false c.if-store-lt-STORE_SIZE.true)
+
+pub slice_bounds-offer_rows-end : goal.slice_bounds-offer_rows-end
+slice_bounds-offer_rows-end c =
+    omega (arith, fit_at (goal.at.slice_bounds-offer_rows-end c).In-Read)
+
+pub slice_bounds-offer_rows-end-in-Read : goal.slice_bounds-offer_rows-end-in-Read
+slice_bounds-offer_rows-end-in-Read c =
+    sym (length-take-le (row_width * c.in-Read.head.rows) c.read.new.1.1.0 (omega (arith, fit_at (goal.at.slice_bounds-offer_rows-end-in-Read c).In-Read, c.read.auto.1.1.0)))
+
+pub offer_rows-requires : goal.offer_rows-requires
+offer_rows-requires c =
+    let machine-at : Machine c.args.buffer = owned_machine c.args.buffer _ c.well_formed_lem.0 in
+    let a = c.args in
+    offer_asks current a.buffer a.packet.now a.rows.now a.store.now c.requires (fine-at (goal.at.offer_rows-requires c).Else-not-well_formed) c.if-rows-lt-ROW_AREA.false c.if-store-lt-STORE_SIZE.false
+    c.in-Read.head (read_at (goal.at.offer_rows-requires c).In-Read) _ c.read.ensures.1 (machine-at)
+
+pub returns-in-Refused : goal.returns-in-Refused
+unfolding outcome
+returns-in-Refused c =
+    let a = c.args in
+    let r = c.read in
+    let q = c.fault-1.given in
+    let o = reading current a.buffer.settings (length a.rows.now) a.packet.now in
+    let e : reading_numbers (Reading.Refused q.0.0) ≡ outcome_numbers o = ap reading_numbers (sym q.1) ∙ r.ensures.0 in
+    let z : a.rows.now ≡ r.new.1.1.0 = sym (r.ensures.1 ∙ ap (λ (x : List ℕ). over x a.rows.now) (refused_words o q.0.0 e) ∙ over_none a.rows.now) in
+    ap (outcome r.new.1.1.0 a.store.now) c.refuse_offer-in-Refused.ensures
+    ∙ sym (ap (λ (x : List ℕ). outcome x a.store.now (record { answer = OfferAnswer.Refused q.0.0; buffer = a.buffer })) z)
+    ∙ refused_offer_lem a.buffer a.packet.now a.rows.now a.store.now o q.0.0 e
+    ∙ sym (offer_reads current a.buffer a.packet.now a.rows.now a.store.now c.requires (fine-at (goal.at.returns-in-Refused c).Else-not-well_formed) c.if-rows-lt-ROW_AREA.false c.if-store-lt-STORE_SIZE.false)
+
+pub shape_of-rows-in-Read : goal.shape_of-rows-in-Read
+shape_of-rows-in-Read c =
+    c.read.auto.1.1.0
+
+pub returns-in-Read : goal.returns-in-Read
+returns-in-Read c =
+    let a = c.args in
+    offer_gives current a.buffer a.packet.now a.rows.now a.store.now c.requires (fine-at (goal.at.returns-in-Read c).Else-not-well_formed) c.if-rows-lt-ROW_AREA.false c.if-store-lt-STORE_SIZE.false
+    c.in-Read.head (read_at (goal.at.returns-in-Read c).In-Read) _ c.read.ensures.1 _ _ _ c.offer_rows.ensures

@@ -1,0 +1,39 @@
+use mathlib.Core.Path.{refl}
+use mathlib.Core.List.{List}
+use Prim.Native.Nat.{ℕ, ◌<◌}
+use native.Mathlib.Omega.{arith}
+use lib.ListN.{length}
+use Rattle.rtp.specs.Editions.{current}
+use Rattle.rtp.specs.Sizes.{row_width}
+use Rattle.rtp.proofs.AreaLaws.{part_length}
+use Rattle.read_rows.specs.Rows.{rows_in}
+use Rattle.read_rows.proofs.RowLaws.{rows_none}
+use Rattle.buffer_layout.specs.declared.buffer.Buffer.{Buffer}
+use Rattle.buffer_layout.specs.Layout.{assembled}
+use Rattle.buffer_offer.proofs.RowStepLaws.{rows_over, rows_joined}
+use borrow.Author.Rules.{rules}
+use Rattle.buffer_offer.proofs.judging.+judge_rows.Goals as goal
+
+abbrev buffer_at : (t : ℕ) → At judge-rows-lts.Start t → Buffer
+buffer_at t s = let a = s.args in assembled a.times.now a.tags.now a.lengths.now a.slots.now a.sum.occupied a.fixed
+
+abbrev rows_at : (t : ℕ) → At judge-rows-lts.Start t → List ℕ
+rows_at t s = s.args.rows.now
+
+pub returns-then-rows-lt-ROW_WIDTH : goal.returns-then-rows-lt-ROW_WIDTH
+returns-then-rows-lt-ROW_WIDTH t c p =
+    rows_over current (buffer_at t c) c.args.packet.now c.args.sum.tally c.args.store.now (rows_in (rows_at t c)) p (rows_none (rows_at t c) c.if-rows-lt-ROW_WIDTH.true)
+
+pub judge_row-next-requires : goal.judge_row-next-requires
+judge_row-next-requires t c =
+    c.if-rows-lt-ROW_WIDTH.false
+
+pub judge_rows-requires : goal.judge_rows-requires
+judge_rows-requires t c =
+    omega (arith, c.requires, c.if-rows-lt-ROW_WIDTH.false, part_length (rows_at t c) (rows_at t c) row_width refl)
+
+pub returns : goal.returns
+returns t c p =
+    let g = c.judge_row-next.ensures p in
+    rows_joined current (buffer_at t c) c.args.packet.now c.args.sum.tally c.args.store.now (rows_at t c) c.if-rows-lt-ROW_WIDTH.false _ _ _
+    (g.all _ _ _ (c.judge_rows.ensures g.others))

@@ -1,0 +1,15 @@
+use mathlib.Core.Path.{◌≡◌, sym, ap, ◌∙◌}
+use Prim.Native.Nat.{ℕ, ◌-◌}
+use native.Mathlib.Omega.{arith}
+use lib.Dec.{leb}
+use lib.ListN.{length, drop}
+use Rattle.examples_text.specs.Lines.{starts_with}
+use Rattle.examples_text.proofs.LineLaws.{starts_next, starts_differs, starts_end}
+use borrow.Author.Rules.{rules}
+use Rattle.examples_text.proofs.script.first_is.Given as goal
+
+abbrev pub invariant-loop-i : goal.invariant-loop-i
+invariant-loop-i l = starts_with l.word l.line ≡ starts_with (drop l.i l.word) (drop l.i l.line)
+
+abbrev pub decreases-loop-i : goal.decreases-loop-i
+decreases-loop-i l = length l.word - l.i

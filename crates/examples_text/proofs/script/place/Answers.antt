@@ -1,0 +1,29 @@
+use mathlib.Core.Path.{◌≡◌, sym, ap, ◌∙◌}
+use mathlib.Core.Logic.{⊎_elim}
+use Prim.Native.Nat.{ℕ, ◌+◌, ◌-◌, ◌<◌}
+use native.Mathlib.Omega.{arith}
+use lib.ListN.{length, drop}
+use Rattle.examples_text.specs.Lines.{after_spaces}
+use Rattle.examples_text.proofs.LineLaws.{after_zero_lem, after_space, after_other, after_end}
+use borrow.Author.Rules.{rules}
+use Rattle.examples_text.proofs.script.place.Goals as goal
+
+pub returns-then-left-eq0 : goal.returns-then-left-eq0
+returns-then-left-eq0 c =
+    let l = c.loop-i in
+    sym (l.invariant ∙ after_zero_lem l.left (drop l.i c.args.line.now) c.if-left-eq0.true)
+
+pub loop-i-preserved : goal.loop-i-preserved
+loop-i-preserved c =
+    let l = c.loop-i in
+    let s = c.args.line.now in
+    let some : 0 < l.left = omega (arith, c.if-left-eq0.false) in
+    ⊎_elim
+    (λ w. l.invariant ∙ after_space l.left s l.i some (omega arith) w.0.taken ∙ ap (λ (k : ℕ). after_spaces k (drop (l.i + 1) s)) (sym w.1))
+    (λ w. l.invariant ∙ after_other l.left s l.i some (omega arith) w.0.left ∙ ap (λ (k : ℕ). after_spaces k (drop (l.i + 1) s)) (sym w.1))
+    c.if-line-i-eq-SPACE.branch
+
+pub returns : goal.returns
+returns c =
+    let l = c.loop-i in
+    after_end l.left c.args.line.now l.i (omega arith) ∙ sym l.invariant

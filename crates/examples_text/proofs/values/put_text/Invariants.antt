@@ -1,0 +1,16 @@
+use mathlib.Core.Path.{sym, ap}
+use Prim.Native.Nat.{◌+◌, ◌-◌}
+use native.Mathlib.Omega.{arith}
+use lib.ListN.{length, get_or, drop}
+use Rattle.examples_text.specs.Lines.{after_spaces, text}
+use Rattle.examples_text.specs.Values.{byte_room}
+use Rattle.examples_text.proofs.LineLaws.{text_next, text_stop, text_end}
+use Rattle.examples_text.proofs.ValueLaws.{Left, left_all, left_next, left_none, left_full}
+use borrow.Author.Rules.{rules}
+use Rattle.examples_text.proofs.values.put_text.Given as goal
+
+abbrev pub invariant-loop-i : goal.invariant-loop-i
+invariant-loop-i l = Left byte_room l.initial.area l.at (text (after_spaces l.k l.bytes)) l.area l.to (text (drop l.i l.bytes))
+
+abbrev pub decreases-loop-i : goal.decreases-loop-i
+decreases-loop-i l = length l.bytes - l.i

@@ -1,0 +1,13 @@
+use Prim.Native.Nat.{suc}
+use native.Mathlib.Omega.{arith}
+use borrow.Author.Rules.{rules}
+use Rattle.formats.specs.declared.facts.FrameTable.{FrameTable}
+use Rattle.formats.specs.Frames.{amr_length, length_in}
+use Rattle.frame_codes.specs.Codes.{amr_longest, type_below, type_for}
+use Rattle.formats.proofs.TableRule.{entry}
+use Rattle.frame_codes.proofs.amr_codes.amr_type.Goals as goal
+
+pub returns : goal.returns
+unfolding type_below length_in amr_length
+returns c =
+    entry (type_for FrameTable.Amr) (suc amr_longest) c.args.n (omega (arith, c.requires))

@@ -1,0 +1,45 @@
+use mathlib.Core.Path.{◌≡◌, ap, subst, ◌∙◌}
+use Prim.Native.Nat.{suc, ◌+◌, ◌-◌, ◌≤◌}
+use native.Mathlib.Omega.{arith}
+use lib.ListN.{length}
+use borrow.Author.Rules.{rules}
+use Rattle.log_lines.specs.FrameCounts.{frames_from, AllPrinted}
+use Rattle.log_lines.proofs.CountLaws.{left, is_frame, counts_start, counts_frame, counts_none, counts_out}
+use Rattle.log_lines.proofs.printing.print_from.Goals as goal
+
+pub loop-frames-init : goal.loop-frames-init
+loop-frames-init c =
+    (omega arith, counts_start c.args.cursor c.args.log.now)
+
+pub returns-in-End : goal.returns-in-End
+returns-in-End c =
+    let a = c.args in
+    let v = c.loop-frames in
+    let s = c.step-stepped in
+    let log = a.log.now in
+    let none = counts_none v.frames v.reached s.result.cursor log s.result.answer c.loop-frames-test.true s.ensures (ap is_frame c.in-End.is) in
+    subst (AllPrinted c.print_end.result) (none ∙ v.invariant.1) c.print_end.ensures
+
+pub returns-in-Refused : goal.returns-in-Refused
+returns-in-Refused c =
+    let a = c.args in
+    let v = c.loop-frames in
+    let s = c.step-stepped in
+    let log = a.log.now in
+    let none = counts_none v.frames v.reached s.result.cursor log s.result.answer c.loop-frames-test.true s.ensures (ap is_frame c.in-Refused.is) in
+    subst (AllPrinted c.print_fault.result) (none ∙ v.invariant.1) c.print_fault.ensures
+
+pub loop-frames-preserved : goal.loop-frames-preserved
+loop-frames-preserved c =
+    let a = c.args in
+    let v = c.loop-frames in
+    let s = c.step-stepped in
+    let log = a.log.now in
+    let one = counts_frame v.frames v.reached s.result.cursor log s.result.answer c.loop-frames-test.true s.ensures (ap is_frame c.in-Frame.is) in
+    (omega arith, one ∙ v.invariant.1)
+
+pub returns : goal.returns
+returns c =
+    let a = c.args in
+    let v = c.loop-frames in
+    counts_out v.frames v.reached a.log.now (omega arith) ∙ v.invariant.1

@@ -1,0 +1,37 @@
+use mathlib.Core.Path.{ap, subst, ◌∙◌}
+use mathlib.Core.List.{List, ◌++◌}
+use Prim.Native.Nat.{ℕ, ◌<◌}
+use native.Mathlib.Omega.{arith}
+use Rattle.rtp.specs.Refusals.{number}
+use Rattle.console_text.specs.Ascii.{ascii}
+use Rattle.console_text.specs.Lines.{gathered, decimal}
+use Rattle.console_text.proofs.LineLaws.{gathered_more}
+use Rattle.log_lines.specs.LineTexts.{fault_text, Begun}
+use Rattle.log_lines.proofs.LineLaws.{begun, fault_low, fault_high}
+use borrow.Author.Rules.{rules}
+use Rattle.log_lines.proofs.words.put_fault.Goals as goal
+
+pub returns-then-number-lt-OF_A_FIELD : goal.returns-then-number-lt-OF_A_FIELD
+returns-then-number-lt-OF_A_FIELD c =
+    let a = c.args in
+    let n = c.refusal_number-number in
+    let low : number a.fault.refusal < 17 = omega (arith, n.ensures, c.if-number-lt-OF_A_FIELD.true) in
+    (c.put_refusal.ensures.0, subst (λ (t : List ℕ). Begun a.line.now a.at t c.put_refusal.new.0 c.put_refusal.result) (fault_low (number a.fault.refusal) a.fault.offset low) c.put_refusal.ensures.1)
+
+pub returns : goal.returns
+returns c =
+    let a = c.args in
+    let l = a.line.now in
+    let n = c.refusal_number-number in
+    let o = a.fault.offset in
+    let p = c.put_number-end in
+    let q = c.put_number-end-2 in
+    let s = c.put-end in
+    let t : List ℕ = ascii "refusal " ++ decimal n.result in
+    let u : List ℕ = ascii " at byte " ++ decimal o in
+    let placed = q.ensures.1 ∙ gathered_more l p.new.0 a.at p.result t u p.ensures.1 in
+    let held = s.ensures.1
+    ∙ gathered_more l q.new.0 a.at q.result (t ++ u) (ascii ": ") placed
+    ∙ ap (gathered l a.at) (fault_high n.result o (omega (arith, c.if-number-lt-OF_A_FIELD.false)))
+    ∙ ap (λ (k : ℕ). gathered l a.at (fault_text k o)) n.ensures in
+    (c.put_reason.ensures.0, begun l s.new.0 c.put_reason.new.0 a.at s.result c.put_reason.result (fault_text (number a.fault.refusal) o) s.ensures.0 held c.put_reason.ensures.1)

@@ -1,0 +1,74 @@
+use mathlib.Core.Path.{◌≡◌, ap, sym, ◌∙◌, subst}
+use native.Mathlib.Omega.{arith}
+use lib.ListN.{take, drop, length-take, length-drop, length}
+use Rattle.rtp.specs.Editions.{current}
+use Rattle.rtp.proofs.AreaLaws.{part_to_end}
+use Rattle.write_sizes.specs.Measures.{Numbers, written_numbers}
+use Rattle.write_parts.specs.ListSizes.{redundant_numbers, add_numbers, lists_numbers}
+use Rattle.write_parts.proofs.ListsLaws.{told_none, told_bytes, lists_one, lists_rest, add_none, add_rest, add_both, redundant_small, lists_small}
+use borrow.Author.Rules.{rules}
+use Prim.Native.Nat.{ℕ, ◌<◌}
+use Rattle.write_parts.proofs.sizes.+measure_lists.Goals.{After-first_words-n, After-measure_lists, In-Bytes, In-Bytes-measure_lists}
+use Rattle.write_parts.proofs.sizes.+measure_lists.Goals as goal
+
+-- the first list and the others
+abbrev first : (t : ℕ) → At measure-lists-lts.After-first-words t → Numbers
+first t c = let a = c.before.before.before.before.args in redundant_numbers current a.asked a.time (take c.first_words_lem.result a.rows.now)
+
+abbrev others : (t : ℕ) → At measure-lists-lts.After-first-words t → Numbers
+others t c = let a = c.before.before.before.before.args in lists_numbers current a.asked a.time (drop 1 a.counts.now) (drop c.first_words_lem.result a.rows.now)
+
+more-at : (t : ℕ) (c : After-first_words-n t) → let a = c.args in lists_numbers current a.asked a.time a.counts.now a.rows.now ≡ add_numbers (first t §c§) (others t §c§)
+more-at t c =
+    let a = c.args in
+    subst (λ (n : ℕ). lists_numbers current a.asked a.time a.counts.now a.rows.now ≡ add_numbers (redundant_numbers current a.asked a.time (take n a.rows.now)) (lists_numbers current a.asked a.time (drop 1 a.counts.now) (drop n a.rows.now)))
+    (sym c.first_words-n.ensures.0) (lists_rest current a.asked a.time a.counts.now a.rows.now c.if-counts-lt2.false)
+
+size-at : (t : ℕ) (c : In-Bytes t) → first t §c§ ≡ record { refusal = 0; count = c.in-Bytes.size }
+size-at t c =
+    told_bytes _ _ _ c.in-Bytes.is c.measure_redundant.ensures
+
+told_at : (t : ℕ) (c : After-measure_lists t) → written_numbers c.measure_lists.result ≡ others t §c§
+told_at t c =
+    let a = c.args in c.measure_lists.ensures ∙ rw (part_to_end 1 a.counts.now, part_to_end c.first_words-n.result a.rows.now)
+
+rest_at : (t : ℕ) (c : In-Bytes-measure_lists t) → others t §c§ ≡ record { refusal = 0; count = c.in-Bytes-measure_lists.rest }
+rest_at t c =
+    let told_at : written_numbers c.measure_lists.result ≡ others t c = let a = c.args in c.measure_lists.ensures ∙ rw (part_to_end 1 a.counts.now, part_to_end c.first_words-n.result a.rows.now) in
+    told_bytes _ _ _ c.in-Bytes-measure_lists.is (told_at)
+
+pub returns-then-counts-lt2 : goal.returns-then-counts-lt2
+returns-then-counts-lt2 t c =
+    let a = c.args in c.measure_payload.ensures ∙ sym (lists_one current a.asked a.time a.counts.now a.rows.now c.if-counts-lt2.true)
+
+pub slice_bounds-measure_redundant-end : goal.slice_bounds-measure_redundant-end
+slice_bounds-measure_redundant-end t c =
+    simp length-take (omega (arith, c.first_words-n.ensures.1))
+
+pub measure_lists-requires : goal.measure_lists-requires
+measure_lists-requires t c =
+    let a = c.args in (
+      rw (part_to_end 1 a.counts.now, length-drop) (omega (arith, c.requires.0, c.if-counts-lt2.false)),
+      rw (part_to_end 1 a.counts.now, length-drop) (omega (arith, c.requires.1)),
+    )
+
+pub overflow_add-result : goal.overflow_add-result
+overflow_add-result t c =
+    let a = c.args in
+    let s = redundant_small current a.asked a.time (take c.first_words-n.result a.rows.now) in
+    let r = lists_small current a.asked a.time (drop 1 a.counts.now) (drop c.first_words-n.result a.rows.now) in
+    let i = ap (λ (n : Numbers). n.count) (size-at t (goal.at.overflow_add-result t c).In-Bytes) in
+    let j = ap (λ (n : Numbers). n.count) (rest_at t c) in
+    omega (arith, length-drop 1 a.counts.now, c.requires.1)
+
+pub returns-in-Refused : goal.returns-in-Refused
+returns-in-Refused t c =
+    add_none (first t c) (others t c) (told_none _ _ _ c.in-Refused.is c.measure_redundant.ensures) ∙ sym (more-at t (goal.at.returns-in-Refused t c).After-first_words-n)
+
+pub returns-in-Refused-measure_lists : goal.returns-in-Refused-measure_lists
+returns-in-Refused-measure_lists t c =
+    add_rest (first t c) (others t c) (told_none _ _ _ c.in-Refused-measure_lists.is (told_at t (goal.at.returns-in-Refused-measure_lists t c).After-measure_lists)) ∙ sym (more-at t (goal.at.returns-in-Refused-measure_lists t c).After-first_words-n)
+
+pub returns-in-Bytes-measure_lists : goal.returns-in-Bytes-measure_lists
+returns-in-Bytes-measure_lists t c =
+    add_both (first t c) (others t c) _ _ (size-at t (goal.at.returns-in-Bytes-measure_lists t c).In-Bytes) (rest_at t c) ∙ sym (more-at t (goal.at.returns-in-Bytes-measure_lists t c).After-first_words-n)

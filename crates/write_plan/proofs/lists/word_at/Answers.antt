@@ -1,0 +1,8 @@
+use mathlib.Core.Path.{sym}
+use lib.ListN.{get_or-eq_default}
+use borrow.Author.Rules.{rules}
+use Rattle.write_plan.proofs.lists.word_at.Goals as goal
+
+pub returns-else-at-rows : goal.returns-else-at-rows
+returns-else-at-rows c =
+    sym (get_or-eq_default c.args.rows.now 0 c.if-at-rows.false)

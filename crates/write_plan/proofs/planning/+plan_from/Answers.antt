@@ -1,0 +1,88 @@
+use Rattle.rtp.specs.Editions.{current}
+use Rattle.formats.specs.Formats.{step_of}
+use Rattle.write_plan.specs.Plans.{gap_between}
+use Rattle.write_plan.specs.Room.{attach_plan}
+use Rattle.write_plan.specs.declared.lists.RowWords.{RowWords}
+use mathlib.Core.List.{List}
+use mathlib.Core.Path.{◌≡◌, ap, subst, sym, ◌∙◌}
+use native.Mathlib.Omega.{arith}
+use Rattle.rtp.specs.Sizes.{row_width, max_rows}
+use Rattle.rtp.proofs.AreaLaws.{part_to_end}
+use Rattle.write_plan.specs.declared.planning.Planned.{Planned}
+use Rattle.write_plan.specs.Lists.{rows_in}
+use Rattle.write_plan.specs.Plans.{plan_from, next_channel, follows}
+use Rattle.write_plan.specs.Room.{row_as, words_at, plan_answer, Small}
+use Rattle.write_plan.proofs.ListLaws.{length_rows}
+use Rattle.write_plan.proofs.PlanLaws.{plan_empty, plan_cut, plan_stop, plan_start, plan_go, small_plan, small_weaker, follows_short, next_below}
+use lib.ListN.{length, drop, length-drop}
+use borrow.Author.Rules.{rules}
+use Prim.Native.Nat.{ℕ, ◌<◌, ◌-◌, ◌≤◌}
+use Rattle.write_plan.proofs.planning.+plan_from.Goals.{After-follows_row, After-plan_from-rest}
+use Rattle.write_plan.proofs.planning.+plan_from.Goals as goal
+
+-- the row, as the list has it, and what follows
+row_is : (t : ℕ) (c : After-follows_row t) → follows c.args.format c.args.c (row_as c.args.previous) (row_as (words_at c.args.rows.now 0)) ≡ c.follows_row.result
+row_is t c =
+    let a = c.args in sym (c.follows_row.ensures ∙ ap (λ (w : RowWords). follows a.format a.c (row_as a.previous) (row_as w)) c.first_row-row.ensures)
+
+rest_at : (t : ℕ) (c : After-plan_from-rest t) → let a = c.args in
+    c.plan_from-rest.result ≡ plan_answer a.format a.channels (plan_from a.format a.channels (next_channel a.channels a.c) (row_as (words_at a.rows.now 0)) (rows_in (drop row_width a.rows.now)))
+rest_at t c =
+    let a = c.args in
+    c.plan_from-rest.ensures
+    ∙ ap (λ (l : List ℕ). plan_answer a.format a.channels (plan_from a.format a.channels c.next_channel.result (row_as c.first_row-row.result) (rows_in l))) (part_to_end row_width a.rows.now)
+    ∙ ap (λ (n : ℕ). plan_answer a.format a.channels (plan_from a.format a.channels n (row_as c.first_row-row.result) (rows_in (drop row_width a.rows.now)))) c.next_channel.ensures
+    ∙ ap (λ (w : RowWords). plan_answer a.format a.channels (plan_from a.format a.channels (next_channel a.channels a.c) (row_as w) (rows_in (drop row_width a.rows.now)))) c.first_row-row.ensures
+
+small_at : (t : ℕ) (c : After-plan_from-rest t) → Small c.args.format c.args.channels (max_rows current) c.plan_from-rest.result
+small_at t c =
+    let rest_at : let a = c.args in
+    c.plan_from-rest.result ≡ plan_answer a.format a.channels (plan_from a.format a.channels (next_channel a.channels a.c) (row_as (words_at a.rows.now 0)) (rows_in (drop row_width a.rows.now))) = let a = c.args in
+    c.plan_from-rest.ensures
+    ∙ ap (λ (l : List ℕ). plan_answer a.format a.channels (plan_from a.format a.channels c.next_channel.result (row_as c.first_row-row.result) (rows_in l))) (part_to_end row_width a.rows.now)
+    ∙ ap (λ (n : ℕ). plan_answer a.format a.channels (plan_from a.format a.channels n (row_as c.first_row-row.result) (rows_in (drop row_width a.rows.now)))) c.next_channel.ensures
+    ∙ ap (λ (w : RowWords). plan_answer a.format a.channels (plan_from a.format a.channels (next_channel a.channels a.c) (row_as w) (rows_in (drop row_width a.rows.now)))) c.first_row-row.ensures in
+    let a = c.args in
+    let ws = drop row_width a.rows.now in
+    subst (λ (x : Planned). Small a.format a.channels (max_rows current) x) (sym (rest_at))
+    (small_weaker a.format a.channels (length (rows_in ws)) (max_rows current) (plan_answer a.format a.channels (plan_from a.format a.channels (next_channel a.channels a.c) (row_as (words_at a.rows.now 0)) (rows_in ws))) (omega (arith, length_rows ws, length-drop row_width a.rows.now, c.requires.1.2)) (small_plan a.format a.channels (next_channel a.channels a.c) (row_as (words_at a.rows.now 0)) (rows_in ws)))
+
+pub returns-then-c-eq0 : goal.returns-then-c-eq0
+returns-then-c-eq0 t c =
+    let a = c.args in sym (plan_empty a.format a.channels a.c (row_as a.previous) a.rows.now c.if-rows-lt-ROW_WIDTH.true c.if-c-eq0.true)
+
+pub returns-then-rows-lt-ROW_WIDTH : goal.returns-then-rows-lt-ROW_WIDTH
+returns-then-rows-lt-ROW_WIDTH t c =
+    let a = c.args in sym (plan_cut a.format a.channels a.c (row_as a.previous) a.rows.now c.if-rows-lt-ROW_WIDTH.true c.if-c-eq0.false)
+
+pub plan_from-rest-requires : goal.plan_from-rest-requires
+plan_from-rest-requires t c =
+    let a = c.args in
+    let q = part_to_end row_width a.rows.now in
+    (rw (q, length-drop) (omega (arith, c.requires.0, c.if-rows-lt-ROW_WIDTH.false)), (c.requires.1.0, subst (λ (n : ℕ). n < a.channels) (sym c.next_channel.ensures) (next_below a.channels a.c c.requires.1.1), rw (q, length-drop) (omega (arith, c.requires.1.2))))
+
+pub attach_block-requires : goal.attach_block-requires
+attach_block-requires t c =
+    let a = c.args in
+    record {
+      channels = c.requires.1.0;
+      short = subst (λ (w : RowWords). (row_as w).length ≤ 320) (sym c.first_row-row.ensures) (follows_short a.format a.c (row_as a.previous) (row_as (words_at a.rows.now 0)) c.if-c-eq0-2.true (row_is t (goal.at.attach_block-requires t c).After-follows_row ∙ c.if-follows_row.true));
+      small = small_at t (goal.at.attach_block-requires t c).After-plan_from-rest;
+    }
+
+pub returns-then-c-eq0-2 : goal.returns-then-c-eq0-2
+returns-then-c-eq0-2 t c =
+    let a = c.args in
+    c.attach_block.ensures
+    ∙ ap (λ (g : ℕ). attach_plan a.format a.channels (row_as c.first_row-row.result) g c.plan_from-rest.result) c.gap_between-gap.ensures
+    ∙ ap (λ (w : RowWords). attach_plan a.format a.channels (row_as w) (gap_between (step_of a.format) a.previous.time w.time) c.plan_from-rest.result) c.first_row-row.ensures
+    ∙ ap (attach_plan a.format a.channels (row_as (words_at a.rows.now 0)) _) (rest_at t (goal.at.returns-then-c-eq0-2 t c).After-plan_from-rest)
+    ∙ sym (plan_start a.format a.channels a.c (row_as a.previous) a.rows.now c.if-rows-lt-ROW_WIDTH.false (row_is t (goal.at.returns-then-c-eq0-2 t c).After-follows_row ∙ c.if-follows_row.true) c.if-c-eq0-2.true)
+
+pub returns-then-follows_row : goal.returns-then-follows_row
+returns-then-follows_row t c =
+    let a = c.args in rest_at t (goal.at.returns-then-follows_row t c).After-plan_from-rest ∙ sym (plan_go a.format a.channels a.c (row_as a.previous) a.rows.now c.if-rows-lt-ROW_WIDTH.false (row_is t (goal.at.returns-then-follows_row t c).After-follows_row ∙ c.if-follows_row.true) c.if-c-eq0-2.false)
+
+pub returns : goal.returns
+returns t c =
+    let a = c.args in sym (plan_stop a.format a.channels a.c (row_as a.previous) a.rows.now c.if-rows-lt-ROW_WIDTH.false (row_is t (goal.at.returns t c).After-follows_row ∙ c.if-follows_row.false))

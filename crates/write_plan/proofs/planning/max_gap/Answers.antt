@@ -1,0 +1,13 @@
+use Rattle.formats.specs.Formats.{max_gap}
+use borrow.Author.Rules.{rules}
+use Rattle.write_plan.proofs.planning.max_gap.Goals as goal
+
+pub returns-then-format_of : goal.returns-then-format_of
+unfolding max_gap
+returns-then-format_of c =
+    simp (← c.format_of.ensures, c.if-format_of.true)
+
+pub returns : goal.returns
+unfolding max_gap
+returns c =
+    simp (← c.format_of.ensures, c.if-format_of.false)

@@ -1,0 +1,12 @@
+use native.Mathlib.Omega.{arith}
+use Rattle.formats.proofs.FormatLaws.{step_fine}
+use borrow.Author.Rules.{rules}
+use Rattle.write_plan.proofs.planning.whole_steps.Goals as goal
+
+pub nonzero_rem-result : goal.nonzero_rem-result
+nonzero_rem-result c =
+    omega (arith, c.step_of.ensures, (step_fine c.args.format).some)
+
+pub returns : goal.returns
+returns c =
+    simp c.step_of.ensures
