@@ -64,7 +64,7 @@ unfolding headers_by
 fuel zero g s h k = absurd (omega arith)
 fuel (suc f) zero s h k = absurd (omega arith)
 fuel (suc f) (suc g) s h k =
-    step_same s _ _ (block_header s) (λ e q. fuel f g (drop 4 s) (omega (arith, shorter s e q)) (omega (arith, shorter s e q)))
+    step_same s (λ t. headers_by f t) (λ t. headers_by g t) (block_header s) (λ e q. fuel f g (drop 4 s) (omega (arith, shorter s e q)) (omega (arith, shorter s e q)))
 
 -- the headers by the first one: what every other proof goes by
 pub headers_step_lem : (s : List ℕ) → headers s ≡ headers_step s (λ t. headers t) (block_header s)

@@ -55,21 +55,21 @@ pub headers_from-requires : goal.headers_from-requires
 headers_from-requires t c =
     let s = c.args.s.now in
     let q : length (take (length s - 4) (drop 4 s)) < length s = rw part_to_end (shorter s _ (read_at t (goal.at.headers_from-requires t c).In-Redundant)) in
-    (omega (arith, q, c.requires.0), omega (arith, q, c.requires.1))
+    (omega (arith, q, c.requires), omega (arith, q, c.requires))
 
 pub overflow_add-result : goal.overflow_add-result
 overflow_add-result t c =
-    omega (arith, place_at_lem t (goal.at.overflow_add-result t c).In-Refused-headers_from, length-drop 4 c.args.s.now, c.requires.1)
+    omega (arith, place_at_lem t (goal.at.overflow_add-result t c).In-Refused-headers_from, length-drop 4 c.args.s.now, c.requires)
 
 pub overflow_add-result-in-Headers : goal.overflow_add-result-in-Headers
 overflow_add-result-in-Headers t c =
-    omega (arith, (small_at t (goal.at.overflow_add-result-in-Headers t c).In-Headers).within, length-drop 4 c.args.s.now, c.requires.1)
+    omega (arith, (small_at t (goal.at.overflow_add-result-in-Headers t c).In-Headers).within, length-drop 4 c.args.s.now, c.requires)
 
 pub overflow_add-result-in-Headers-2 : goal.overflow_add-result-in-Headers-2
 overflow_add-result-in-Headers-2 t c =
     let s = c.args.s.now in
     let k = (fair s _ (read_at t (goal.at.overflow_add-result-in-Headers-2 t c).In-Redundant)).short (λ i. (c.shared_slice_known-1.given i).fits) in
-    omega (arith, k, small_at t (goal.at.overflow_add-result-in-Headers-2 t c).In-Headers, length-drop 4 s, c.requires.1)
+    omega (arith, k, small_at t (goal.at.overflow_add-result-in-Headers-2 t c).In-Headers, length-drop 4 s, c.requires)
 
 pub returns-in-Refused : goal.returns-in-Refused
 returns-in-Refused t c =
