@@ -70,7 +70,7 @@ fuel (suc f) (suc g) s h k =
 pub headers_step_lem : (s : List ℕ) → headers s ≡ headers_step s (λ t. headers t) (block_header s)
 unfolding headers headers_by
 headers_step_lem s =
-    step_same s _ _ (block_header s)
+    step_same s (λ t. headers_by (length s) t) (λ t. headers t) (block_header s)
     (λ e q. fuel (length s) (suc (length (drop 4 s))) (drop 4 s) (shorter s e q) (omega arith))
 
 -- The answer by the first header
