@@ -38,14 +38,14 @@ unfolding contents_by
 fuel ed zero g format ch rows s h k = absurd (omega arith)
 fuel ed (suc f) zero format ch rows s h k = absurd (omega arith)
 fuel ed (suc f) (suc g) format ch rows s h k =
-    step_same ed format ch rows s _ _ (entry_of format s)
+    step_same ed format ch rows s (λ r t. contents_by ed f format ch r t) (λ r t. contents_by ed g format ch r t) (entry_of format s)
     (λ e q n. fuel ed f g format ch n (drop e.size s) (omega (arith, shorter format s e q)) (omega (arith, shorter format s e q)))
 
 -- the table by its first entry: what every other proof goes by
 pub contents_step_lem : (ed : Edition) (format ch rows : ℕ) (s : List ℕ) → contents ed format ch rows s ≡ contents_step ed format ch rows s (λ r t. contents ed format ch r t) (entry_of format s)
 unfolding contents contents_by
 contents_step_lem ed format ch rows s =
-    step_same ed format ch rows s _ _ (entry_of format s)
+    step_same ed format ch rows s (λ r t. contents_by ed (length s) format ch r t) (λ r t. contents ed format ch r t) (entry_of format s)
     (λ e q n. fuel ed (length s) (suc (length (drop e.size s))) format ch n (drop e.size s) (shorter format s e q) (omega arith))
 
 -- Bounds

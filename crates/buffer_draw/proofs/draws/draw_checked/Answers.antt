@@ -56,7 +56,7 @@ returns-then-n-eq0 c =
 
 pub draw_first-requires : goal.draw_first-requires
 draw_first-requires c =
-    let machine-at : Machine c.args.buffer = owned_machine c.args.buffer _ c.well_formed_lem.0 in
+    let machine-at : Machine c.args.buffer = owned_machine c.args.buffer _ c.well_formed.0 in
     record {
       machine = machine-at;
       fine = fine-at (goal.at.draw_first-requires c).Else-not-well_formed;

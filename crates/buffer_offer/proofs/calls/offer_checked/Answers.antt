@@ -75,7 +75,7 @@ slice_bounds-offer_rows-end-in-Read c =
 
 pub offer_rows-requires : goal.offer_rows-requires
 offer_rows-requires c =
-    let machine-at : Machine c.args.buffer = owned_machine c.args.buffer _ c.well_formed_lem.0 in
+    let machine-at : Machine c.args.buffer = owned_machine c.args.buffer _ c.well_formed.0 in
     let a = c.args in
     offer_asks current a.buffer a.packet.now a.rows.now a.store.now c.requires (fine-at (goal.at.offer_rows-requires c).Else-not-well_formed) c.if-rows-lt-ROW_AREA.false c.if-store-lt-STORE_SIZE.false
     c.in-Read.head (read_at (goal.at.offer_rows-requires c).In-Read) _ c.read.ensures.1 (machine-at)

@@ -110,13 +110,13 @@ read_contents-requires t c =
     let e = c.in-Entry.entry in
     let q : length (take (length a.s.now - e.size) (drop e.size a.s.now)) < length a.s.now =
     rw part_to_end (shorter a.format a.s.now e (read_at t (goal.at.read_contents-requires t c).In-Entry)) in
-    (omega (arith, q, c.requires.0), c.requires.1)
+    (omega (arith, q), search rules)
 
 pub overflow_add-result : goal.overflow_add-result
 overflow_add-result t c =
     let a = c.args in
     let e = c.in-Entry.entry in
-    omega (arith, place_at_lem t (goal.at.overflow_add-result t c).In-Refused-read_contents, length-drop e.size a.s.now, (fair-at t (goal.at.overflow_add-result t c).In-Entry).within, c.well_formed_lem)
+    omega (arith, place_at_lem t (goal.at.overflow_add-result t c).In-Refused-read_contents, length-drop e.size a.s.now, (fair-at t (goal.at.overflow_add-result t c).In-Entry).within, c.well_formed)
 
 pub overflow_add-result-in-Contents : goal.overflow_add-result-in-Contents
 overflow_add-result-in-Contents t c =
@@ -124,7 +124,7 @@ overflow_add-result-in-Contents t c =
 
 pub overflow_add-result-in-Contents-2 : goal.overflow_add-result-in-Contents-2
 overflow_add-result-in-Contents-2 t c =
-    omega (arith, (small_at t (goal.at.overflow_add-result-in-Contents-2 t c).In-Contents).within, length-drop c.in-Entry.entry.size c.args.s.now, (fair-at t (goal.at.overflow_add-result-in-Contents-2 t c).In-Entry).within, c.well_formed_lem)
+    omega (arith, (small_at t (goal.at.overflow_add-result-in-Contents-2 t c).In-Contents).within, length-drop c.in-Entry.entry.size c.args.s.now, (fair-at t (goal.at.overflow_add-result-in-Contents-2 t c).In-Entry).within, c.well_formed)
 
 pub overflow_add-result-in-Contents-3 : goal.overflow_add-result-in-Contents-3
 overflow_add-result-in-Contents-3 t c =

@@ -63,11 +63,11 @@ returns-then-s-header c =
 
 pub overflow_add-header : goal.overflow_add-header
 overflow_add-header c =
-    omega (arith, small_at (goal.at.overflow_add-header c).In-Contents, length_at (goal.at.overflow_add-header c).Else-s-header, c.well_formed_lem)
+    omega (arith, small_at (goal.at.overflow_add-header c).In-Contents, length_at (goal.at.overflow_add-header c).Else-s-header, c.well_formed)
 
 pub overflow_add-header-in-Contents : goal.overflow_add-header-in-Contents
 overflow_add-header-in-Contents c =
-    omega (arith, small_at (goal.at.overflow_add-header-in-Contents c).In-Contents, length_at (goal.at.overflow_add-header-in-Contents c).Else-s-header, c.well_formed_lem)
+    omega (arith, small_at (goal.at.overflow_add-header-in-Contents c).In-Contents, length_at (goal.at.overflow_add-header-in-Contents c).Else-s-header, c.well_formed)
 
 pub overflow_cast-result : goal.overflow_cast-result
 overflow_cast-result c =
@@ -76,11 +76,11 @@ overflow_cast-result c =
 pub overflow_add-result : goal.overflow_add-result
 overflow_add-result c =
     let a = c.args in
-    omega (arith, pay_place current redundant_mark a.asked.format a.asked.channels a.done 0 0 a.s.now _ (fault-at (goal.at.overflow_add-result c).In-Refused), length_at (goal.at.overflow_add-result c).Else-s-header, c.well_formed_lem)
+    omega (arith, pay_place current redundant_mark a.asked.format a.asked.channels a.done 0 0 a.s.now _ (fault-at (goal.at.overflow_add-result c).In-Refused), length_at (goal.at.overflow_add-result c).Else-s-header, c.well_formed)
 
 pub overflow_add-result-else-header-sizes : goal.overflow_add-result-else-header-sizes
 overflow_add-result-else-header-sizes c =
-    omega (arith, small_at (goal.at.overflow_add-result-else-header-sizes c).In-Contents, length_at (goal.at.overflow_add-result-else-header-sizes c).Else-s-header, c.well_formed_lem)
+    omega (arith, small_at (goal.at.overflow_add-result-else-header-sizes c).In-Contents, length_at (goal.at.overflow_add-result-else-header-sizes c).Else-s-header, c.well_formed)
 
 pub returns-in-Refused : goal.returns-in-Refused
 returns-in-Refused c =

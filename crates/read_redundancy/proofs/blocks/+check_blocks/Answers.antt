@@ -115,7 +115,7 @@ check_blocks-requires t c =
 
 pub overflow_add-result : goal.overflow_add-result
 overflow_add-result t c =
-    omega (arith, place_at_lem t (goal.at.overflow_add-result t c).In-Refused-check_blocks, length-drop c.in-Redundant.block.length c.args.s.now, block_at t (goal.at.overflow_add-result t c).In-Redundant, c.well_formed_lem)
+    omega (arith, place_at_lem t (goal.at.overflow_add-result t c).In-Refused-check_blocks, length-drop c.in-Redundant.block.length c.args.s.now, block_at t (goal.at.overflow_add-result t c).In-Redundant, c.well_formed)
 
 pub overflow_add-result-in-Rows-check_blocks : goal.overflow_add-result-in-Rows-check_blocks
 overflow_add-result-in-Rows-check_blocks t c =

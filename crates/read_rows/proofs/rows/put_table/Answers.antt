@@ -45,7 +45,7 @@ returns-then-at-s-gt-MAX_PACKET c =
 
 pub overflow_add-sizes : goal.overflow_add-sizes
 overflow_add-sizes c =
-    omega (arith, small_at (goal.at.overflow_add-sizes c).In-Contents, c.well_formed_lem)
+    omega (arith, small_at (goal.at.overflow_add-sizes c).In-Contents, c.well_formed)
 
 pub put_contents-requires : goal.put_contents-requires
 put_contents-requires c =
