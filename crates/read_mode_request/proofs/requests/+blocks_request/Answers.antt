@@ -45,7 +45,7 @@ blocks_request-requires t c =
     let a = c.args in
     let e = c.in-Redundant.block in
     let q : length (take (length a.headers.now - 4) (drop 4 a.headers.now)) < length a.headers.now = rw part_to_end (shorter _ e (read_at t (goal.at.blocks_request-requires t c).In-Redundant)) in
-    (omega (arith, q, c.requires.0), tt)
+    (omega (arith, q), tt)
 
 pub returns-in-Refused : goal.returns-in-Refused
 returns-in-Refused t c =

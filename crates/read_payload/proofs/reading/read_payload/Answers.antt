@@ -59,7 +59,7 @@ answer_at c =
     let a = c.args in contents_is _ _ _ _ c.put_table.ensures.0 ∙ ap (sizes_answer a.asked.format a.asked.channels) (fits-at)
 
 words-at : (c : After-put_table) → let a = c.args in
-    c.put_table.new.0 ≡ over (rows_words (asked_rows current a.mark a.asked a.done (length a.area.now) a.time a.at a.s.now)) a.area.now
+    c.put_table.new.area ≡ over (rows_words (asked_rows current a.mark a.asked a.done (length a.area.now) a.time a.at a.s.now)) a.area.now
 words-at c =
     let asked-at : let a = c.args in asked_rows current a.mark a.asked a.done (length a.area.now) a.time a.at a.s.now ≡ payload_rows current a.mark a.asked.format a.asked.channels a.done a.time a.at a.s.now = let a = c.args in asked_in current a.mark a.asked a.done (length a.area.now) a.time a.at a.s.now (sym c.in_range.ensures ∙ c.if-in_range.true) (omega (arith, c.if-done-area-lt-ROW_AREA.false)) (omega (arith, c.if-at-s-gt-MAX_PACKET.false)) in
     let header_at : c.format_of-header.result.header ≡ (format_of c.args.asked.format).header = ap (λ (f : Format). f.header) c.format_of-header.ensures in

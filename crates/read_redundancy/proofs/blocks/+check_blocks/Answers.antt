@@ -28,14 +28,14 @@ read_at t c =
 block_at : (t : ℕ) (c : In-Redundant t) → c.in-Redundant.block.length ≤ length c.args.s.now
 block_at t c =
     let read_at : block_header c.args.headers.now ≡ BlockHeader.Redundant c.in-Redundant.block = sym (same_block _ _ c.read_block_header.ensures) ∙ c.in-Redundant.is in
-    let a = c.args in block_in current a.settings a.done (row_area current) 0 0 a.headers.now a.s.now c.requires.1 (omega arith) _ (read_at)
+    let a = c.args in block_in current a.settings a.done (row_area current) 0 0 a.headers.now a.s.now c.requires (omega arith) _ (read_at)
 
 few-at : (t : ℕ) (c : In-Rows t) → c.args.done + c.in-Rows.here ≤ max_rows current
 few-at t c =
     let read_at : block_header c.args.headers.now ≡ BlockHeader.Redundant c.in-Redundant.block = sym (same_block _ _ c.read_block_header.ensures) ∙ c.in-Redundant.is in
     let here_at : let a = c.args in let e = c.in-Redundant.block in
     rows_answer (asked_block current redundant_mark a.settings a.done (row_area current) 0 e.payload_type 0 0 (take e.length a.s.now)) ≡ PayloadRead.Rows c.in-Rows.here = sym c.check_block-in-Redundant.ensures ∙ c.in-Rows.is in
-    let a = c.args in first_few current a.settings a.done (row_area current) 0 0 a.headers.now a.s.now c.requires.1 (omega arith) _ (read_at) 0 _ (here_at)
+    let a = c.args in first_few current a.settings a.done (row_area current) 0 0 a.headers.now a.s.now c.requires (omega arith) _ (read_at) 0 _ (here_at)
 
 -- what follows, as the call of itself read it
 rest_at : (t : ℕ) (c : After-check_blocks t) → let a = c.args in let e = c.in-Redundant.block in
@@ -55,7 +55,7 @@ whole-at t c =
     c.check_blocks.ensures ∙ rw (part_to_end 4 a.headers.now, part_to_end c.in-Redundant.block.length a.s.now) in
     let a = c.args in
     let e = c.in-Redundant.block in
-    checked current a.settings a.done a.headers.now a.s.now c.requires.1 e (read_at)
+    checked current a.settings a.done a.headers.now a.s.now c.requires e (read_at)
     ∙ ap (λ (p : PayloadRead). then_answer p (λ n. further e.length (rows_answer (blocks_from current a.settings (a.done + n) 0 0 (drop 4 a.headers.now) (drop e.length a.s.now))))) (here_at)
     ∙ ap (λ (p : PayloadRead). add_answer c.in-Rows.here (further e.length p)) (sym (rest_at))
 
@@ -65,14 +65,14 @@ place_at_lem t c =
     let read_at : block_header c.args.headers.now ≡ BlockHeader.Redundant c.in-Redundant.block = sym (same_block _ _ c.read_block_header.ensures) ∙ c.in-Redundant.is in
     let here_at : let a = c.args in let e = c.in-Redundant.block in
     rows_answer (asked_block current redundant_mark a.settings a.done (row_area current) 0 e.payload_type 0 0 (take e.length a.s.now)) ≡ PayloadRead.Rows c.in-Rows.here = sym c.check_block-in-Redundant.ensures ∙ c.in-Rows.is in
-    let few-at : c.args.done + c.in-Rows.here ≤ max_rows current = let a = c.args in first_few current a.settings a.done (row_area current) 0 0 a.headers.now a.s.now c.requires.1 (omega arith) _ (read_at) 0 _ (here_at) in
+    let few-at : c.args.done + c.in-Rows.here ≤ max_rows current = let a = c.args in first_few current a.settings a.done (row_area current) 0 0 a.headers.now a.s.now c.requires (omega arith) _ (read_at) 0 _ (here_at) in
     let rest_at : let a = c.args in let e = c.in-Redundant.block in
     c.check_blocks.result ≡ rows_answer (blocks_from current a.settings (a.done + c.in-Rows.here) 0 0 (drop 4 a.headers.now) (drop e.length a.s.now)) = let a = c.args in
     c.check_blocks.ensures ∙ rw (part_to_end 4 a.headers.now, part_to_end c.in-Redundant.block.length a.s.now) in
     let a = c.args in
     let e = c.in-Redundant.block in
     let n = c.in-Rows.here in
-    let rest = asked_rest current a.settings a.done (row_area current) 0 0 a.headers.now a.s.now c.requires.1 (omega arith) e (read_at) n 0 (few-at) (omega arith) in
+    let rest = asked_rest current a.settings a.done (row_area current) 0 0 a.headers.now a.s.now c.requires (omega arith) e (read_at) n 0 (few-at) (omega arith) in
     omega (
       arith,
       subst (λ (p : PayloadRead). Inside (0 + length (drop e.length a.s.now)) p) (sym (rest_at) ∙ c.in-Refused-check_blocks.is)
@@ -108,9 +108,9 @@ check_blocks-requires t c =
     let a = c.args in
     let e = c.in-Redundant.block in
     let q : length (take (length a.headers.now - 4) (drop 4 a.headers.now)) < length a.headers.now = rw part_to_end (shorter _ e (read_at t (goal.at.check_blocks-requires t c).In-Redundant)) in (
-      omega (arith, q, c.requires.0),
+      omega (arith, q),
       rw (part_to_end 4 a.headers.now, part_to_end e.length a.s.now)
-          (asked_rest current a.settings a.done (row_area current) 0 0 a.headers.now a.s.now c.requires.1 (omega arith) e (read_at t (goal.at.check_blocks-requires t c).In-Redundant) _ 0 (few-at t (goal.at.check_blocks-requires t c).In-Rows) (omega arith)),
+          (asked_rest current a.settings a.done (row_area current) 0 0 a.headers.now a.s.now c.requires (omega arith) e (read_at t (goal.at.check_blocks-requires t c).In-Redundant) _ 0 (few-at t (goal.at.check_blocks-requires t c).In-Rows) (omega arith)),
     )
 
 pub overflow_add-result : goal.overflow_add-result
@@ -131,13 +131,13 @@ returns-in-Refused t c =
 
 pub returns-in-Primary : goal.returns-in-Primary
 returns-in-Primary t c =
-    let a = c.args in c.check_block.ensures ∙ checked_primary current a.settings a.done a.headers.now a.s.now c.requires.1 _ (sym (same_block _ _ c.read_block_header.ensures) ∙ c.in-Primary.is)
+    let a = c.args in c.check_block.ensures ∙ checked_primary current a.settings a.done a.headers.now a.s.now c.requires _ (sym (same_block _ _ c.read_block_header.ensures) ∙ c.in-Primary.is)
 
 pub returns-in-Refused-check_block : goal.returns-in-Refused-check_block
 returns-in-Refused-check_block t c =
     let a = c.args in
     let e = c.in-Redundant.block in
-    sym (checked current a.settings a.done a.headers.now a.s.now c.requires.1 e (read_at t (goal.at.returns-in-Refused-check_block t c).In-Redundant)
+    sym (checked current a.settings a.done a.headers.now a.s.now c.requires e (read_at t (goal.at.returns-in-Refused-check_block t c).In-Redundant)
     ∙ ap (λ (p : PayloadRead). then_answer p (λ n. further e.length (rows_answer (blocks_from current a.settings (a.done + n) 0 0 (drop 4 a.headers.now) (drop e.length a.s.now))))) (sym c.check_block-in-Redundant.ensures ∙ c.in-Refused-check_block.is))
 
 pub returns-in-Refused-check_blocks : goal.returns-in-Refused-check_blocks

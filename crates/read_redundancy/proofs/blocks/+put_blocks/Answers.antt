@@ -29,13 +29,13 @@ read_at t c =
 block_at : (t : ℕ) (c : In-Redundant t) → c.in-Redundant.block.length ≤ length c.args.s.now
 block_at t c =
     let read_at : block_header c.args.headers.now ≡ BlockHeader.Redundant c.in-Redundant.block = sym (same_block _ _ c.read_block_header.ensures) ∙ c.in-Redundant.is in
-    let a = c.args in block_in current a.settings a.done (length a.rows.now) a.time a.at a.headers.now a.s.now c.requires.1.asked c.requires.1.area_fits _ (read_at)
+    let a = c.args in block_in current a.settings a.done (length a.rows.now) a.time a.at a.headers.now a.s.now c.requires.asked c.requires.area_fits _ (read_at)
 
 inside-at : (t : ℕ) (c : In-Redundant t) → c.args.at + c.in-Redundant.block.length ≤ max_packet
 inside-at t c =
     let read_at : block_header c.args.headers.now ≡ BlockHeader.Redundant c.in-Redundant.block = sym (same_block _ _ c.read_block_header.ensures) ∙ c.in-Redundant.is in
-    let block_at : c.in-Redundant.block.length ≤ length c.args.s.now = let a = c.args in block_in current a.settings a.done (length a.rows.now) a.time a.at a.headers.now a.s.now c.requires.1.asked c.requires.1.area_fits _ (read_at) in
-    omega (arith, block_at, c.requires.1.asked.inside)
+    let block_at : c.in-Redundant.block.length ≤ length c.args.s.now = let a = c.args in block_in current a.settings a.done (length a.rows.now) a.time a.at a.headers.now a.s.now c.requires.asked c.requires.area_fits _ (read_at) in
+    omega (arith, block_at, c.requires.asked.inside)
 
 -- the rows of its block
 here_at : (t : ℕ) (c : In-Rows t) → let a = c.args in let e = c.in-Redundant.block in
@@ -48,7 +48,7 @@ few-at t c =
     let read_at : block_header c.args.headers.now ≡ BlockHeader.Redundant c.in-Redundant.block = sym (same_block _ _ c.read_block_header.ensures) ∙ c.in-Redundant.is in
     let here_at : let a = c.args in let e = c.in-Redundant.block in
     rows_answer (asked_block current redundant_mark a.settings a.done (length a.rows.now) a.time e.payload_type e.offset a.at (take e.length a.s.now)) ≡ PayloadRead.Rows c.in-Rows.here = sym c.put_block-in-Redundant.ensures.0 ∙ c.in-Rows.is in
-    let a = c.args in first_few current a.settings a.done (length a.rows.now) a.time a.at a.headers.now a.s.now c.requires.1.asked c.requires.1.area_fits _ (read_at) _ _ (here_at)
+    let a = c.args in first_few current a.settings a.done (length a.rows.now) a.time a.at a.headers.now a.s.now c.requires.asked c.requires.area_fits _ (read_at) _ _ (here_at)
 
 -- the area that they were written over
 abbrev area_at : (t : ℕ) → At put-blocks-lts.After-put-block2 t → List ℕ
@@ -56,16 +56,16 @@ area_at t c = c.put-block2.new.1.1.1.1.1.1.1.1.0
 
 kept_at : (t : ℕ) (c : After-put_block-in-Redundant t) → length (area_at t §c§) ≡ length c.args.rows.now
 kept_at t c =
-    c.put_block-in-Redundant.auto.1.1.1.1.1.1.1.1.0
+    c.put_block-in-Redundant.auto.rows.1.1.1.1.1.1.1.0
 
 width-at : (t : ℕ) (c : In-Rows t) → row_width * c.in-Rows.here ≤ length (area_at t §c§)
 width-at t c =
     let read_at : block_header c.args.headers.now ≡ BlockHeader.Redundant c.in-Redundant.block = sym (same_block _ _ c.read_block_header.ensures) ∙ c.in-Redundant.is in
     let here_at : let a = c.args in let e = c.in-Redundant.block in
     rows_answer (asked_block current redundant_mark a.settings a.done (length a.rows.now) a.time e.payload_type e.offset a.at (take e.length a.s.now)) ≡ PayloadRead.Rows c.in-Rows.here = sym c.put_block-in-Redundant.ensures.0 ∙ c.in-Rows.is in
-    let few-at : c.args.done + c.in-Rows.here ≤ max_rows current = let a = c.args in first_few current a.settings a.done (length a.rows.now) a.time a.at a.headers.now a.s.now c.requires.1.asked c.requires.1.area_fits _ (read_at) _ _ (here_at) in
-    let kept_at : length (area_at t c) ≡ length c.args.rows.now = c.put_block-in-Redundant.auto.1.1.1.1.1.1.1.1.0 in
-    omega (arith, few-at, c.requires.1.area_fits, kept_at)
+    let few-at : c.args.done + c.in-Rows.here ≤ max_rows current = let a = c.args in first_few current a.settings a.done (length a.rows.now) a.time a.at a.headers.now a.s.now c.requires.asked c.requires.area_fits _ (read_at) _ _ (here_at) in
+    let kept_at : length (area_at t c) ≡ length c.args.rows.now = c.put_block-in-Redundant.auto.rows.1.1.1.1.1.1.1.0 in
+    omega (arith, few-at, c.requires.area_fits, kept_at)
 
 pub slice_bounds-put_block-end : goal.slice_bounds-put_block-end
 slice_bounds-put_block-end t c =
@@ -121,9 +121,9 @@ put_blocks-requires t c =
     let e = c.in-Redundant.block in
     let n = c.in-Rows.here in
     let q : length (take (length a.headers.now - 4) (drop 4 a.headers.now)) < length a.headers.now = rw part_to_end (shorter _ e (read_at t (goal.at.put_blocks-requires t c).In-Redundant)) in (
-      omega (arith, q, c.requires.0),
+      omega (arith, q),
       rw (part_to_end 4 a.headers.now, part_to_end e.length a.s.now, part_length (area_at t c) a.rows.now (row_width * n) (kept_at t (goal.at.put_blocks-requires t c).After-put_block-in-Redundant))
-          (room_rest current a.settings a.done a.time a.at (length a.rows.now) a.headers.now a.s.now c.requires.1 e (read_at t (goal.at.put_blocks-requires t c).In-Redundant) n (here_at t (goal.at.put_blocks-requires t c).In-Rows)),
+          (room_rest current a.settings a.done a.time a.at (length a.rows.now) a.headers.now a.s.now c.requires e (read_at t (goal.at.put_blocks-requires t c).In-Redundant) n (here_at t (goal.at.put_blocks-requires t c).In-Rows)),
     )
 
 pub returns-in-Refused : goal.returns-in-Refused
@@ -132,15 +132,15 @@ returns-in-Refused t c =
 
 pub returns-in-Primary : goal.returns-in-Primary
 returns-in-Primary t c =
-    let a = c.args in c.put_block.ensures.1 ∙ ap (λ (x : Rows). over (rows_words x) a.rows.now) (asked_primary current a.settings a.done (length a.rows.now) a.time a.at a.headers.now a.s.now c.requires.1.asked c.requires.1.area_fits _ (sym (same_block _ _ c.read_block_header.ensures) ∙ c.in-Primary.is))
+    let a = c.args in c.put_block.ensures.1 ∙ ap (λ (x : Rows). over (rows_words x) a.rows.now) (asked_primary current a.settings a.done (length a.rows.now) a.time a.at a.headers.now a.s.now c.requires.asked c.requires.area_fits _ (sym (same_block _ _ c.read_block_header.ensures) ∙ c.in-Primary.is))
 
 pub returns-in-Refused-put_block : goal.returns-in-Refused-put_block
 returns-in-Refused-put_block t c =
-    let a = c.args in absurd (first_taken current a.settings a.done a.time a.at (length a.rows.now) a.headers.now a.s.now c.requires.1 _ (read_at t (goal.at.returns-in-Refused-put_block t c).In-Redundant) _ (sym c.put_block-in-Redundant.ensures.0 ∙ c.in-Refused-put_block.is))
+    let a = c.args in absurd (first_taken current a.settings a.done a.time a.at (length a.rows.now) a.headers.now a.s.now c.requires _ (read_at t (goal.at.returns-in-Refused-put_block t c).In-Redundant) _ (sym c.put_block-in-Redundant.ensures.0 ∙ c.in-Refused-put_block.is))
 
 pub returns-in-Rows : goal.returns-in-Rows
 returns-in-Rows t c =
     let a = c.args in
     let e = c.in-Redundant.block in
-    put_rest current a.settings a.done a.time a.at (length a.rows.now) a.headers.now a.s.now c.requires.1 e (read_at t (goal.at.returns-in-Rows t c).In-Redundant) _ (here_at t (goal.at.returns-in-Rows t c).In-Rows) a.rows.now (area_at t c) _ c.put_block-in-Redundant.ensures.1
+    put_rest current a.settings a.done a.time a.at (length a.rows.now) a.headers.now a.s.now c.requires e (read_at t (goal.at.returns-in-Rows t c).In-Redundant) _ (here_at t (goal.at.returns-in-Rows t c).In-Rows) a.rows.now (area_at t c) _ c.put_block-in-Redundant.ensures.1
     (rw (part_to_end 4 a.headers.now, part_to_end e.length a.s.now) at c.put_blocks.ensures)

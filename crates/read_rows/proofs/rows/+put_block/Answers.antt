@@ -10,29 +10,29 @@ returns-then-count-eq0 t c =
 
 pub put_row-requires : goal.put_row-requires
 put_row-requires t c =
-    let a = c.args in block_row a.count a.channel a.kind a.start a.size (length a.rows.now) c.requires.1 c.if-count-eq0.false
+    let a = c.args in block_row a.count a.channel a.kind a.start a.size (length a.rows.now) c.requires c.if-count-eq0.false
 
 pub slice_bounds-put_block-count : goal.slice_bounds-put_block-count
 slice_bounds-put_block-count t c =
-    let a = c.args in let r = block_row a.count a.channel a.kind a.start a.size (length a.rows.now) c.requires.1 c.if-count-eq0.false in omega (arith, r.area_fits, c.put_row.auto.0)
+    let a = c.args in let r = block_row a.count a.channel a.kind a.start a.size (length a.rows.now) c.requires c.if-count-eq0.false in omega (arith, r.area_fits, c.put_row.auto.rows)
 
 pub slice_bounds-put_block-start : goal.slice_bounds-put_block-start
 slice_bounds-put_block-start t c =
-    let a = c.args in let r = block_row a.count a.channel a.kind a.start a.size (length a.rows.now) c.requires.1 c.if-count-eq0.false in omega (arith, r.area_fits, c.put_row.auto.0)
+    let a = c.args in let r = block_row a.count a.channel a.kind a.start a.size (length a.rows.now) c.requires c.if-count-eq0.false in omega (arith, r.area_fits, c.put_row.auto.rows)
 
 pub overflow_add-channel : goal.overflow_add-channel
 overflow_add-channel t c =
-    let a = c.args in let r = block_row a.count a.channel a.kind a.start a.size (length a.rows.now) c.requires.1 c.if-count-eq0.false in omega (arith, r.channels)
+    let a = c.args in let r = block_row a.count a.channel a.kind a.start a.size (length a.rows.now) c.requires c.if-count-eq0.false in omega (arith, r.channels)
 
 pub overflow_add-start : goal.overflow_add-start
 overflow_add-start t c =
-    let a = c.args in let r = block_row a.count a.channel a.kind a.start a.size (length a.rows.now) c.requires.1 c.if-count-eq0.false in omega (arith, r.frames_fit)
+    let a = c.args in let r = block_row a.count a.channel a.kind a.start a.size (length a.rows.now) c.requires c.if-count-eq0.false in omega (arith, r.frames_fit)
 
 pub put_block-requires : goal.put_block-requires
 put_block-requires t c =
     let a = c.args in
-    let g = block_rest a.count a.channel a.kind a.start a.size (length a.rows.now) c.requires.1 c.if-count-eq0.false in
-    (omega (arith, c.requires.0, c.if-count-eq0.false), rw (part_length c.put_row.new.0 a.rows.now row_width c.put_row.auto.0) g)
+    let g = block_rest a.count a.channel a.kind a.start a.size (length a.rows.now) c.requires c.if-count-eq0.false in
+    (omega (arith, c.if-count-eq0.false), rw (part_length c.put_row.new.rows a.rows.now row_width c.put_row.auto.rows) g)
 
 pub returns : goal.returns
 returns t c =

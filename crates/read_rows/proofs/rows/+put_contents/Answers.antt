@@ -21,20 +21,20 @@ read_at t c =
 few-at : (t : ℕ) (c : In-Entry t) → let a = c.args in a.done + c.in-Entry.entry.blocks * a.channels ≤ max_rows current
 few-at t c =
     let read_at : entry_of c.args.format c.args.s.now ≡ EntryRead.Entry c.in-Entry.entry = sym (same_entry _ _ c.read_entry.ensures ∙ ap (entry_of c.args.format) (part_to_end 0 c.args.s.now)) ∙ c.in-Entry.is in
-    let a = c.args in room_few current a.format a.channels a.done a.start (length a.rows.now) a.s.now _ (read_at) c.requires.1
+    let a = c.args in room_few current a.format a.channels a.done a.start (length a.rows.now) a.s.now _ (read_at) c.requires
 
 room_at : (t : ℕ) (c : In-Entry t) → let a = c.args in let e = c.in-Entry.entry in
     GroupRoom 0 e.blocks a.channels (256 * a.mark + e.class) a.start e.length (length a.rows.now)
 room_at t c =
     let read_at : entry_of c.args.format c.args.s.now ≡ EntryRead.Entry c.in-Entry.entry = sym (same_entry _ _ c.read_entry.ensures ∙ ap (entry_of c.args.format) (part_to_end 0 c.args.s.now)) ∙ c.in-Entry.is in
-    let a = c.args in room_group current a.format a.channels a.done a.start (length a.rows.now) a.s.now _ (read_at) c.requires.1 a.mark (omega (arith, c.ranges.mark)) (λ i. (c.shared_slice_known-1.given i).fits)
+    let a = c.args in room_group current a.format a.channels a.done a.start (length a.rows.now) a.s.now _ (read_at) c.requires a.mark (omega (arith, c.ranges.mark)) (λ i. (c.shared_slice_known-1.given i).fits)
 
 rest_at : (t : ℕ) (c : In-Entry t) → c.in-Entry.entry.more ≡ true → let a = c.args in let e = c.in-Entry.entry in
     TableRoom a.channels (a.start + e.blocks * a.channels * e.length) (length a.rows.now - row_width * (e.blocks * a.channels))
     (sizes_answer a.format a.channels (contents current a.format a.channels (a.done + e.blocks * a.channels) (drop e.size a.s.now)))
 rest_at t c m =
     let read_at : entry_of c.args.format c.args.s.now ≡ EntryRead.Entry c.in-Entry.entry = sym (same_entry _ _ c.read_entry.ensures ∙ ap (entry_of c.args.format) (part_to_end 0 c.args.s.now)) ∙ c.in-Entry.is in
-    let a = c.args in room_rest current a.format a.channels a.done a.start (length a.rows.now) a.s.now _ (read_at) c.requires.1 m
+    let a = c.args in room_rest current a.format a.channels a.done a.start (length a.rows.now) a.s.now _ (read_at) c.requires m
 
 -- the entry's class is one of the paper's
 class-at : (t : ℕ) (c : In-Entry t) → c.in-Entry.entry.class ≤ max_class
@@ -68,11 +68,11 @@ offset_bounds-rows-width t c =
 
 pub slice_bounds-put_contents-count : goal.slice_bounds-put_contents-count
 slice_bounds-put_contents-count t c =
-    let r = room_at t (goal.at.slice_bounds-put_contents-count t c).In-Entry in omega (arith, r.area_fits, c.put_group-next.auto.0)
+    let r = room_at t (goal.at.slice_bounds-put_contents-count t c).In-Entry in omega (arith, r.area_fits, c.put_group-next.auto.rows)
 
 pub slice_bounds-put_contents-start : goal.slice_bounds-put_contents-start
 slice_bounds-put_contents-start t c =
-    let r = room_at t (goal.at.slice_bounds-put_contents-start t c).In-Entry in omega (arith, r.area_fits, c.put_group-next.auto.0)
+    let r = room_at t (goal.at.slice_bounds-put_contents-start t c).In-Entry in omega (arith, r.area_fits, c.put_group-next.auto.rows)
 
 pub slice_bounds-put_contents-count-then-entry : goal.slice_bounds-put_contents-count-then-entry
 slice_bounds-put_contents-count-then-entry t c =
@@ -100,8 +100,8 @@ put_contents-requires t c =
     let e = c.in-Entry.entry in
     let q : length (take (length a.s.now - e.size) (drop e.size a.s.now)) < length a.s.now =
     rw part_to_end (shorter a.format a.s.now e (read_at t (goal.at.put_contents-requires t c).In-Entry)) in (
-      omega (arith, q, c.requires.0),
-      rw (part_length c.put_group-next.new.0 a.rows.now (row_width * (e.blocks * a.channels)) c.put_group-next.auto.0, part_to_end e.size a.s.now) (rest_at t (goal.at.put_contents-requires t c).In-Entry c.if-entry.true),
+      omega (arith, q),
+      rw (part_length c.put_group-next.new.rows a.rows.now (row_width * (e.blocks * a.channels)) c.put_group-next.auto.rows, part_to_end e.size a.s.now) (rest_at t (goal.at.put_contents-requires t c).In-Entry c.if-entry.true),
     )
 
 pub returns-in-Refused : goal.returns-in-Refused

@@ -13,12 +13,12 @@ use Rattle.read_rows.proofs.rows.+put_group.Goals as goal
 here_is : (t : ℕ) (c : After-wrapping_add_u32-here t) → let a = c.args in c.wrapping_add_u32-here.result ≡ placed (step_of a.format) a.time (gap_at a.format a.s.now a.k)
 here_is t c =
     let a = c.args in
-    c.wrapping_add_u32-here.ensures
+    c.wrapping_add_u32-here.ensures.value
     ∙ ap (λ (x : ℕ). (a.time + x) % 2 ^ 32) (ap (λ (g : ℕ). g * c.step_of-step.result) c.gap.ensures.0 ∙ ap (λ (n : ℕ). gap_at a.format a.s.now a.k * n) c.step_of-step.ensures)
 
 next-is : (t : ℕ) (c : After-wrapping_add_u32-next t) → let a = c.args in c.wrapping_add_u32-next.result ≡ (c.wrapping_add_u32-here.result + step_of a.format) % 2 ^ 32
 next-is t c =
-    c.wrapping_add_u32-next.ensures ∙ ap (λ (x : ℕ). (c.wrapping_add_u32-here.result + x) % 2 ^ 32) c.step_of-step.ensures
+    c.wrapping_add_u32-next.ensures.value ∙ ap (λ (x : ℕ). (c.wrapping_add_u32-here.result + x) % 2 ^ 32) c.step_of-step.ensures
 
 pub returns-then-count-eq0 : goal.returns-then-count-eq0
 returns-then-count-eq0 t c =
@@ -31,29 +31,29 @@ overflow_mul-skipped t c =
 
 pub put_block-requires : goal.put_block-requires
 put_block-requires t c =
-    let a = c.args in group_block a.k a.count a.channels a.kind a.start a.size (length a.rows.now) c.requires.1 c.if-count-eq0.false
+    let a = c.args in group_block a.k a.count a.channels a.kind a.start a.size (length a.rows.now) c.requires c.if-count-eq0.false
 
 pub slice_bounds-put_group-count : goal.slice_bounds-put_group-count
 slice_bounds-put_group-count t c =
-    let a = c.args in omega (arith, c.put_block.auto.0, group_area a.k a.count a.channels a.kind a.start a.size (length a.rows.now) c.requires.1 c.if-count-eq0.false)
+    let a = c.args in omega (arith, c.put_block.auto.rows, group_area a.k a.count a.channels a.kind a.start a.size (length a.rows.now) c.requires c.if-count-eq0.false)
 
 pub slice_bounds-put_group-start : goal.slice_bounds-put_group-start
 slice_bounds-put_group-start t c =
-    let a = c.args in omega (arith, c.put_block.auto.0, group_area a.k a.count a.channels a.kind a.start a.size (length a.rows.now) c.requires.1 c.if-count-eq0.false)
+    let a = c.args in omega (arith, c.put_block.auto.rows, group_area a.k a.count a.channels a.kind a.start a.size (length a.rows.now) c.requires c.if-count-eq0.false)
 
 pub overflow_mul-channels : goal.overflow_mul-channels
 overflow_mul-channels t c =
-    let a = c.args in omega (arith, group_frames a.k a.count a.channels a.kind a.start a.size (length a.rows.now) c.requires.1 c.if-count-eq0.false)
+    let a = c.args in omega (arith, group_frames a.k a.count a.channels a.kind a.start a.size (length a.rows.now) c.requires c.if-count-eq0.false)
 
 pub overflow_add-start : goal.overflow_add-start
 overflow_add-start t c =
-    let a = c.args in omega (arith, group_frames a.k a.count a.channels a.kind a.start a.size (length a.rows.now) c.requires.1 c.if-count-eq0.false)
+    let a = c.args in omega (arith, group_frames a.k a.count a.channels a.kind a.start a.size (length a.rows.now) c.requires c.if-count-eq0.false)
 
 pub put_group-requires : goal.put_group-requires
 put_group-requires t c =
     let a = c.args in
-    let g = group_next a.k a.count a.channels a.kind a.start a.size (length a.rows.now) c.requires.1 c.if-count-eq0.false in
-    (omega (arith, c.requires.0, c.if-count-eq0.false), rw (part_length c.put_block.new.0 a.rows.now (row_width * a.channels) c.put_block.auto.0) g)
+    let g = group_next a.k a.count a.channels a.kind a.start a.size (length a.rows.now) c.requires c.if-count-eq0.false in
+    (omega (arith, c.if-count-eq0.false), rw (part_length c.put_block.new.rows a.rows.now (row_width * a.channels) c.put_block.auto.rows) g)
 
 pub returns : goal.returns
 returns t c =

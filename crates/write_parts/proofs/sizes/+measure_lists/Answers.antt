@@ -48,8 +48,8 @@ slice_bounds-measure_redundant-end t c =
 pub measure_lists-requires : goal.measure_lists-requires
 measure_lists-requires t c =
     let a = c.args in (
-      rw (part_to_end 1 a.counts.now, length-drop) (omega (arith, c.requires.0, c.if-counts-lt2.false)),
-      rw (part_to_end 1 a.counts.now, length-drop) (omega (arith, c.requires.1)),
+      rw (part_to_end 1 a.counts.now, length-drop) (omega (arith, c.if-counts-lt2.false)),
+      rw (part_to_end 1 a.counts.now, length-drop) (omega (arith, c.requires)),
     )
 
 pub overflow_add-result : goal.overflow_add-result
@@ -59,7 +59,7 @@ overflow_add-result t c =
     let r = lists_small current a.asked a.time (drop 1 a.counts.now) (drop c.first_words-n.result a.rows.now) in
     let i = ap (λ (n : Numbers). n.count) (size-at t (goal.at.overflow_add-result t c).In-Bytes) in
     let j = ap (λ (n : Numbers). n.count) (rest_at t c) in
-    omega (arith, length-drop 1 a.counts.now, c.requires.1)
+    omega (arith, length-drop 1 a.counts.now, c.requires)
 
 pub returns-in-Refused : goal.returns-in-Refused
 returns-in-Refused t c =

@@ -38,7 +38,7 @@ slice_bounds-primary_time-start-2 t c =
 
 pub primary_time-requires : goal.primary_time-requires
 primary_time-requires t c =
-    (rw (part_to_end 1 c.args.counts.now, length-drop) (omega (arith, c.requires.0, c.if-counts-lt2.false)), c.requires.1)
+    (rw (part_to_end 1 c.args.counts.now, length-drop) (omega (arith, c.if-counts-lt2.false)), c.requires)
 
 pub returns : goal.returns
 returns t c =

@@ -15,7 +15,7 @@ returns-then-counts-eq0 t c =
 
 pub total_of-rest-requires : goal.total_of-rest-requires
 total_of-rest-requires t c =
-    let s = c.args.counts.now in (rw (part_to_end 1 s, length-drop) (omega (arith, c.requires.0, c.if-counts-eq0.false)), rw (part_to_end 1 s, length-drop) (omega (arith, c.requires.1)))
+    let s = c.args.counts.now in (rw (part_to_end 1 s, length-drop) (omega (arith, c.if-counts-eq0.false)), rw (part_to_end 1 s, length-drop) (omega (arith, c.requires)))
 
 pub overflow_cast-result : goal.overflow_cast-result
 overflow_cast-result t c =
@@ -23,7 +23,7 @@ overflow_cast-result t c =
 
 pub overflow_add-result : goal.overflow_add-result
 overflow_add-result t c =
-    let s = c.args.counts.now in let d = length-drop 1 s in let e = ap (λ (l : List ℕ). length l) (part_to_end 1 s) in omega (arith, (c.shared_slice_known-2-1.given 0).fits, c.total_of-rest.ensures.1, c.requires.1)
+    let s = c.args.counts.now in let d = length-drop 1 s in let e = ap (λ (l : List ℕ). length l) (part_to_end 1 s) in omega (arith, (c.shared_slice_known-2-1.given 0).fits, c.total_of-rest.ensures.1, c.requires)
 
 pub returns : goal.returns
 returns t c =

@@ -31,13 +31,13 @@ joins_at t c =
 
 words-at : (t : ℕ) (c : Else-rows-lt-ROW_WIDTH t) → row_width * c.args.channels ≤ length c.args.rows.now
 words-at t c =
-    let a = c.args in let q = c.requires.1 in joined_words a.format a.channels (row_as a.row) a.rows.now q.some q.planned c.if-rows-lt-ROW_WIDTH.false
+    let a = c.args in let q = c.requires in joined_words a.format a.channels (row_as a.row) a.rows.now q.some q.planned c.if-rows-lt-ROW_WIDTH.false
 
 -- what follows, as the list has it, has a plan
 rest_at : (t : ℕ) (c : Else-rows-lt-ROW_WIDTH t) → let a = c.args in let ws = a.rows.now in
     Accepted (plan_from a.format a.channels 0 (row_as (words_at ws 0)) (rows_in (drop (row_width * a.channels) ws)))
 rest_at t c =
-    let a = c.args in let q = c.requires.1 in joined_rest a.format a.channels (row_as a.row) a.rows.now q.some q.planned c.if-rows-lt-ROW_WIDTH.false
+    let a = c.args in let q = c.requires in joined_rest a.format a.channels (row_as a.row) a.rows.now q.some q.planned c.if-rows-lt-ROW_WIDTH.false
 
 blocks_at : (t : ℕ) (c : After-joined_blocks t) → let a = c.args in let ws = a.rows.now in
     c.joined_blocks.result ≡ joined a.format (row_as (words_at ws 0)) (plan_from a.format a.channels 0 (row_as (words_at ws 0)) (rows_in (drop (row_width * a.channels) ws)))
@@ -53,11 +53,11 @@ returns-then-rows-lt-ROW_WIDTH t c =
 
 pub overflow_mul-width : goal.overflow_mul-width
 overflow_mul-width t c =
-    omega (arith, c.requires.1.channels)
+    omega (arith, c.requires.channels)
 
 pub offset_bounds-rows-width : goal.offset_bounds-rows-width
 offset_bounds-rows-width t c =
-    omega (arith, c.requires.1.channels)
+    omega (arith, c.requires.channels)
 
 pub slice_bounds-joined_blocks-count : goal.slice_bounds-joined_blocks-count
 slice_bounds-joined_blocks-count t c =
@@ -70,8 +70,8 @@ slice_bounds-joined_blocks-start t c =
 pub joined_blocks-requires : goal.joined_blocks-requires
 joined_blocks-requires t c =
     let a = c.args in
-    let q = c.requires.1 in (
-      rw (part_to_end (row_width * a.channels) a.rows.now, length-drop) (omega (arith, c.requires.0, q.some, words-at t (goal.at.joined_blocks-requires t c).Else-rows-lt-ROW_WIDTH)),
+    let q = c.requires in (
+      rw (part_to_end (row_width * a.channels) a.rows.now, length-drop) (omega (arith, q.some, words-at t (goal.at.joined_blocks-requires t c).Else-rows-lt-ROW_WIDTH)),
       record {
         some = q.some;
         channels = q.channels;
@@ -82,18 +82,18 @@ joined_blocks-requires t c =
 pub overflow_add-result : goal.overflow_add-result
 overflow_add-result t c =
     let a = c.args in
-    let f = joined_few a.format a.channels (row_as (words_at a.rows.now 0)) (drop (row_width * a.channels) a.rows.now) c.requires.1.some (rest_at t (goal.at.overflow_add-result t c).Else-rows-lt-ROW_WIDTH) in
-    let s : c.joined_blocks.result ≤ row_width * a.channels * c.joined_blocks.result = omega (arith, mul-le-mul_right {m = 1} {n = row_width * a.channels} c.joined_blocks.result (omega (arith, c.requires.1.some))) in
-    omega (arith, s, subst (λ (n : ℕ). row_width * a.channels * n ≤ length (drop (row_width * a.channels) a.rows.now)) (sym (blocks_at t c)) f, length-drop (row_width * a.channels) a.rows.now, c.if-rows-lt-ROW_WIDTH.false, words-at t (goal.at.overflow_add-result t c).Else-rows-lt-ROW_WIDTH, c.requires.1.some)
+    let f = joined_few a.format a.channels (row_as (words_at a.rows.now 0)) (drop (row_width * a.channels) a.rows.now) c.requires.some (rest_at t (goal.at.overflow_add-result t c).Else-rows-lt-ROW_WIDTH) in
+    let s : c.joined_blocks.result ≤ row_width * a.channels * c.joined_blocks.result = omega (arith, mul-le-mul_right {m = 1} {n = row_width * a.channels} c.joined_blocks.result (omega (arith, c.requires.some))) in
+    omega (arith, s, subst (λ (n : ℕ). row_width * a.channels * n ≤ length (drop (row_width * a.channels) a.rows.now)) (sym (blocks_at t c)) f, length-drop (row_width * a.channels) a.rows.now, c.if-rows-lt-ROW_WIDTH.false, words-at t (goal.at.overflow_add-result t c).Else-rows-lt-ROW_WIDTH, c.requires.some)
 
 pub returns-then-joins_run : goal.returns-then-joins_run
 returns-then-joins_run t c =
     let a = c.args in
-    let q = c.requires.1 in
+    let q = c.requires in
     add-one c.joined_blocks.result ∙ ap suc (blocks_at t c) ∙ sym (joined_step a.format a.channels (row_as a.row) a.rows.now q.some q.planned c.if-rows-lt-ROW_WIDTH.false ∙ rw (joins_at t (goal.at.returns-then-joins_run t c).After-joins_run ∙ c.if-joins_run.true))
 
 pub returns : goal.returns
 returns t c =
     let a = c.args in
-    let q = c.requires.1 in
+    let q = c.requires in
     sym (joined_step a.format a.channels (row_as a.row) a.rows.now q.some q.planned c.if-rows-lt-ROW_WIDTH.false ∙ rw (joins_at t (goal.at.returns t c).After-joins_run ∙ c.if-joins_run.false))

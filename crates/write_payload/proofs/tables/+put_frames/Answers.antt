@@ -28,25 +28,25 @@ inside-at : (t : ℕ) (c : After-struct_known-2-1 t) → c.first_row-row.result.
 inside-at t c =
     let start_is : c.first_row-row.result.start ≡ get_or c.args.rows.now 2 0 = ap (λ (w : RowWords). w.start) c.first_row-row.ensures in
     let length_is : c.first_row-row.result.length ≡ get_or c.args.rows.now 3 0 = ap (λ (w : RowWords). w.length) c.first_row-row.ensures in
-    let a = c.args in frame_inside a.bytes.now a.rows.now a.out.now c.if-rows-lt-ROW_WIDTH.false _ _ (start_is) (length_is) (length a.out.now) c.requires.1
+    let a = c.args in frame_inside a.bytes.now a.rows.now a.out.now c.if-rows-lt-ROW_WIDTH.false _ _ (start_is) (length_is) (length a.out.now) c.requires
 
 room_at : (t : ℕ) (c : After-struct_known-2-1 t) → c.first_row-row.result.length ≤ length c.args.out.now
 room_at t c =
     let start_is : c.first_row-row.result.start ≡ get_or c.args.rows.now 2 0 = ap (λ (w : RowWords). w.start) c.first_row-row.ensures in
     let length_is : c.first_row-row.result.length ≡ get_or c.args.rows.now 3 0 = ap (λ (w : RowWords). w.length) c.first_row-row.ensures in
-    let a = c.args in frame_room a.bytes.now a.rows.now a.out.now c.if-rows-lt-ROW_WIDTH.false _ _ (start_is) (length_is) (length a.out.now) c.requires.1
+    let a = c.args in frame_room a.bytes.now a.rows.now a.out.now c.if-rows-lt-ROW_WIDTH.false _ _ (start_is) (length_is) (length a.out.now) c.requires
 
 rest_at : (t : ℕ) (c : After-struct_known-2-1 t) → let a = c.args in FramesRoom (length a.bytes.now) (rows_in (drop row_width a.rows.now)) (length a.out.now - c.first_row-row.result.length)
 rest_at t c =
     let start_is : c.first_row-row.result.start ≡ get_or c.args.rows.now 2 0 = ap (λ (w : RowWords). w.start) c.first_row-row.ensures in
     let length_is : c.first_row-row.result.length ≡ get_or c.args.rows.now 3 0 = ap (λ (w : RowWords). w.length) c.first_row-row.ensures in
-    let a = c.args in rest_room a.bytes.now a.rows.now a.out.now c.if-rows-lt-ROW_WIDTH.false _ _ (start_is) (length_is) (length a.out.now) c.requires.1
+    let a = c.args in rest_room a.bytes.now a.rows.now a.out.now c.if-rows-lt-ROW_WIDTH.false _ _ (start_is) (length_is) (length a.out.now) c.requires
 
 part_at : (t : ℕ) (c : After-struct_known-2-1 t) → let n = c.first_row-row.result.start in length (take (n + c.first_row-row.result.length - n) (drop n c.args.bytes.now)) ≡ c.first_row-row.result.length
 part_at t c =
     let start_is : c.first_row-row.result.start ≡ get_or c.args.rows.now 2 0 = ap (λ (w : RowWords). w.start) c.first_row-row.ensures in
     let length_is : c.first_row-row.result.length ≡ get_or c.args.rows.now 3 0 = ap (λ (w : RowWords). w.length) c.first_row-row.ensures in
-    let a = c.args in frame_part a.bytes.now a.rows.now a.out.now c.if-rows-lt-ROW_WIDTH.false _ _ (start_is) (length_is) (length a.out.now) c.requires.1
+    let a = c.args in frame_part a.bytes.now a.rows.now a.out.now c.if-rows-lt-ROW_WIDTH.false _ _ (start_is) (length_is) (length a.out.now) c.requires
 
 pub returns-then-rows-lt-ROW_WIDTH : goal.returns-then-rows-lt-ROW_WIDTH
 returns-then-rows-lt-ROW_WIDTH t c =
@@ -58,22 +58,22 @@ slice_bounds-put_bytes-end t c =
 
 pub slice_bounds-put_frames-count-2 : goal.slice_bounds-put_frames-count-2
 slice_bounds-put_frames-count-2 t c =
-    omega (arith, room_at t (goal.at.slice_bounds-put_frames-count-2 t c).After-struct_known-2-1, c.put_bytes.auto.0)
+    omega (arith, room_at t (goal.at.slice_bounds-put_frames-count-2 t c).After-struct_known-2-1, c.put_bytes.auto.out)
 
 pub slice_bounds-put_frames-start-2 : goal.slice_bounds-put_frames-start-2
 slice_bounds-put_frames-start-2 t c =
-    omega (arith, room_at t (goal.at.slice_bounds-put_frames-start-2 t c).After-struct_known-2-1, c.put_bytes.auto.0)
+    omega (arith, room_at t (goal.at.slice_bounds-put_frames-start-2 t c).After-struct_known-2-1, c.put_bytes.auto.out)
 
 pub put_frames-requires : goal.put_frames-requires
 put_frames-requires t c =
     let a = c.args in (
-      rw (part_to_end row_width a.rows.now, length-drop) (omega (arith, c.requires.0, c.if-rows-lt-ROW_WIDTH.false)),
-      rw (part_length c.put_bytes.new.0 a.out.now c.first_row-row.result.length c.put_bytes.auto.0, part_to_end row_width a.rows.now) (rest_at t (goal.at.put_frames-requires t c).After-struct_known-2-1),
+      rw (part_to_end row_width a.rows.now, length-drop) (omega (arith, c.if-rows-lt-ROW_WIDTH.false)),
+      rw (part_length c.put_bytes.new.out a.out.now c.first_row-row.result.length c.put_bytes.auto.out, part_to_end row_width a.rows.now) (rest_at t (goal.at.put_frames-requires t c).After-struct_known-2-1),
     )
 
 pub returns : goal.returns
 returns t c =
     let a = c.args in
-    put_frame a.bytes.now a.rows.now a.out.now c.if-rows-lt-ROW_WIDTH.false _ _ (start_is t (goal.at.returns t c).After-struct_known-2-1) (length_is t (goal.at.returns t c).After-struct_known-2-1) (length a.out.now) c.requires.1 c.put_bytes.new.0 _
+    put_frame a.bytes.now a.rows.now a.out.now c.if-rows-lt-ROW_WIDTH.false _ _ (start_is t (goal.at.returns t c).After-struct_known-2-1) (length_is t (goal.at.returns t c).After-struct_known-2-1) (length a.out.now) c.requires c.put_bytes.new.out _
     (c.put_bytes.ensures ∙ fitted_in _ _ (rw (part_at t (goal.at.returns t c).After-struct_known-2-1) (room_at t (goal.at.returns t c).After-struct_known-2-1)))
-    (c.put_frames.ensures ∙ ap (λ (l : List ℕ). over (frames a.bytes.now (rows_in l)) (take (length c.put_bytes.new.0 - c.first_row-row.result.length) (drop c.first_row-row.result.length c.put_bytes.new.0))) (part_to_end row_width a.rows.now))
+    (c.put_frames.ensures ∙ ap (λ (l : List ℕ). over (frames a.bytes.now (rows_in l)) (take (length c.put_bytes.new.out - c.first_row-row.result.length) (drop c.first_row-row.result.length c.put_bytes.new.out))) (part_to_end row_width a.rows.now))

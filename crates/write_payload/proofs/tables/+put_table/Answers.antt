@@ -22,7 +22,7 @@ use Rattle.write_payload.proofs.tables.+put_table.Goals as goal
 
 words-at : (t : ℕ) (c : Else-rows-lt-ROW_WIDTH t) → row_width * c.args.channels ≤ length c.args.rows.now
 words-at t c =
-    let a = c.args in first_words_lem current a.format a.channels a.previous a.rows.now (length a.out.now) c.requires.1 c.if-rows-lt-ROW_WIDTH.false
+    let a = c.args in first_words_lem current a.format a.channels a.previous a.rows.now (length a.out.now) c.requires c.if-rows-lt-ROW_WIDTH.false
 
 -- the frame-blocks of the first run, as the list has them
 blocks_at : (t : ℕ) (c : After-joined_blocks-run t) → let a = c.args in let ws = a.rows.now in
@@ -44,7 +44,7 @@ entered_at t c =
     ∙ ap (λ (w : RowWords). joined a.format (row_as w) (plan_from a.format a.channels 0 (row_as w) (rows_in (drop (row_width * a.channels) a.rows.now)))) c.first_row-first.ensures) in
     let a = c.args in
     subst (λ (n : ℕ). Entered current a.format a.channels a.previous a.rows.now (length a.out.now) n) (sym c.first_blocks-blocks.ensures)
-    (entered current a.format a.channels a.previous a.rows.now (length a.out.now) c.requires.1 c.if-rows-lt-ROW_WIDTH.false (c.joined_blocks-run.result + 1) (blocks_at))
+    (entered current a.format a.channels a.previous a.rows.now (length a.out.now) c.requires c.if-rows-lt-ROW_WIDTH.false (c.joined_blocks-run.result + 1) (blocks_at))
 
 -- where its frame-blocks end
 end-at : (t : ℕ) (c : After-first_blocks-blocks t) → let a = c.args in let w = row_width * a.channels in
@@ -58,7 +58,7 @@ end-at t c =
     let entered_at : let a = c.args in
     Entered current a.format a.channels a.previous a.rows.now (length a.out.now) c.first_blocks-blocks.result = let a = c.args in
     subst (λ (n : ℕ). Entered current a.format a.channels a.previous a.rows.now (length a.out.now) n) (sym c.first_blocks-blocks.ensures)
-    (entered current a.format a.channels a.previous a.rows.now (length a.out.now) c.requires.1 c.if-rows-lt-ROW_WIDTH.false (c.joined_blocks-run.result + 1) (blocks_at)) in
+    (entered current a.format a.channels a.previous a.rows.now (length a.out.now) c.requires c.if-rows-lt-ROW_WIDTH.false (c.joined_blocks-run.result + 1) (blocks_at)) in
     let a = c.args in
     (omega (arith, mul-le-mul_left (row_width * a.channels) (entered_at).some), (entered_at).entry.words)
 
@@ -68,11 +68,11 @@ returns-then-rows-lt-ROW_WIDTH t c =
 
 pub overflow_mul-width : goal.overflow_mul-width
 overflow_mul-width t c =
-    omega (arith, c.requires.1.channels)
+    omega (arith, c.requires.channels)
 
 pub offset_bounds-rows-width : goal.offset_bounds-rows-width
 offset_bounds-rows-width t c =
-    omega (arith, c.requires.1.channels)
+    omega (arith, c.requires.channels)
 
 pub slice_bounds-joined_blocks-count : goal.slice_bounds-joined_blocks-count
 slice_bounds-joined_blocks-count t c =
@@ -86,12 +86,12 @@ pub joined_blocks-run-requires : goal.joined_blocks-run-requires
 joined_blocks-run-requires t c =
     let a = c.args in
     rw (part_to_end (row_width * a.channels) a.rows.now) (subst (λ (w : RowWords). RunRoom a.format a.channels (row_as w) (drop (row_width * a.channels) a.rows.now)) (sym c.first_row-first.ensures)
-    (first_run current a.format a.channels a.previous a.rows.now (length a.out.now) c.requires.1 c.if-rows-lt-ROW_WIDTH.false))
+    (first_run current a.format a.channels a.previous a.rows.now (length a.out.now) c.requires c.if-rows-lt-ROW_WIDTH.false))
 
 pub overflow_add-run : goal.overflow_add-run
 overflow_add-run t c =
     let a = c.args in
-    omega (arith, few_blocks current a.format a.channels a.previous a.rows.now (length a.out.now) c.requires.1 c.if-rows-lt-ROW_WIDTH.false (c.joined_blocks-run.result + 1) (blocks_at t c))
+    omega (arith, few_blocks current a.format a.channels a.previous a.rows.now (length a.out.now) c.requires c.if-rows-lt-ROW_WIDTH.false (c.joined_blocks-run.result + 1) (blocks_at t c))
 
 pub overflow_mul-end : goal.overflow_mul-end
 overflow_mul-end t c =
@@ -115,7 +115,7 @@ offset_bounds-rows-end t c =
 
 pub bounds-rows-end : goal.bounds-rows-end
 bounds-rows-end t c =
-    omega (arith, end-at t (goal.at.bounds-rows-end t c).After-first_blocks-blocks, c.requires.1.some)
+    omega (arith, end-at t (goal.at.bounds-rows-end t c).After-first_blocks-blocks, c.requires.some)
 
 pub offset_bounds-rows-end-2 : goal.offset_bounds-rows-end-2
 offset_bounds-rows-end-2 t c =
@@ -131,25 +131,25 @@ slice_bounds-put_table-start t c =
 
 pub slice_bounds-put_table-count-2 : goal.slice_bounds-put_table-count-2
 slice_bounds-put_table-count-2 t c =
-    omega (arith, (entered_at t (goal.at.slice_bounds-put_table-count-2 t c).After-first_blocks-blocks).entry.room, c.put_entry.auto.1.1.1.1.1.1.0, c.entry_size-size.ensures)
+    omega (arith, (entered_at t (goal.at.slice_bounds-put_table-count-2 t c).After-first_blocks-blocks).entry.room, c.put_entry.auto.out.1.1.1.1.1.0, c.entry_size-size.ensures)
 
 pub slice_bounds-put_table-start-2 : goal.slice_bounds-put_table-start-2
 slice_bounds-put_table-start-2 t c =
-    omega (arith, (entered_at t (goal.at.slice_bounds-put_table-start-2 t c).After-first_blocks-blocks).entry.room, c.put_entry.auto.1.1.1.1.1.1.0, c.entry_size-size.ensures)
+    omega (arith, (entered_at t (goal.at.slice_bounds-put_table-start-2 t c).After-first_blocks-blocks).entry.room, c.put_entry.auto.out.1.1.1.1.1.0, c.entry_size-size.ensures)
 
 pub put_table-requires : goal.put_table-requires
 put_table-requires t c =
     let a = c.args in
     let n = c.first_blocks-blocks.result in (
-      rw (part_to_end (row_width * a.channels * n) a.rows.now, length-drop) (omega (arith, c.requires.0, c.requires.1.some, end-at t (goal.at.put_table-requires t c).After-first_blocks-blocks)),
-      rw (part_length c.put_entry.new.1.1.1.1.1.1.0 a.out.now c.entry_size-size.result c.put_entry.auto.1.1.1.1.1.1.0, part_to_end (row_width * a.channels * n) a.rows.now, c.entry_size-size.ensures) (entered_at t (goal.at.put_table-requires t c).After-first_blocks-blocks).rest,
+      rw (part_to_end (row_width * a.channels * n) a.rows.now, length-drop) (omega (arith, c.requires.some, end-at t (goal.at.put_table-requires t c).After-first_blocks-blocks)),
+      rw (part_length c.put_entry.new.out.1.1.1.1.1.0 a.out.now c.entry_size-size.result c.put_entry.auto.out.1.1.1.1.1.0, part_to_end (row_width * a.channels * n) a.rows.now, c.entry_size-size.ensures) (entered_at t (goal.at.put_table-requires t c).After-first_blocks-blocks).rest,
     )
 
 pub returns : goal.returns
 returns t c =
     let a = c.args in
     let n = c.first_blocks-blocks.result in
-    let m = c.put_entry.new.1.1.1.1.1.1.0 in
+    let m = c.put_entry.new.out.1.1.1.1.1.0 in
     let s = c.entry_size-size.result in
-    put_run current a.format a.channels a.previous a.rows.now a.out.now n (length a.out.now) (entered_at t (goal.at.returns t c).After-first_blocks-blocks) c.requires.1.some m c.put_entry.ensures s c.entry_size-size.ensures _
+    put_run current a.format a.channels a.previous a.rows.now a.out.now n (length a.out.now) (entered_at t (goal.at.returns t c).After-first_blocks-blocks) c.requires.some m c.put_entry.ensures s c.entry_size-size.ensures _
     (c.put_table.ensures ∙ ap (λ (l : List ℕ). over (plan_bytes a.format (in_entries (plan_from a.format a.channels 0 (timed (get_or a.rows.now (row_width * a.channels * n - row_width * a.channels) 0)) (rows_in l)))) (take (length m - s) (drop s m))) (part_to_end (row_width * a.channels * n) a.rows.now))

@@ -45,7 +45,7 @@ small_at t c =
     let a = c.args in
     let ws = drop row_width a.rows.now in
     subst (λ (x : Planned). Small a.format a.channels (max_rows current) x) (sym (rest_at))
-    (small_weaker a.format a.channels (length (rows_in ws)) (max_rows current) (plan_answer a.format a.channels (plan_from a.format a.channels (next_channel a.channels a.c) (row_as (words_at a.rows.now 0)) (rows_in ws))) (omega (arith, length_rows ws, length-drop row_width a.rows.now, c.requires.1.2)) (small_plan a.format a.channels (next_channel a.channels a.c) (row_as (words_at a.rows.now 0)) (rows_in ws)))
+    (small_weaker a.format a.channels (length (rows_in ws)) (max_rows current) (plan_answer a.format a.channels (plan_from a.format a.channels (next_channel a.channels a.c) (row_as (words_at a.rows.now 0)) (rows_in ws))) (omega (arith, length_rows ws, length-drop row_width a.rows.now, c.requires.2)) (small_plan a.format a.channels (next_channel a.channels a.c) (row_as (words_at a.rows.now 0)) (rows_in ws)))
 
 pub returns-then-c-eq0 : goal.returns-then-c-eq0
 returns-then-c-eq0 t c =
@@ -59,13 +59,13 @@ pub plan_from-rest-requires : goal.plan_from-rest-requires
 plan_from-rest-requires t c =
     let a = c.args in
     let q = part_to_end row_width a.rows.now in
-    (rw (q, length-drop) (omega (arith, c.requires.0, c.if-rows-lt-ROW_WIDTH.false)), (c.requires.1.0, subst (λ (n : ℕ). n < a.channels) (sym c.next_channel.ensures) (next_below a.channels a.c c.requires.1.1), rw (q, length-drop) (omega (arith, c.requires.1.2))))
+    (rw (q, length-drop) (omega (arith, c.if-rows-lt-ROW_WIDTH.false)), (c.requires.0, subst (λ (n : ℕ). n < a.channels) (sym c.next_channel.ensures) (next_below a.channels a.c c.requires.1), rw (q, length-drop) (omega (arith, c.requires.2))))
 
 pub attach_block-requires : goal.attach_block-requires
 attach_block-requires t c =
     let a = c.args in
     record {
-      channels = c.requires.1.0;
+      channels = c.requires.0;
       short = subst (λ (w : RowWords). (row_as w).length ≤ 320) (sym c.first_row-row.ensures) (follows_short a.format a.c (row_as a.previous) (row_as (words_at a.rows.now 0)) c.if-c-eq0-2.true (row_is t (goal.at.attach_block-requires t c).After-follows_row ∙ c.if-follows_row.true));
       small = small_at t (goal.at.attach_block-requires t c).After-plan_from-rest;
     }
