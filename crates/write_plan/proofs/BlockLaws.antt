@@ -155,7 +155,7 @@ attached_some format r gap (h ∷ hs) e =
 
 -- a plan of a list that has a row has a group
 pub some_group : (format ch : ℕ) (p : Row) (ws : List ℕ) → 0 < ch → row_width ≤ length ws → plan_from format ch 0 p (rows_in ws) ≡ groups [] → ⊥
-some_group format ch p ws l h e = let b = block_step format ch p ws [] l h e in attached_some format _ _ b.rest b.attached
+some_group format ch p ws l h e = let b = block_step format ch p ws [] l h e in attached_some format (row_as (words_at ws 0)) (gap_between (step_of format) p.time (get_or ws 0 0)) b.rest b.attached
 
 pub never_empty : (format ch : ℕ) (p : Row) (ws : List ℕ) → 0 < ch → row_width ≤ length ws → plan_answer format ch (plan_from format ch 0 p (rows_in ws)) ≡ Planned.Empty → ⊥
 never_empty format ch p ws l h e = by_plan (plan_from format ch 0 p (rows_in ws)) refl e

@@ -11,30 +11,23 @@ use Prim.Native.Nat.{ℕ, ◌<◌}
 use Rattle.write_parts.proofs.sizes.+measure_lists.Goals.{After-first_words-n, After-measure_lists, In-Bytes, In-Bytes-measure_lists}
 use Rattle.write_parts.proofs.sizes.+measure_lists.Goals as goal
 
--- the first list and the others
-abbrev first : (t : ℕ) → At measure-lists-lts.After-first-words t → Numbers
-first t c = let a = c.before.before.before.before.args in redundant_numbers current a.asked a.time (take c.first_words_lem.result a.rows.now)
-
-abbrev others : (t : ℕ) → At measure-lists-lts.After-first-words t → Numbers
-others t c = let a = c.before.before.before.before.args in lists_numbers current a.asked a.time (drop 1 a.counts.now) (drop c.first_words_lem.result a.rows.now)
-
-more-at : (t : ℕ) (c : After-first_words-n t) → let a = c.args in lists_numbers current a.asked a.time a.counts.now a.rows.now ≡ add_numbers (first t §c§) (others t §c§)
+more-at : (t : ℕ) (c : After-first_words-n t) → let a = c.args in lists_numbers current a.asked a.time a.counts.now a.rows.now ≡ add_numbers ((let a = c.args in redundant_numbers current a.asked a.time (take c.first_words-n.result a.rows.now))) ((let a = c.args in lists_numbers current a.asked a.time (drop 1 a.counts.now) (drop c.first_words-n.result a.rows.now)))
 more-at t c =
     let a = c.args in
     subst (λ (n : ℕ). lists_numbers current a.asked a.time a.counts.now a.rows.now ≡ add_numbers (redundant_numbers current a.asked a.time (take n a.rows.now)) (lists_numbers current a.asked a.time (drop 1 a.counts.now) (drop n a.rows.now)))
     (sym c.first_words-n.ensures.0) (lists_rest current a.asked a.time a.counts.now a.rows.now c.if-counts-lt2.false)
 
-size-at : (t : ℕ) (c : In-Bytes t) → first t §c§ ≡ record { refusal = 0; count = c.in-Bytes.size }
+size-at : (t : ℕ) (c : In-Bytes t) → (let a = c.args in redundant_numbers current a.asked a.time (take c.first_words-n.result a.rows.now)) ≡ record { refusal = 0; count = c.in-Bytes.size }
 size-at t c =
     told_bytes _ _ _ c.in-Bytes.is c.measure_redundant.ensures
 
-told_at : (t : ℕ) (c : After-measure_lists t) → written_numbers c.measure_lists.result ≡ others t §c§
+told_at : (t : ℕ) (c : After-measure_lists t) → written_numbers c.measure_lists.result ≡ (let a = c.args in lists_numbers current a.asked a.time (drop 1 a.counts.now) (drop c.first_words-n.result a.rows.now))
 told_at t c =
     let a = c.args in c.measure_lists.ensures ∙ rw (part_to_end 1 a.counts.now, part_to_end c.first_words-n.result a.rows.now)
 
-rest_at : (t : ℕ) (c : In-Bytes-measure_lists t) → others t §c§ ≡ record { refusal = 0; count = c.in-Bytes-measure_lists.rest }
+rest_at : (t : ℕ) (c : In-Bytes-measure_lists t) → (let a = c.args in lists_numbers current a.asked a.time (drop 1 a.counts.now) (drop c.first_words-n.result a.rows.now)) ≡ record { refusal = 0; count = c.in-Bytes-measure_lists.rest }
 rest_at t c =
-    let told_at : written_numbers c.measure_lists.result ≡ others t c = let a = c.args in c.measure_lists.ensures ∙ rw (part_to_end 1 a.counts.now, part_to_end c.first_words-n.result a.rows.now) in
+    let told_at : written_numbers c.measure_lists.result ≡ (let a = c.args in lists_numbers current a.asked a.time (drop 1 a.counts.now) (drop c.first_words-n.result a.rows.now)) = let a = c.args in c.measure_lists.ensures ∙ rw (part_to_end 1 a.counts.now, part_to_end c.first_words-n.result a.rows.now) in
     told_bytes _ _ _ c.in-Bytes-measure_lists.is (told_at)
 
 pub returns-then-counts-lt2 : goal.returns-then-counts-lt2
@@ -63,12 +56,12 @@ overflow_add-result t c =
 
 pub returns-in-Refused : goal.returns-in-Refused
 returns-in-Refused t c =
-    add_none (first t c) (others t c) (told_none _ _ _ c.in-Refused.is c.measure_redundant.ensures) ∙ sym (more-at t (goal.at.returns-in-Refused t c).After-first_words-n)
+    add_none ((let a = c.args in redundant_numbers current a.asked a.time (take c.first_words-n.result a.rows.now))) ((let a = c.args in lists_numbers current a.asked a.time (drop 1 a.counts.now) (drop c.first_words-n.result a.rows.now))) (told_none _ _ _ c.in-Refused.is c.measure_redundant.ensures) ∙ sym (more-at t (goal.at.returns-in-Refused t c).After-first_words-n)
 
 pub returns-in-Refused-measure_lists : goal.returns-in-Refused-measure_lists
 returns-in-Refused-measure_lists t c =
-    add_rest (first t c) (others t c) (told_none _ _ _ c.in-Refused-measure_lists.is (told_at t (goal.at.returns-in-Refused-measure_lists t c).After-measure_lists)) ∙ sym (more-at t (goal.at.returns-in-Refused-measure_lists t c).After-first_words-n)
+    add_rest ((let a = c.args in redundant_numbers current a.asked a.time (take c.first_words-n.result a.rows.now))) ((let a = c.args in lists_numbers current a.asked a.time (drop 1 a.counts.now) (drop c.first_words-n.result a.rows.now))) (told_none _ _ _ c.in-Refused-measure_lists.is (told_at t (goal.at.returns-in-Refused-measure_lists t c).After-measure_lists)) ∙ sym (more-at t (goal.at.returns-in-Refused-measure_lists t c).After-first_words-n)
 
 pub returns-in-Bytes-measure_lists : goal.returns-in-Bytes-measure_lists
 returns-in-Bytes-measure_lists t c =
-    add_both (first t c) (others t c) _ _ (size-at t (goal.at.returns-in-Bytes-measure_lists t c).In-Bytes) (rest_at t c) ∙ sym (more-at t (goal.at.returns-in-Bytes-measure_lists t c).After-first_words-n)
+    add_both ((let a = c.args in redundant_numbers current a.asked a.time (take c.first_words-n.result a.rows.now))) ((let a = c.args in lists_numbers current a.asked a.time (drop 1 a.counts.now) (drop c.first_words-n.result a.rows.now))) _ _ (size-at t (goal.at.returns-in-Bytes-measure_lists t c).In-Bytes) (rest_at t c) ∙ sym (more-at t (goal.at.returns-in-Bytes-measure_lists t c).After-first_words-n)

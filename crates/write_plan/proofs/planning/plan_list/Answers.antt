@@ -33,12 +33,18 @@ made_at c =
     ∙ ap (λ (w : RowWords). plan_answer a.format a.channels (plan_from a.format a.channels 0 (step_before a.format (row_as w)) (rows_in a.rows.now))) c.first_row-first.ensures
 
 -- its numbers are small
-small_at : (c : tie.After-plan-from) (p : Plan) → c.plan-from.result ≡ Planned.Table p
+small_at : (c : After-plan_from) → (p : Plan) → c.plan_from.result ≡ Planned.Table p
     → p.run + p.others + p.frames ≤ max_rows current * 90000
 small_at c p e =
-    let a = c.before.before.before.before.before.before.before.before.args in
-    let s = small_weaker a.format a.channels (length (rows_in a.rows.now)) (max_rows current) (Planned.Table p) (omega (arith, length_rows a.rows.now, c.before.before.before.before.if3.false))
-    (subst (λ (x : Planned). Small a.format a.channels (length (rows_in a.rows.now)) x) (sym (made_at c) ∙ e) (small_plan a.format a.channels 0 (step_before a.format (row_as (words_at a.rows.now 0))) (rows_in a.rows.now))) in
+    let made_at : let a = c.args in
+    c.plan_from.result ≡ plan_answer a.format a.channels (plan_from a.format a.channels 0 (step_before a.format (row_as (words_at a.rows.now 0))) (rows_in a.rows.now)) = let a = c.args in
+    c.plan_from.ensures
+    ∙ ap (λ (t : ℕ). plan_answer a.format a.channels (plan_from a.format a.channels 0 (row_as (record { time = t; tag = c.first_row-first.result.tag; start = c.first_row-first.result.start; length = c.first_row-first.result.length })) (rows_in a.rows.now)))
+    (c.difference.ensures ∙ ap (difference c.first_row-first.result.time) c.step_of.ensures)
+    ∙ ap (λ (w : RowWords). plan_answer a.format a.channels (plan_from a.format a.channels 0 (step_before a.format (row_as w)) (rows_in a.rows.now))) c.first_row-first.ensures in
+    let a = c.args in
+    let s = small_weaker a.format a.channels (length (rows_in a.rows.now)) (max_rows current) (Planned.Table p) (omega (arith, length_rows a.rows.now, c.if-rows-gt-MAX_ROWS.false))
+    (subst (λ (x : Planned). Small a.format a.channels (length (rows_in a.rows.now)) x) (sym (made_at) ∙ e) (small_plan a.format a.channels 0 (step_before a.format (row_as (words_at a.rows.now 0))) (rows_in a.rows.now))) in
     omega (arith, s.tabled, plan_frames a.format a.channels p s (omega arith))
 
 answer_at : (c : After-plan_from) → let a = c.args in list_answer a.format a.channels (plan current a.format a.channels (rows_in a.rows.now)) ≡ fitting_plan a.format c.plan_from.result
@@ -65,11 +71,11 @@ returns-then-rows-gt-MAX_ROWS c =
 
 pub overflow_add-table : goal.overflow_add-table
 overflow_add-table c =
-    omega (arith, small_at c c.in-Table.plan c.in-Table.is)
+    omega (arith, small_at (goal.at.overflow_add-table c).After-plan_from c.in-Table.plan c.in-Table.is)
 
 pub payload_size-payload-requires : goal.payload_size-payload-requires
 payload_size-payload-requires c =
-    omega (arith, small_at c c.in-Table.plan c.in-Table.is)
+    omega (arith, small_at (goal.at.payload_size-payload-requires c).After-plan_from c.in-Table.plan c.in-Table.is)
 
 pub returns-then-payload-gt-MAX_PAYLOAD : goal.returns-then-payload-gt-MAX_PAYLOAD
 returns-then-payload-gt-MAX_PAYLOAD c =
