@@ -50,17 +50,17 @@ few-at t c =
     rows_answer (asked_block current redundant_mark a.settings a.done (length a.rows.now) a.time e.payload_type e.offset a.at (take e.length a.s.now)) ≡ PayloadRead.Rows c.in-Rows.here = sym c.put_block-in-Redundant.ensures.0 ∙ c.in-Rows.is in
     let a = c.args in first_few current a.settings a.done (length a.rows.now) a.time a.at a.headers.now a.s.now c.requires.asked c.requires.area_fits _ (read_at) _ _ (here_at)
 
-kept_at : (t : ℕ) (c : After-put_block-in-Redundant t) → length ((c.put_block-in-Redundant.new.rows.1.1.1.1.1.1.1.0)) ≡ length c.args.rows.now
+kept_at : (t : ℕ) (c : After-put_block-in-Redundant t) → length ((c.put_block-in-Redundant.new.rows)) ≡ length c.args.rows.now
 kept_at t c =
-    c.put_block-in-Redundant.auto.rows.1.1.1.1.1.1.1.0
+    c.put_block-in-Redundant.auto.rows
 
-width-at : (t : ℕ) (c : In-Rows t) → row_width * c.in-Rows.here ≤ length ((c.put_block-in-Redundant.new.rows.1.1.1.1.1.1.1.0))
+width-at : (t : ℕ) (c : In-Rows t) → row_width * c.in-Rows.here ≤ length ((c.put_block-in-Redundant.new.rows))
 width-at t c =
     let read_at : block_header c.args.headers.now ≡ BlockHeader.Redundant c.in-Redundant.block = sym (same_block _ _ c.read_block_header.ensures) ∙ c.in-Redundant.is in
     let here_at : let a = c.args in let e = c.in-Redundant.block in
     rows_answer (asked_block current redundant_mark a.settings a.done (length a.rows.now) a.time e.payload_type e.offset a.at (take e.length a.s.now)) ≡ PayloadRead.Rows c.in-Rows.here = sym c.put_block-in-Redundant.ensures.0 ∙ c.in-Rows.is in
     let few-at : c.args.done + c.in-Rows.here ≤ max_rows current = let a = c.args in first_few current a.settings a.done (length a.rows.now) a.time a.at a.headers.now a.s.now c.requires.asked c.requires.area_fits _ (read_at) _ _ (here_at) in
-    let kept_at : length ((c.put_block-in-Redundant.new.rows.1.1.1.1.1.1.1.0)) ≡ length c.args.rows.now = c.put_block-in-Redundant.auto.rows.1.1.1.1.1.1.1.0 in
+    let kept_at : length ((c.put_block-in-Redundant.new.rows)) ≡ length c.args.rows.now = c.put_block-in-Redundant.auto.rows in
     omega (arith, few-at, c.requires.area_fits, kept_at)
 
 pub slice_bounds-put_block-end : goal.slice_bounds-put_block-end
@@ -117,8 +117,8 @@ put_blocks-requires t c =
     let e = c.in-Redundant.block in
     let n = c.in-Rows.here in
     let q : length (take (length a.headers.now - 4) (drop 4 a.headers.now)) < length a.headers.now = rw part_to_end (shorter _ e (read_at t (goal.at.put_blocks-requires t c).In-Redundant)) in (
-      omega (arith, q, c.requires.0),
-      rw (part_to_end 4 a.headers.now, part_to_end e.length a.s.now, part_length ((c.put_block-in-Redundant.new.rows.1.1.1.1.1.1.1.0)) a.rows.now (row_width * n) (kept_at t (goal.at.put_blocks-requires t c).After-put_block-in-Redundant))
+      omega (arith, q),
+      rw (part_to_end 4 a.headers.now, part_to_end e.length a.s.now, part_length ((c.put_block-in-Redundant.new.rows)) a.rows.now (row_width * n) (kept_at t (goal.at.put_blocks-requires t c).After-put_block-in-Redundant))
           (room_rest current a.settings a.done a.time a.at (length a.rows.now) a.headers.now a.s.now c.requires e (read_at t (goal.at.put_blocks-requires t c).In-Redundant) n (here_at t (goal.at.put_blocks-requires t c).In-Rows)),
     )
 
@@ -138,5 +138,5 @@ pub returns-in-Rows : goal.returns-in-Rows
 returns-in-Rows t c =
     let a = c.args in
     let e = c.in-Redundant.block in
-    put_rest current a.settings a.done a.time a.at (length a.rows.now) a.headers.now a.s.now c.requires e (read_at t (goal.at.returns-in-Rows t c).In-Redundant) _ (here_at t (goal.at.returns-in-Rows t c).In-Rows) a.rows.now ((c.put_block-in-Redundant.new.rows.1.1.1.1.1.1.1.0)) _ c.put_block-in-Redundant.ensures.1
+    put_rest current a.settings a.done a.time a.at (length a.rows.now) a.headers.now a.s.now c.requires e (read_at t (goal.at.returns-in-Rows t c).In-Redundant) _ (here_at t (goal.at.returns-in-Rows t c).In-Rows) a.rows.now ((c.put_block-in-Redundant.new.rows)) _ c.put_block-in-Redundant.ensures.1
     (rw (part_to_end 4 a.headers.now, part_to_end e.length a.s.now) at c.put_blocks.ensures)

@@ -35,4 +35,4 @@ returns c =
     let a = c.args in
     let room = c.if-out-lt4.false in
     over_four a.out.now _ _ _ _ room
-    ∙ sym (block_in a.payload-type a.offset a.size a.out.now (omega (arith, c.if-payload_type-gt127.false)) c.if-offset-gt-MAX_OFFSET.false c.if-size-gt-MAX_BLOCK.false room)
+    ∙ sym (block_in a.payload_type a.offset a.size a.out.now (omega (arith, c.if-payload_type-gt127.false)) c.if-offset-gt-MAX_OFFSET.false c.if-size-gt-MAX_BLOCK.false room)

@@ -50,4 +50,4 @@ returns c =
     over_part (128 ∷ c.second_byte.result ∷ []) (two a.sequence ++ (four a.time ++ four a.source)) a.out.now ((set (set c.args.out.now 0 128) 1 c.second_byte.result)) _ 2 refl
     (over_two a.out.now 128 c.second_byte.result (omega (arith, long))) c.put_fields.ensures
     ∙ ap (λ (n : ℕ). over (128 ∷ n ∷ (two a.sequence ++ (four a.time ++ four a.source))) a.out.now) c.second_byte.ensures
-    ∙ sym (header_in (record { marker = a.marker; sequence = a.sequence; source = a.source }) a.packet-type a.time a.out.now (omega (arith, c.if-packet_type-gt127.false)) long)
+    ∙ sym (header_in (record { marker = a.marker; sequence = a.sequence; source = a.source }) a.packet_type a.time a.out.now (omega (arith, c.if-packet_type-gt127.false)) long)

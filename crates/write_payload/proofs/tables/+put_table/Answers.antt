@@ -131,25 +131,25 @@ slice_bounds-put_table-start t c =
 
 pub slice_bounds-put_table-count-2 : goal.slice_bounds-put_table-count-2
 slice_bounds-put_table-count-2 t c =
-    omega (arith, (entered_at t (goal.at.slice_bounds-put_table-count-2 t c).After-first_blocks-blocks).entry.room, c.put_entry.auto.out.1.1.1.1.1.0, c.entry_size-size.ensures)
+    omega (arith, (entered_at t (goal.at.slice_bounds-put_table-count-2 t c).After-first_blocks-blocks).entry.room, c.put_entry.auto.out, c.entry_size-size.ensures)
 
 pub slice_bounds-put_table-start-2 : goal.slice_bounds-put_table-start-2
 slice_bounds-put_table-start-2 t c =
-    omega (arith, (entered_at t (goal.at.slice_bounds-put_table-start-2 t c).After-first_blocks-blocks).entry.room, c.put_entry.auto.out.1.1.1.1.1.0, c.entry_size-size.ensures)
+    omega (arith, (entered_at t (goal.at.slice_bounds-put_table-start-2 t c).After-first_blocks-blocks).entry.room, c.put_entry.auto.out, c.entry_size-size.ensures)
 
 pub put_table-requires : goal.put_table-requires
 put_table-requires t c =
     let a = c.args in
     let n = c.first_blocks-blocks.result in (
       rw (part_to_end (row_width * a.channels * n) a.rows.now, length-drop) (omega (arith, c.requires.some, end-at t (goal.at.put_table-requires t c).After-first_blocks-blocks)),
-      rw (part_length c.put_entry.new.out.1.1.1.1.1.0 a.out.now c.entry_size-size.result c.put_entry.auto.out.1.1.1.1.1.0, part_to_end (row_width * a.channels * n) a.rows.now, c.entry_size-size.ensures) (entered_at t (goal.at.put_table-requires t c).After-first_blocks-blocks).rest,
+      rw (part_length c.put_entry.new.out a.out.now c.entry_size-size.result c.put_entry.auto.out, part_to_end (row_width * a.channels * n) a.rows.now, c.entry_size-size.ensures) (entered_at t (goal.at.put_table-requires t c).After-first_blocks-blocks).rest,
     )
 
 pub returns : goal.returns
 returns t c =
     let a = c.args in
     let n = c.first_blocks-blocks.result in
-    let m = c.put_entry.new.out.1.1.1.1.1.0 in
+    let m = c.put_entry.new.out in
     let s = c.entry_size-size.result in
     put_run current a.format a.channels a.previous a.rows.now a.out.now n (length a.out.now) (entered_at t (goal.at.returns t c).After-first_blocks-blocks) c.requires.some m c.put_entry.ensures s c.entry_size-size.ensures _
     (c.put_table.ensures ∙ ap (λ (l : List ℕ). over (plan_bytes a.format (in_entries (plan_from a.format a.channels 0 (timed (get_or a.rows.now (row_width * a.channels * n - row_width * a.channels) 0)) (rows_in l)))) (take (length m - s) (drop s m))) (part_to_end (row_width * a.channels * n) a.rows.now))

@@ -17,7 +17,7 @@ use Rattle.write_payload.proofs.tables.put_entry.Goals as goal
 
 -- the bytes before the displacements, as the list has them
 start-at : (c : After-put_start) → let a = c.args in let ws = a.rows.now in
-    c.put_start.new.out.1.1.1.1.0 ≡ over (start_bytes a.format a.more (row_as (words_at ws 0)).class (row_as (words_at ws 0)).length a.blocks) a.out.now
+    c.put_start.new.out ≡ over (start_bytes a.format a.more (row_as (words_at ws 0)).class (row_as (words_at ws 0)).length a.blocks) a.out.now
 start-at c =
     let a = c.args in
     c.put_start.ensures
@@ -25,9 +25,9 @@ start-at c =
     ∙ ap (λ (w : RowWords). over (start_bytes a.format a.more (tag_class w.tag) w.length a.blocks) a.out.now) c.first_row-row.ensures
 
 -- the displacements come after them
-within-at : (c : After-min_entry-start) → c.min_entry-start.result ≤ length c.put_start.new.out.1.1.1.1.0
+within-at : (c : After-min_entry-start) → c.min_entry-start.result ≤ length c.put_start.new.out
 within-at c =
-    let a = c.args in omega (arith, c.min_entry-start.ensures, c.put_start.auto.out.1.1.1.1.0, (room_start a.format a.width a.blocks a.previous a.rows.now (length a.out.now) c.requires).room)
+    let a = c.args in omega (arith, c.min_entry-start.ensures, c.put_start.auto.out, (room_start a.format a.width a.blocks a.previous a.rows.now (length a.out.now) c.requires).room)
 
 pub put_start-requires : goal.put_start-requires
 put_start-requires c =
@@ -44,13 +44,13 @@ slice_bounds-put_gaps-start c =
 
 pub put_gaps-requires : goal.put_gaps-requires
 put_gaps-requires c =
-    let a = c.args in rw (part_length c.put_start.new.out.1.1.1.1.0 a.out.now c.min_entry-start.result c.put_start.auto.out.1.1.1.1.0)
+    let a = c.args in rw (part_length c.put_start.new.out a.out.now c.min_entry-start.result c.put_start.auto.out)
     (subst (λ (k : ℕ). GapRoom a.format a.width a.blocks a.previous a.rows.now (length a.out.now - k)) (sym c.min_entry-start.ensures) (room_gaps a.format a.width a.blocks a.previous a.rows.now (length a.out.now) c.requires (ap (λ (f : Format). f.displaced) (sym c.format_of.ensures) ∙ c.if-format_of.true)))
 
 pub returns-then-format_of : goal.returns-then-format_of
 returns-then-format_of c =
-    let a = c.args in put_displaced a.format a.width a.blocks a.previous a.rows.now a.more a.out.now c.put_start.new.out.1.1.1.1.0 (start-at (goal.at.returns-then-format_of c).After-put_start) (ap (λ (f : Format). f.displaced) (sym c.format_of.ensures) ∙ c.if-format_of.true) _ c.min_entry-start.ensures _ c.put_gaps.ensures
+    let a = c.args in put_displaced a.format a.width a.blocks a.previous a.rows.now a.more a.out.now c.put_start.new.out (start-at (goal.at.returns-then-format_of c).After-put_start) (ap (λ (f : Format). f.displaced) (sym c.format_of.ensures) ∙ c.if-format_of.true) _ c.min_entry-start.ensures _ c.put_gaps.ensures
 
 pub returns-else-format_of : goal.returns-else-format_of
 returns-else-format_of c =
-    let a = c.args in put_plain a.format a.width a.blocks a.previous a.rows.now a.more a.out.now c.put_start.new.out.1.1.1.1.0 (start-at (goal.at.returns-else-format_of c).After-put_start) (ap (λ (f : Format). f.displaced) (sym c.format_of.ensures) ∙ c.if-format_of.false)
+    let a = c.args in put_plain a.format a.width a.blocks a.previous a.rows.now a.more a.out.now c.put_start.new.out (start-at (goal.at.returns-else-format_of c).After-put_start) (ap (λ (f : Format). f.displaced) (sym c.format_of.ensures) ∙ c.if-format_of.false)

@@ -31,18 +31,18 @@ put_table-requires c =
 
 pub slice_bounds-put_frames-count : goal.slice_bounds-put_frames-count
 slice_bounds-put_frames-count c =
-    let a = c.args in omega (arith, payload_table current a.format a.channels a.table a.rows.now a.bytes.now (length a.out.now) c.requires, c.put_table.auto.out.1.1.1.0)
+    let a = c.args in omega (arith, payload_table current a.format a.channels a.table a.rows.now a.bytes.now (length a.out.now) c.requires, c.put_table.auto.out)
 
 pub slice_bounds-put_frames-start : goal.slice_bounds-put_frames-start
 slice_bounds-put_frames-start c =
-    let a = c.args in omega (arith, payload_table current a.format a.channels a.table a.rows.now a.bytes.now (length a.out.now) c.requires, c.put_table.auto.out.1.1.1.0)
+    let a = c.args in omega (arith, payload_table current a.format a.channels a.table a.rows.now a.bytes.now (length a.out.now) c.requires, c.put_table.auto.out)
 
 pub put_frames-requires : goal.put_frames-requires
 put_frames-requires c =
-    let a = c.args in rw (part_length c.put_table.new.out.1.1.1.0 a.out.now a.table c.put_table.auto.out.1.1.1.0) (frames_room current a.format a.channels a.table a.rows.now a.bytes.now (length a.out.now) c.requires)
+    let a = c.args in rw (part_length c.put_table.new.out a.out.now a.table c.put_table.auto.out) (frames_room current a.format a.channels a.table a.rows.now a.bytes.now (length a.out.now) c.requires)
 
 pub returns : goal.returns
 returns c =
     let a = c.args in
-    put_both current a.format a.channels a.table a.rows.now a.bytes.now (length a.out.now) c.requires a.out.now c.put_table.new.out.1.1.1.0 _
+    put_both current a.format a.channels a.table a.rows.now a.bytes.now (length a.out.now) c.requires a.out.now c.put_table.new.out _
     (c.put_table.ensures ∙ ap (λ (n : ℕ). over (plan_bytes a.format (in_entries (plan_from a.format a.channels 0 (timed n) (rows_in a.rows.now)))) a.out.now) (previous-is (goal.at.returns c).After-difference-previous)) c.put_frames.ensures

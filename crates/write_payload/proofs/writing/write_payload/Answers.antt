@@ -15,7 +15,7 @@ use borrow.Author.Rules.{rules}
 use Rattle.write_payload.proofs.writing.write_payload.Goals.{Else-any_outside, In-Fits, Then-in_range}
 use Rattle.write_payload.proofs.writing.write_payload.Goals as goal
 
-range_at : (c : Then-in_range) → askable current c.args.asked c.args.mode-request ≡ true
+range_at : (c : Then-in_range) → askable current c.args.asked c.args.mode_request ≡ true
 range_at c =
     sym c.in_range.ensures ∙ c.if-in_range.true
 
@@ -30,31 +30,31 @@ sizes-at c =
 
 pub returns-then-any_outside : goal.returns-then-any_outside
 returns-then-any_outside c =
-    let a = c.args in refused_pair _ _ a.out.now (writing_outside current a.asked a.mode-request a.rows.now a.bytes.now (length a.out.now) (range_at (goal.at.returns-then-any_outside c).Then-in_range) (sym c.any_outside.ensures ∙ c.if-any_outside.true))
+    let a = c.args in refused_pair _ _ a.out.now (writing_outside current a.asked a.mode_request a.rows.now a.bytes.now (length a.out.now) (range_at (goal.at.returns-then-any_outside c).Then-in_range) (sym c.any_outside.ensures ∙ c.if-any_outside.true))
 
 pub returns-then-out-size : goal.returns-then-out-size
 returns-then-out-size c =
-    let a = c.args in refused_pair _ _ a.out.now (writing_short current a.asked a.mode-request a.rows.now a.bytes.now (length a.out.now) (range_at (goal.at.returns-then-out-size c).Then-in_range) (inside-at (goal.at.returns-then-out-size c).Else-any_outside) c.if-rows-eq0.true _ (sizes-at (goal.at.returns-then-out-size c).In-Fits) c.if-out-size.true)
+    let a = c.args in refused_pair _ _ a.out.now (writing_short current a.asked a.mode_request a.rows.now a.bytes.now (length a.out.now) (range_at (goal.at.returns-then-out-size c).Then-in_range) (inside-at (goal.at.returns-then-out-size c).Else-any_outside) c.if-rows-eq0.true _ (sizes-at (goal.at.returns-then-out-size c).In-Fits) c.if-out-size.true)
 
 pub put_payload-requires : goal.put_payload-requires
 put_payload-requires c =
-    let a = c.args in payload_room current a.asked a.mode-request a.rows.now a.bytes.now (length a.out.now) (range_at (goal.at.put_payload-requires c).Then-in_range) (inside-at (goal.at.put_payload-requires c).Else-any_outside) c.if-rows-eq0.true _ (sizes-at (goal.at.put_payload-requires c).In-Fits) (omega arith) c.if-out-size.false
+    let a = c.args in payload_room current a.asked a.mode_request a.rows.now a.bytes.now (length a.out.now) (range_at (goal.at.put_payload-requires c).Then-in_range) (inside-at (goal.at.put_payload-requires c).Else-any_outside) c.if-rows-eq0.true _ (sizes-at (goal.at.put_payload-requires c).In-Fits) (omega arith) c.if-out-size.false
 
 pub returns-in-Unwritable : goal.returns-in-Unwritable
 returns-in-Unwritable c =
-    let a = c.args in refused_pair _ _ a.out.now (writing_none current a.asked a.mode-request a.rows.now a.bytes.now (length a.out.now) (range_at (goal.at.returns-in-Unwritable c).Then-in_range) (inside-at (goal.at.returns-in-Unwritable c).Else-any_outside) c.if-rows-eq0.true (unanswered current a.asked.format a.asked.channels a.rows.now (sym c.in-Unwritable.is ∙ list_is _ _ _ _ c.plan_list.ensures)))
+    let a = c.args in refused_pair _ _ a.out.now (writing_none current a.asked a.mode_request a.rows.now a.bytes.now (length a.out.now) (range_at (goal.at.returns-in-Unwritable c).Then-in_range) (inside-at (goal.at.returns-in-Unwritable c).Else-any_outside) c.if-rows-eq0.true (unanswered current a.asked.format a.asked.channels a.rows.now (sym c.in-Unwritable.is ∙ list_is _ _ _ _ c.plan_list.ensures)))
 
 pub returns-else-out-size : goal.returns-else-out-size
 returns-else-out-size c =
     let a = c.args in (
-      numbers_all current a.asked a.mode-request a.rows.now a.bytes.now (length a.out.now) (range_at (goal.at.returns-else-out-size c).Then-in_range) (inside-at (goal.at.returns-else-out-size c).Else-any_outside) c.if-rows-eq0.true _ (sizes-at (goal.at.returns-else-out-size c).In-Fits) c.if-out-size.false,
-      c.put_payload.ensures ∙ ap (λ (x : Encoded). over (encoded_bytes x) a.out.now) (sym (writing_all current a.asked a.mode-request a.rows.now a.bytes.now (length a.out.now) (range_at (goal.at.returns-else-out-size c).Then-in_range) (inside-at (goal.at.returns-else-out-size c).Else-any_outside) c.if-rows-eq0.true _ (sizes-at (goal.at.returns-else-out-size c).In-Fits) c.if-out-size.false)),
+      numbers_all current a.asked a.mode_request a.rows.now a.bytes.now (length a.out.now) (range_at (goal.at.returns-else-out-size c).Then-in_range) (inside-at (goal.at.returns-else-out-size c).Else-any_outside) c.if-rows-eq0.true _ (sizes-at (goal.at.returns-else-out-size c).In-Fits) c.if-out-size.false,
+      c.put_payload.ensures ∙ ap (λ (x : Encoded). over (encoded_bytes x) a.out.now) (sym (writing_all current a.asked a.mode_request a.rows.now a.bytes.now (length a.out.now) (range_at (goal.at.returns-else-out-size c).Then-in_range) (inside-at (goal.at.returns-else-out-size c).Else-any_outside) c.if-rows-eq0.true _ (sizes-at (goal.at.returns-else-out-size c).In-Fits) c.if-out-size.false)),
     )
 
 pub returns-else-rows-eq0 : goal.returns-else-rows-eq0
 returns-else-rows-eq0 c =
-    let a = c.args in refused_pair _ _ a.out.now (writing_cut current a.asked a.mode-request a.rows.now a.bytes.now (length a.out.now) (range_at (goal.at.returns-else-rows-eq0 c).Then-in_range) (inside-at (goal.at.returns-else-rows-eq0 c).Else-any_outside) c.if-rows-eq0.false)
+    let a = c.args in refused_pair _ _ a.out.now (writing_cut current a.asked a.mode_request a.rows.now a.bytes.now (length a.out.now) (range_at (goal.at.returns-else-rows-eq0 c).Then-in_range) (inside-at (goal.at.returns-else-rows-eq0 c).Else-any_outside) c.if-rows-eq0.false)
 
 pub returns-else-in_range : goal.returns-else-in_range
 returns-else-in_range c =
-    let a = c.args in refused_pair _ _ a.out.now (writing_out current a.asked a.mode-request a.rows.now a.bytes.now (length a.out.now) (sym c.in_range.ensures ∙ c.if-in_range.false))
+    let a = c.args in refused_pair _ _ a.out.now (writing_out current a.asked a.mode_request a.rows.now a.bytes.now (length a.out.now) (sym c.in_range.ensures ∙ c.if-in_range.false))

@@ -15,14 +15,14 @@ header_at c =
 pub returns-then-header-eq0 : goal.returns-then-header-eq0
 returns-then-header-eq0 c =
     let a = c.args in let z = sym (header_at (goal.at.returns-then-header-eq0 c).After-format_of-header) ∙ c.if-header-eq0.true in
-    (sym z, lay_none a.format (a.mode-request % 16) a.out.now z)
+    (sym z, lay_none a.format (a.mode_request % 16) a.out.now z)
 
 pub returns-then-out-header : goal.returns-then-out-header
 returns-then-out-header c =
     let a = c.args in
-    (header_at (goal.at.returns-then-out-header c).After-format_of-header, lay_short a.format (a.mode-request % 16) a.out.now (subst (λ (n : ℕ). length a.out.now < n) (header_at (goal.at.returns-then-out-header c).After-format_of-header) c.if-out-header.true))
+    (header_at (goal.at.returns-then-out-header c).After-format_of-header, lay_short a.format (a.mode_request % 16) a.out.now (subst (λ (n : ℕ). length a.out.now < n) (header_at (goal.at.returns-then-out-header c).After-format_of-header) c.if-out-header.true))
 
 pub returns : goal.returns
 returns c =
     let a = c.args in
-    (header_at (goal.at.returns c).After-format_of-header, lay_one a.format (a.mode-request % 16) a.out.now (λ z. c.if-header-eq0.false (header_at (goal.at.returns c).After-format_of-header ∙ z)) (subst (λ (n : ℕ). n ≤ length a.out.now) (header_at (goal.at.returns c).After-format_of-header) c.if-out-header.false))
+    (header_at (goal.at.returns c).After-format_of-header, lay_one a.format (a.mode_request % 16) a.out.now (λ z. c.if-header-eq0.false (header_at (goal.at.returns c).After-format_of-header ∙ z)) (subst (λ (n : ℕ). n ≤ length a.out.now) (header_at (goal.at.returns c).After-format_of-header) c.if-out-header.false))
