@@ -118,8 +118,8 @@ module _ (format ch : ℕ) (p : Row) (ws : List ℕ) (all : List Group) (b : Blo
 pub run : (n format ch : ℕ) (p : Row) (ws : List ℕ) (g : Group) (gs : List Group) → 0 < ch → length g.gaps ≡ n → plan_from format ch 0 p (rows_in ws) ≡ groups (g ∷ gs) → Run format ch p ws n g gs
 run zero format ch p ws g gs l e h =
     let b = block_step format ch p ws (g ∷ gs) l (some_row format ch p ws g gs h) h in
-    absurd (omega (arith, (first format _ _ b.rest g gs (attached format _ _ b.rest g gs b.attached)).blocks))
-run (suc m) format ch p ws g gs l e h = by_way (attached format _ _ b.rest g gs b.attached) (run m format ch)
+    absurd (omega (arith, (first format (row_as (words_at ws 0)) (gap_between (step_of format) p.time (get_or ws 0 0)) b.rest g gs (attached format (row_as (words_at ws 0)) (gap_between (step_of format) p.time (get_or ws 0 0)) b.rest g gs b.attached)).blocks))
+run (suc m) format ch p ws g gs l e h = by_way (attached format (row_as (words_at ws 0)) (gap_between (step_of format) p.time (get_or ws 0 0)) b.rest g gs b.attached) (run m format ch)
   where
     b : Block format ch p ws (g ∷ gs)
     b = block_step format ch p ws (g ∷ gs) l (some_row format ch p ws g gs h) h
@@ -153,7 +153,7 @@ module _ (format ch : ℕ) (p : Row) (ws : List ℕ) (all : List Group) (b : Blo
 pub run_part : (k format ch : ℕ) (p : Row) (ws : List ℕ) (g : Group) (gs : List Group) → 0 < ch → 0 < k → k < length g.gaps → plan_from format ch 0 p (rows_in ws) ≡ groups (g ∷ gs)
     → Run format ch p ws k (part g (take k g.gaps)) (part g (drop k g.gaps) ∷ gs)
 run_part zero format ch p ws g gs l o m h = absurd (omega arith)
-run_part (suc k) format ch p ws g gs l o m h = by_way (attached format _ _ b.rest g gs b.attached) (run_part k format ch)
+run_part (suc k) format ch p ws g gs l o m h = by_way (attached format (row_as (words_at ws 0)) (gap_between (step_of format) p.time (get_or ws 0 0)) b.rest g gs b.attached) (run_part k format ch)
   where
     b : Block format ch p ws (g ∷ gs)
     b = block_step format ch p ws (g ∷ gs) l (some_row format ch p ws g gs h) h
@@ -181,7 +181,7 @@ pub first_blocks_lem : (format ch : ℕ) (p : Row) (ws : List ℕ) (g : Group) (
     → length g.gaps ≡ suc (joined format (row_as (words_at ws 0)) (plan_from format ch 0 (row_as (words_at ws 0)) (rows_in (drop (row_width * ch) ws))))
 first_blocks_lem format ch p ws g gs l h =
     let b = block_step format ch p ws (g ∷ gs) l (some_row format ch p ws g gs h) h in
-    (first format _ _ b.rest g gs (attached format _ _ b.rest g gs b.attached)).blocks ∙ ap (λ (x : Contents). suc (joined format (row_as (words_at ws 0)) x)) (sym b.planned)
+    (first format (row_as (words_at ws 0)) (gap_between (step_of format) p.time (get_or ws 0 0)) b.rest g gs (attached format (row_as (words_at ws 0)) (gap_between (step_of format) p.time (get_or ws 0 0)) b.rest g gs b.attached)).blocks ∙ ap (λ (x : Contents). suc (joined format (row_as (words_at ws 0)) x)) (sym b.planned)
 
 module _ (format ch : ℕ) (r : Row) (ws : List ℕ) where
   pub joined_none : length ws < row_width → joined format r (plan_from format ch 0 r (rows_in ws)) ≡ 0
@@ -216,13 +216,13 @@ module _ (format ch : ℕ) (r : Row) (ws : List ℕ) where
               → joined format r (plan_from format ch 0 r (rows_in ws))
               ≡ cond (joins_run format r (row_as (words_at ws 0)).class (row_as (words_at ws 0)).length (gap_between (step_of format) r.time (get_or ws 0 0)))
               (suc (joined format (row_as (words_at ws 0)) (plan_from format ch 0 (row_as (words_at ws 0)) (rows_in (drop (row_width * ch) ws))))) 0
-          step [] e x = absurd (attached_some format _ _ block.rest x)
+          step [] e x = absurd (attached_some format (row_as (words_at ws 0)) (gap_between (step_of format) r.time (get_or ws 0 0)) block.rest x)
           step (g ∷ gs) e x =
-              let f = first format _ _ block.rest g gs (attached format _ _ block.rest g gs x) in
+              let f = first format (row_as (words_at ws 0)) (gap_between (step_of format) r.time (get_or ws 0 0)) block.rest g gs (attached format (row_as (words_at ws 0)) (gap_between (step_of format) r.time (get_or ws 0 0)) block.rest g gs x) in
               ap (joined format r) e ∙ rw (first_blocks_lem format ch r ws g gs l e, f.class, f.size, f.head)
 
 -- the gap before a plan's first frame-block
 pub first_gap_lem : (format ch : ℕ) (p : Row) (ws : List ℕ) (g : Group) (gs : List Group) → 0 < ch → plan_from format ch 0 p (rows_in ws) ≡ groups (g ∷ gs) → head_gap g ≡ gap_between (step_of format) p.time (get_or ws 0 0)
 first_gap_lem format ch p ws g gs l h =
     let b = block_step format ch p ws (g ∷ gs) l (some_row format ch p ws g gs h) h in
-    (first format _ _ b.rest g gs (attached format _ _ b.rest g gs b.attached)).head
+    (first format (row_as (words_at ws 0)) (gap_between (step_of format) p.time (get_or ws 0 0)) b.rest g gs (attached format (row_as (words_at ws 0)) (gap_between (step_of format) p.time (get_or ws 0 0)) b.rest g gs b.attached)).head

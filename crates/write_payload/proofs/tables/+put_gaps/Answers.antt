@@ -43,7 +43,9 @@ returns-then-blocks-eq0 t c =
 
 pub bounds-rows-0 : goal.bounds-rows-0
 bounds-rows-0 t c =
-    omega (arith, words-at t (goal.at.bounds-rows-0 t c).After-shared_slice_known-2-1, c.requires.wide)
+    let words : c.args.width ≤ length c.args.rows.now =
+    let a = c.args in one_words a.format a.width a.blocks a.previous a.rows.now (length a.out.now) c.requires c.if-blocks-eq0.false in
+    omega (arith, words, c.requires.wide)
 
 pub overflow_mul-high : goal.overflow_mul-high
 overflow_mul-high t c =
