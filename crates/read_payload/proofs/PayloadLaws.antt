@@ -177,10 +177,10 @@ module _ (format : ℕ) (s : List ℕ) where
   unfolding request_of
   request_none h = rw (eq-eqb _ _ h)
 
-  pub request_empty : ((format_of format).header ≡ 0 → ⊥) → length s ≡ 0 → request_of format s ≡ no_request
+  pub request_some : ((format_of format).header ≡ 0 → ⊥) → request_of format s ≡ byte_at s 0 / 16
   unfolding request_of
-  request_empty h n = rw (ne_eqb _ _ h, eq-eqb _ _ n)
+  request_some h = rw (ne_eqb _ _ h)
 
-  pub request_some : ((format_of format).header ≡ 0 → ⊥) → (length s ≡ 0 → ⊥) → request_of format s ≡ byte_at s 0 / 16
-  unfolding request_of
-  request_some h n = rw (ne_eqb _ _ h, ne_eqb _ _ n)
+pub no_byte : (s : List ℕ) → length s ≡ 0 → byte_at s 0 ≡ 0
+no_byte [] h = refl
+no_byte (b ∷ s) h = absurd (omega arith)

@@ -34,12 +34,12 @@ unfoldable pub payload : Edition → ℕ → ℕ → ℕ → List ℕ → Conten
 payload ed format ch rows s =
     starting_at (table_start format s) (exact format ch (length (body format s)) (pass_first (contents ed format ch rows (body format s))))
 
--- Document 02, P1: a payload header is the byte of the mode request, which is its high half; the low half is ignored. Without a header, or of no bytes, there is no request.
+-- Document 02, P1: a payload header is the byte of the mode request, which is its high half; the low half is ignored. Without a header there is no request.
 abbrev pub no_request : ℕ
 no_request = 15
 
 unfoldable pub request_of : ℕ → List ℕ → ℕ
-request_of format s = cond (eqb (format_of format).header 0) no_request (cond (eqb (length s) 0) no_request (byte_at s 0 / 16))
+request_of format s = cond (eqb (format_of format).header 0) no_request (byte_at s 0 / 16)
 
 -- rows, or why there are none
 pub data Rows : Type 0 where

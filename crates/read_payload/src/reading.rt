@@ -131,7 +131,7 @@ pub fn read_payload(
     }
 }
 
-// The mode request in the payload's header; none of a format without one, and of no bytes.
+// The mode request in the payload's header.
 pub fn mode_request(format: u8, s: &[u8]) -> u8
     ensures { result ≡ request_of format s.now }
 {
@@ -139,7 +139,7 @@ pub fn mode_request(format: u8, s: &[u8]) -> u8
         return NO_REQUEST;
     }
     if s.len() == 0 {
-        return NO_REQUEST;
+        return 0;
     }
     s[0] / 16
 }

@@ -1,6 +1,7 @@
+use Prim.Native.Nat.{ℕ, ◌/◌}
 use mathlib.Core.Path.{◌≡◌, sym, ◌∙◌, ap}
 use Rattle.formats.specs.declared.facts.Format.{Format}
-use Rattle.read_payload.proofs.PayloadLaws.{request_none, request_empty, request_some}
+use Rattle.read_payload.proofs.PayloadLaws.{request_none, request_some, no_byte}
 use borrow.Author.Rules.{rules}
 use Rattle.read_payload.proofs.reading.mode_request.Goals as goal
 
@@ -12,9 +13,10 @@ returns-then-format_of-eq0 c =
 pub returns-then-s-eq0 : goal.returns-then-s-eq0
 returns-then-s-eq0 c =
     let a = c.args in
-    sym (request_empty a.format a.s.now (λ e. c.if-format_of-eq0.false (ap (λ (f : Format). f.header) c.format_of.ensures ∙ e)) c.if-s-eq0.true)
+    sym (request_some a.format a.s.now (λ e. c.if-format_of-eq0.false (ap (λ (f : Format). f.header) c.format_of.ensures ∙ e))
+    ∙ ap (λ (b : ℕ). b / 16) (no_byte a.s.now c.if-s-eq0.true))
 
 pub returns : goal.returns
 returns c =
     let a = c.args in
-    sym (request_some a.format a.s.now (λ e. c.if-format_of-eq0.false (ap (λ (f : Format). f.header) c.format_of.ensures ∙ e)) c.if-s-eq0.false)
+    sym (request_some a.format a.s.now (λ e. c.if-format_of-eq0.false (ap (λ (f : Format). f.header) c.format_of.ensures ∙ e)))
