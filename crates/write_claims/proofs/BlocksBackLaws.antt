@@ -124,7 +124,7 @@ blocks_request_lem : (st : Settings) (found at : ℕ) (bs : List Part) (p : List
 unfolding blocks_request block_request cut blocks_bytes
 blocks_request_lem st found at [] p h = rw (eq-eqb st.payload_type st.payload_type refl, ne_eqb (length p) 0 (omega arith))
 blocks_request_lem st found at (b ∷ bs) p h =
-    rw (take-append_seam b.bytes (blocks_bytes bs p), drop-append_seam b.bytes (blocks_bytes bs p)) (blocks_request_lem st _ (at + length b.bytes) bs p h)
+    rw (take-append_seam b.bytes (blocks_bytes bs p), drop-append_seam b.bytes (blocks_bytes bs p)) (blocks_request_lem st (block_request st found st.payload_type b.bytes) (at + length b.bytes) bs p h)
 
 module _ (ed : Edition) (st : Settings) (request : ℕ) (bytes : List ℕ) (time : ℕ) (some : 1 ≤ st.channels) (t : time < 2 ^ 32) where
   -- a block whose time is its list's, anywhere
