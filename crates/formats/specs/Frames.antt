@@ -4,7 +4,6 @@ use Rattle.rtp.specs.Refusals.{number}
 use Rattle.rtp.specs.declared.refusal.Refusal.TheVariants.{ReservedCode}
 use Rattle.formats.specs.declared.facts.Format.{Format}
 use Rattle.formats.specs.declared.facts.FrameTable.{FrameTable}
-use Rattle.formats.specs.declared.frames.Frame.{Frame}
 use Rattle.formats.specs.declared.frames.Coded.{Coded}
 use Rattle.formats.specs.Formats.{format_of}
 pub use Rattle.formats.specs.Formats.{step_of}

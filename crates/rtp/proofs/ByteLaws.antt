@@ -1,7 +1,7 @@
 -- Laws of bytes and of the numbers that they make up.
 use Rattle.std.proofs.Common.{◌≡◌, ℕ, ◌+◌, ◌*◌, ◌/◌, ◌%◌, ◌^◌, ◌<◌, ◌≤◌, List, ◌++◌, length, drop, refl, arith, get_or-drop, le-leb}
 use borrow.Author.Tests.{lt-leb}
-use Rattle.rtp.specs.Numbers.{byte_at, be16, be32, read_u16, read_u32, two, four}
+use Rattle.rtp.specs.Numbers.{be16, be32, read_u16, read_u32, two, four}
 pub use Rattle.rtp.specs.Numbers.{Bytes}
 
 pub bytes_drop : (n : ℕ) (s : List ℕ) → Bytes s → Bytes (drop n s)

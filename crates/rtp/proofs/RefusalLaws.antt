@@ -1,5 +1,5 @@
 -- Laws of the refusal numbers.
-use Rattle.std.proofs.Common.{◌≡◌, ℕ, ◌<◌, false, eqb, List, [], ◌∷◌, get_or, sym, refl, ap, ◌∙◌, arith, ne_eqb}
+use Rattle.std.proofs.Common.{◌≡◌, ℕ, ◌<◌, false, eqb, [], ◌∷◌, get_or, sym, refl, ap, ◌∙◌, arith, ne_eqb}
 use Rattle.rtp.specs.declared.refusal.Refusal.{Refusal}
 use Rattle.rtp.specs.declared.refusal.Refusal.TheVariants.{PacketLength, Version, HeaderTruncated, PaddingCount, UnknownPayloadType, ContentsTruncated, ReservedCode, NoFrameBlocks, TooManyRows, LengthMismatch, SettingsOutOfRange, AreaTooShort, Unwritable, RowOutsideBytes, Malformed, CutField, MisplacedTag, NotAllowed, WrongCount}
 use Rattle.rtp.specs.declared.refusal.Fault.{Fault}

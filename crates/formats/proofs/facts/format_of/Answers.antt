@@ -1,7 +1,6 @@
 use mathlib.Core.Path.{◌∙◌}
 use borrow.Author.Tests.{eq-eqb, ne_eqb}
 use Rattle.formats.specs.Formats.{format_of}
-use borrow.Author.Rules.{rules}
 use Rattle.formats.proofs.facts.format_of.Goals as goal
 
 pub returns-then-format-eq-G719 : goal.returns-then-format-eq-G719

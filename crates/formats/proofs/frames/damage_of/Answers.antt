@@ -1,6 +1,5 @@
 use native.Mathlib.Omega.{arith}
 use borrow.Author.Tests.{eq-eqb, ne_eqb}
-use borrow.Author.Rules.{rules}
 use Rattle.formats.proofs.frames.damage_of.Goals as goal
 
 pub returns-then-code-eq0 : goal.returns-then-code-eq0

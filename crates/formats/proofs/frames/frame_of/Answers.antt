@@ -7,7 +7,6 @@ use Rattle.formats.specs.Formats.{format_of}
 use Rattle.formats.specs.Frames.{reserved, length_in, type_of, damage_of, good_class, frame, frame_in, coded_numbers}
 use Rattle.formats.specs.Room.{InTable}
 use Rattle.formats.proofs.FormatLaws.{in_table, beyond}
-use borrow.Author.Rules.{rules}
 use Rattle.formats.proofs.frames.frame_of.Goals as goal
 
 -- a frame that has bytes

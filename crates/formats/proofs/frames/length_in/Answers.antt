@@ -1,5 +1,4 @@
 use Rattle.formats.specs.Frames.{length_in}
-use borrow.Author.Rules.{rules}
 use Rattle.formats.proofs.frames.length_in.Goals as goal
 
 pub g719_length-requires : goal.g719_length-requires

@@ -1,6 +1,5 @@
 use mathlib.Core.Path.{ap}
 use Rattle.formats.specs.declared.facts.Format.{Format}
-use borrow.Author.Rules.{rules}
 use Rattle.formats.proofs.frames.step_of.Goals as goal
 
 pub returns : goal.returns

@@ -1,4 +1,3 @@
-use borrow.Author.Rules.{rules}
 use Rattle.formats.proofs.frames.type_of.Goals as goal
 
 pub returns-then-graded : goal.returns-then-graded

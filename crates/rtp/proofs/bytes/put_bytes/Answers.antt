@@ -1,5 +1,4 @@
-use Rattle.std.proofs.Common.{◌≡◌, ℕ, ◌-◌, ◌≤◌, List, length, get_or, take, set, sym, ap, ◌∙◌, rules}
-use Rattle.rtp.specs.Areas.{over}
+use Rattle.std.proofs.Common.{ℕ, List, get_or, set, sym, ap, ◌∙◌, rules}
 use Rattle.rtp.proofs.AreaLaws.{over_none, fitted_in, fitted_short}
 use Rattle.rtp.proofs.StoreLaws.{over_next, over_whole}
 use Rattle.rtp.proofs.bytes.put_bytes.Goals as goal

@@ -1,4 +1,4 @@
-use Rattle.std.proofs.Common.{sym, ◌∙◌, rules}
+use Rattle.std.proofs.Common.{sym, ◌∙◌}
 use Rattle.rtp.proofs.AreaLaws.{over_two, fitted_in, fitted_short}
 use Rattle.rtp.proofs.bytes.put_u16.Goals as goal
 

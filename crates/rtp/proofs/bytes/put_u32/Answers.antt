@@ -1,4 +1,4 @@
-use Rattle.std.proofs.Common.{sym, ◌∙◌, arith, length-set, rules}
+use Rattle.std.proofs.Common.{sym, ◌∙◌, arith, length-set}
 use Rattle.rtp.proofs.AreaLaws.{over_four, fitted_in, fitted_short}
 use Rattle.rtp.proofs.bytes.put_u32.Goals as goal
 

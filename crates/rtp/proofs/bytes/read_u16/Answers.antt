@@ -1,4 +1,4 @@
-use Rattle.std.proofs.Common.{◌+◌, sym, arith, rules}
+use Rattle.std.proofs.Common.{◌+◌, sym, arith}
 use Rattle.rtp.proofs.ByteLaws.{read_two, read_two_outside}
 use Rattle.rtp.proofs.bytes.read_u16.Goals as goal
 

@@ -1,4 +1,4 @@
-use Rattle.std.proofs.Common.{◌+◌, ◌≤◌, length, sym, arith, rules}
+use Rattle.std.proofs.Common.{◌+◌, ◌≤◌, length, sym, arith}
 use Rattle.rtp.proofs.ByteLaws.{read_four_outside, read_halves}
 use Rattle.rtp.proofs.bytes.read_u32.Goals.{Else-s-at-lt4}
 use Rattle.rtp.proofs.bytes.read_u32.Goals as goal

@@ -1,4 +1,4 @@
-use Rattle.std.proofs.Common.{sym, ap, rules}
+use Rattle.std.proofs.Common.{sym, ap}
 use Rattle.rtp.specs.Refusals.{number}
 use Rattle.rtp.proofs.refusal.refusal_number.Goals as goal
 

@@ -1,5 +1,5 @@
 use Rattle.rtp.specs.Ranges.{in_range}
-use Rattle.std.proofs.Common.{rules, le-ltb, lt-ltb, eq-eqb, ne_eqb}
+use Rattle.std.proofs.Common.{le-ltb, lt-ltb, eq-eqb, ne_eqb}
 use Rattle.rtp.proofs.settings.in_range.Goals as goal
 
 pub returns-then-settings-eq0 : goal.returns-then-settings-eq0
