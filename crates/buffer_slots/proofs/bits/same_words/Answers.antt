@@ -1,5 +1,4 @@
 use borrow.Author.Tests.{eq-eqb, ne_eqb}
-use borrow.Author.Rules.{rules}
 use Rattle.buffer_slots.proofs.bits.same_words.Goals as goal
 
 pub returns-then-v-w-2 : goal.returns-then-v-w-2

@@ -1,7 +1,6 @@
 use Prim.Native.Nat.{◌/◌, ◌%◌, ◌^◌, ◌≤◌, ◌<◌}
 use lib.ListN.{get_or}
 use borrow.Author.Tests.{lt-ltb, le-ltb, le-leb, lt-leb}
-use borrow.Author.Rules.{rules}
 use Rattle.buffer_slots.proofs.bits.unmark.Goals as goal
 
 pub returns-then-slot-ge-SLOTS : goal.returns-then-slot-ge-SLOTS
