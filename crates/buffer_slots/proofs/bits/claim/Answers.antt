@@ -2,14 +2,10 @@ use Prim.Native.Nat.{◌/◌, ◌%◌}
 use mathlib.Core.Path.{◌≡◌, ◌∙◌, sym}
 use native.Mathlib.Omega.{arith}
 use lib.ListN.{get_or}
-use borrow.Author.Tests.{lt-ltb, le-ltb, eq-eqb, ne_eqb}
+use borrow.Author.Tests.{lt-ltb, eq-eqb, ne_eqb}
 use Rattle.buffer_slots.specs.Bits.{mark_of}
 use Rattle.buffer_slots.proofs.BitLaws.{bit_shift}
 use Rattle.buffer_slots.proofs.bits.claim.Goals as goal
-
-pub returns-then-slot-ge-SLOTS : goal.returns-then-slot-ge-SLOTS
-returns-then-slot-ge-SLOTS c =
-    record { value = rw (le-ltb _ _ c.if-slot-ge-SLOTS.true); words_after = rw (le-ltb _ _ c.if-slot-ge-SLOTS.true) }
 
 pub with_bit-requires : goal.with_bit-requires
 with_bit-requires c =
