@@ -12,6 +12,7 @@ use lib.ListN.{length}
 module _ {A : Type 0} where
   -- the list without the item at a place of it
   without : (l : List A) (x : A) → Memᴰ x l → (r : List A) × (length l ≡ suc (length r)) × ((y : A) → Memᴰ y l → (y ≡ x → ⊥) → Memᴰ y r)
+  without [] x x3 = elim x3 [ ]
   without (h ∷ t) x (here e) = (t, refl, λ y m n. stay y n (cases m))
     where
       stay : (y : A) → (y ≡ x → ⊥) → (y ≡ h) ⊎ Memᴰ y t → Memᴰ y t
@@ -38,6 +39,7 @@ module _ {B : Type 0} {A : Type 0} (f : B → A) where
       omega (arith, w.1, no_more xs w.0 d.1 (λ y m. w.2 (f y) (s y (there m)) (λ e. d.0 y m (sym e))))
 
   pub differ_one : (xs : List B) → Differ xs → (a b : B) → Memᴰ a xs → Memᴰ b xs → f a ≡ f b → a ≡ b
+  differ_one [] d a b x4 _ e = elim x4 [ ]
   differ_one (h ∷ t) d a b (here p) (here q) e = p ∙ sym q
   differ_one (h ∷ t) d a b (here p) (there n) e = absurd (d.0 b n (sym (ap f p) ∙ e))
   differ_one (h ∷ t) d a b (there m) (here q) e = absurd (d.0 a m (sym (e ∙ ap f q)))

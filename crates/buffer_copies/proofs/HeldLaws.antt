@@ -127,6 +127,7 @@ find_member b es S e m = go es S.near S.asc m
     u = S.near e m
 
     go : (es : List Entry) → ((x : Entry) → Memᴰ x es → Near b x.time x.channel) → Asc (entry_place b) es → Memᴰ e es → find_by (side_of_entry e) es ≡ some e
+    go [] near asc x3 = elim x3 [ ]
     go (x ∷ es) near asc (here q) =
         let o : side_of_entry e x ≡ Ordering.eq = order_place b S.base u (near x (here refl)) ∙ sym (compare_is Ordering.eq (entry_place b e) (entry_place b x) (ap (entry_place b) q)) in
         rw o (ap some (sym q))
@@ -169,6 +170,7 @@ not_false false e = absurd (true≢false e)
 
 pub all_within_lem : (b : ℕ) (es : List Entry) → all_within b es ≡ true → (e : Entry) → Memᴰ e es → ahead e.time b < half
 unfolding all_within
+all_within_lem b [] p e x'' = elim x'' [ ]
 all_within_lem b (h ∷ t) p e (here q) = rw q (ltb-true (ahead h.time b) half ((and-eq-true_iff (ltb (ahead h.time b) half) (all_within b t)).0 p).0)
 all_within_lem b (h ∷ t) p e (there m) = all_within_lem b t ((and-eq-true_iff (ltb (ahead h.time b) half) (all_within b t)).0 p).1 e m
 

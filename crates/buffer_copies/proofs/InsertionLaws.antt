@@ -66,6 +66,7 @@ module _ {A : Type 0} (key : A → ℕ) where
   Asc (h ∷ t) = Above h t × Asc t
 
   pub asc_one : (l : List A) → Asc l → (a b : A) → Memᴰ a l → Memᴰ b l → key a ≡ key b → a ≡ b
+  asc_one [] s a b x4 _ e = elim x4 [ ]
   asc_one (h ∷ t) s a b (here p) (here q) e = p ∙ sym q
   asc_one (h ∷ t) s a b (here p) (there n) e = absurd (omega (arith, s.0 b n, ap key p))
   asc_one (h ∷ t) s a b (there m) (here q) e = absurd (omega (arith, s.0 a m, ap key q))

@@ -76,10 +76,12 @@ within_all b [] f = refl
 within_all b (h ∷ t) f = rw (lt-ltb (ahead h.time b) half (f h (here refl)), within_all b t (λ e m. f e (there m)))
 
 pub mem_map : {A B : Type 0} (f : A → B) (l : List A) (a : A) → Memᴰ a l → Memᴰ (f a) (map f l)
+mem_map {A = A} {B = B} f [] a x' = elim x' [ ]
 mem_map f (x ∷ l) a (here e) = here (ap f e)
 mem_map f (x ∷ l) a (there m) = there (mem_map f l a m)
 
 pub map_mem : {A B : Type 0} (f : A → B) (l : List A) (y : B) → Memᴰ y (map f l) → (a : A) × Memᴰ a l × (y ≡ f a)
+map_mem {A = A} {B = B} f [] y x' = elim x' [ ]
 map_mem f (x ∷ l) y (here e) = (x, here refl, e)
 map_mem f (x ∷ l) y (there m) = let r = map_mem f l y m in (r.0, there r.1, r.2)
 

@@ -82,6 +82,7 @@ used_in k (h ∷ t) e = go (eqb k h.slot) refl (used_in k t) e
 
 pub slot_unused : (k : ℕ) (es : List Entry) → slot_used k es ≡ false → (y : Entry) → Memᴰ y es → k ≡ y.slot → ⊥
 unfolding slot_used
+slot_unused k [] e y m w = elim m [ ]
 slot_unused k (h ∷ t) e y m w = go (eqb k h.slot) refl (slot_unused k t) e (cases m)
   where
     go : (b : Bool) → eqb k h.slot ≡ b → (slot_used k t ≡ false → (y : Entry) → Memᴰ y t → k ≡ y.slot → ⊥) → (b || slot_used k t) ≡ false → (y ≡ h) ⊎ Memᴰ y t → ⊥

@@ -1,12 +1,12 @@
 -- The tests of the entries, as the code asks them in turn.
 use Prim.Native.Nat.{ℕ, zero, suc, ◌+◌, ◌-◌, ◌≤◌, ◌<◌, Ordering}
-use mathlib.Core.Path.{◌≡◌, refl, sym, ap, ◌∙◌}
+use mathlib.Core.Path.{◌≡◌, refl, ap, ◌∙◌}
 use mathlib.Core.List.{List}
-use mathlib.Core.Bool.{Bool, true, false, cond, not, ◌&&◌}
+use mathlib.Core.Bool.{Bool, true, false, cond, ◌&&◌}
 use mathlib.Core.Option.{Option, none, some}
 use native.Mathlib.Numerals.{add-one}
 use native.Mathlib.Omega.{arith}
-use borrow.Author.Tests.{ltb-true, eqb-true, not-true, not-false}
+use borrow.Author.Tests.{ltb-true, eqb-true}
 use lib.Dec.{ltb, eqb}
 use lib.ListN.{get_or}
 use Rattle.frame_codes.specs.Allowed.{allowed}
@@ -22,13 +22,6 @@ use Rattle.buffer_layout.specs.Layout.{entry_at, entries_from, assembled}
 use Rattle.buffer_layout.specs.Checks.{class_fine, ascends, passes, all_pass}
 use Rattle.buffer_layout.proofs.PositionLaws.{up, turn}
 use Rattle.rtp.proofs.TestLaws.{both}
-
--- a callee's answer, tested by `if !`
-pub passed : {r t : Bool} → r ≡ t → not r ≡ false → t ≡ true
-passed {r = r} e h = sym e ∙ not-false r h
-
-pub failed : {r t : Bool} → r ≡ t → not r ≡ true → t ≡ false
-failed {r = r} e h = sym e ∙ not-true r h
 
 -- a slot that is free
 pub free_parts : (ws : List ℕ) (s : ℕ) → is_free ws s ≡ true → (s < slots) × (mark_of ws s ≡ 0)

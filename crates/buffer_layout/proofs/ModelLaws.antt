@@ -107,6 +107,7 @@ distinct_apart (e ∷ es) d =
 module _ (m : Model) where
   each_fine : (es : List Entry) → entries_fine m es ≡ true → (e : Entry) → Memᴰ e es → entry_fine m e ≡ true
   unfolding entries_fine
+  each_fine [] h e x'' = elim x'' [ ]
   each_fine (x ∷ es) h e (here q) = ap (entry_fine m) q ∙ (both {a = entry_fine m x} {b = entries_fine m es} h).0
   each_fine (x ∷ es) h e (there i) = each_fine es (both {a = entry_fine m x} {b = entries_fine m es} h).1 e i
 

@@ -1,5 +1,5 @@
 -- Document 01, "The take": what a reorder buffer holds, however it is laid out; and when that is well-formed (document 01: sound), clause by clause.
-use Rattle.std.specs.Prelude.{ℕ, List, [], ◌∷◌, Bool, true, false, cond, not, ◌&&◌, ltb, eqb}
+use Rattle.std.specs.Prelude.{ℕ, List, [], ◌∷◌, Bool, true, cond, not, ◌&&◌, ltb, eqb}
 use Rattle.rtp.specs.declared.settings.Settings.{Settings}
 use Rattle.frame_codes.specs.Allowed.{allowed}
 use Rattle.buffer_copies.specs.Sizes.{slots}

@@ -234,6 +234,7 @@ count_member x (e ∷ es) h = go (count_member x es) (ℕ_discrete x e.slot)
     go ih (no n) = let r = ih (omega (arith, count_else x e.slot (slots_of es) n)) in (r.0, there r.1, r.2)
 
 member_count : (e : Entry) (es : List Entry) → Memᴰ e es → 0 < count_in e.slot (slots_of es)
+member_count e [] x' = elim x' [ ]
 member_count e (f ∷ es) (here q) = rw (ap slot_of q) (omega (arith, count_here f.slot (slots_of es)))
 member_count e (f ∷ es) (there m) = omega (arith, member_count e es m, count_tail e.slot f.slot (slots_of es))
 

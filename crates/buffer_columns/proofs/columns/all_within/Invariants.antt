@@ -1,13 +1,6 @@
-use Prim.Native.Nat.{ℕ, ◌-◌, ◌≤◌}
-use mathlib.Core.Path.{◌≡◌, ◌∙◌, sym, ap}
-use lib.Dec.{ltb}
-use Rattle.buffer_copies.specs.Pairs.{half}
-use native.Mathlib.Nat.{sub-zero}
-use borrow.Author.Tests.{lt-ltb, le-ltb}
+use Prim.Native.Nat.{◌-◌, ◌≤◌}
+use mathlib.Core.Path.{◌≡◌}
 use Rattle.buffer_layout.specs.Columns.{within_from}
-use Rattle.buffer_layout.proofs.ColumnLaws.{within_end, within_step}
-use borrow.Author.Rules.{rules}
-use native.Mathlib.Omega.{arith}
 use Rattle.buffer_columns.proofs.columns.all_within.Given as goal
 
 abbrev pub invariant-loop-i : goal.invariant-loop-i

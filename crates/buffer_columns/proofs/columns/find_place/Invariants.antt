@@ -1,17 +1,9 @@
-use Prim.Native.Nat.{ℕ, ◌+◌, ◌-◌, ◌≤◌, ◌<◌}
-use mathlib.Core.Path.{◌≡◌, sym, ap, ◌∙◌}
-use lib.ListN.{get_or}
+use Prim.Native.Nat.{◌+◌, ◌-◌, ◌≤◌}
+use mathlib.Core.Path.{◌≡◌}
 use Rattle.buffer_copies.specs.Sizes.{slots}
-use Rattle.buffer_copies.specs.Pairs.{order, side_of}
-use native.Mathlib.Nat.{sub-zero}
-use native.Mathlib.Omega.{arith}
-use Rattle.buffer_copies.specs.declared.order.Side.{Side}
 use Rattle.buffer_columns.specs.Bounds.{used}
-use Rattle.buffer_columns.specs.Places.{middle, halve, halving}
-use Rattle.buffer_columns.proofs.BoundLaws.{used_few}
-use Rattle.buffer_columns.proofs.SearchLaws.{from, left, left_none, turn, turn_is, answers}
-use Rattle.buffer_copies.proofs.SideLaws.{side_is}
-use borrow.Author.Rules.{rules}
+use Rattle.buffer_columns.specs.Places.{halving}
+use Rattle.buffer_columns.proofs.SearchLaws.{left}
 use Rattle.buffer_columns.proofs.columns.find_place.Given as goal
 
 abbrev pub invariant-loop-width : goal.invariant-loop-width

@@ -1,7 +1,5 @@
 use borrow.Author.Tests.{eq-eqb, ne_eqb, lt-ltb, le-ltb}
 use Rattle.buffer_layout.specs.Columns.{fits_from}
-use Rattle.buffer_columns.proofs.BoundLaws.{used_few}
-use borrow.Author.Rules.{rules}
 use Rattle.buffer_columns.proofs.columns.in_stretch.Goals as goal
 
 pub returns-then-count-eq0 : goal.returns-then-count-eq0
@@ -13,10 +11,6 @@ pub returns-then-ticks_ahead-lt-HALF : goal.returns-then-ticks_ahead-lt-HALF
 unfolding fits_from
 returns-then-ticks_ahead-lt-HALF c =
     rw (← c.used-count.ensures, ne_eqb _ _ c.if-count-eq0.false, ← c.ticks_ahead.ensures, lt-ltb _ _ c.if-ticks_ahead-lt-HALF.true)
-
-pub all_within-requires : goal.all_within-requires
-all_within-requires c =
-    rw c.used-count.ensures (used_few c.args.n)
 
 pub returns : goal.returns
 unfolding fits_from

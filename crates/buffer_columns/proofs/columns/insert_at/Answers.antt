@@ -1,9 +1,6 @@
-use Prim.Native.Nat.{◌+◌, ◌-◌, ◌≤◌}
-use mathlib.Core.Path.{◌≡◌, ◌∙◌, sym}
-use lib.ListN.{length, length-set}
-use Rattle.buffer_copies.specs.Sizes.{slots}
-use Rattle.buffer_layout.specs.Columns.{insert_at}
-use Rattle.buffer_layout.proofs.ColumnLaws.{inserting, insert_start, insert_more, insert_end}
+use mathlib.Core.Path.{◌∙◌, sym}
+use lib.ListN.{length-set}
+use Rattle.buffer_layout.proofs.ColumnLaws.{insert_start, insert_more, insert_end}
 use Rattle.buffer_columns.proofs.BoundLaws.{insertion_is, insertion_past, insertion_full}
 use borrow.Author.Rules.{rules}
 use native.Mathlib.Omega.{arith}

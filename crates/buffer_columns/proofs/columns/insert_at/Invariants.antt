@@ -1,12 +1,9 @@
 use Prim.Native.Nat.{◌+◌, ◌-◌, ◌≤◌}
-use mathlib.Core.Path.{◌≡◌, ◌∙◌, sym}
-use lib.ListN.{length, length-set}
+use mathlib.Core.Path.{◌≡◌}
+use lib.ListN.{length}
 use Rattle.buffer_copies.specs.Sizes.{slots}
 use Rattle.buffer_layout.specs.Columns.{insert_at}
-use Rattle.buffer_layout.proofs.ColumnLaws.{inserting, insert_start, insert_more, insert_end}
-use Rattle.buffer_columns.proofs.BoundLaws.{insertion_is, insertion_past, insertion_full}
-use borrow.Author.Rules.{rules}
-use native.Mathlib.Omega.{arith}
+use Rattle.buffer_layout.proofs.ColumnLaws.{inserting}
 use Rattle.buffer_columns.proofs.columns.insert_at.Given as goal
 
 abbrev pub invariant-loop-i : goal.invariant-loop-i

@@ -1,9 +1,6 @@
-use Prim.Native.Nat.{◌-◌, ◌≤◌}
-use mathlib.Core.Path.{◌≡◌, ◌∙◌, sym}
-use lib.ListN.{length, length-set}
-use Rattle.buffer_copies.specs.Sizes.{slots}
-use Rattle.buffer_layout.specs.Columns.{remove_first}
-use Rattle.buffer_layout.proofs.ColumnLaws.{removing, remove_start, remove_more, remove_end}
+use mathlib.Core.Path.{◌∙◌, sym}
+use lib.ListN.{length-set}
+use Rattle.buffer_layout.proofs.ColumnLaws.{remove_start, remove_more, remove_end}
 use Rattle.buffer_columns.proofs.BoundLaws.{removal_is, removal_none, removal_past}
 use borrow.Author.Rules.{rules}
 use native.Mathlib.Omega.{arith}

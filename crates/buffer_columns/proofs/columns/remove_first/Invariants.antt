@@ -1,12 +1,9 @@
 use Prim.Native.Nat.{◌-◌, ◌≤◌}
-use mathlib.Core.Path.{◌≡◌, ◌∙◌, sym}
-use lib.ListN.{length, length-set}
+use mathlib.Core.Path.{◌≡◌}
+use lib.ListN.{length}
 use Rattle.buffer_copies.specs.Sizes.{slots}
 use Rattle.buffer_layout.specs.Columns.{remove_first}
-use Rattle.buffer_layout.proofs.ColumnLaws.{removing, remove_start, remove_more, remove_end}
-use Rattle.buffer_columns.proofs.BoundLaws.{removal_is, removal_none, removal_past}
-use borrow.Author.Rules.{rules}
-use native.Mathlib.Omega.{arith}
+use Rattle.buffer_layout.proofs.ColumnLaws.{removing}
 use Rattle.buffer_columns.proofs.columns.remove_first.Given as goal
 
 abbrev pub invariant-loop-i : goal.invariant-loop-i

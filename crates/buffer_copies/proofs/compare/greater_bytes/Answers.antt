@@ -1,9 +1,5 @@
-use mathlib.Core.Path.{◌≡◌, sym, ◌∙◌}
-use Prim.Native.Nat.{◌≤◌, ◌-◌}
+use mathlib.Core.Path.{sym, ◌∙◌}
 use native.Mathlib.Omega.{arith}
-use borrow.Author.Rules.{rules}
-use lib.ListN.{length, drop}
-use Rattle.buffer_copies.specs.Copies.{greater}
 use Rattle.buffer_copies.proofs.RankLaws.{from_greater, from_less, from_same, from_none}
 use Rattle.buffer_copies.proofs.compare.greater_bytes.Goals as goal
 

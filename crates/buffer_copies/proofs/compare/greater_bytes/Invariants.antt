@@ -1,10 +1,7 @@
-use mathlib.Core.Path.{◌≡◌, sym, ◌∙◌}
+use mathlib.Core.Path.{◌≡◌}
 use Prim.Native.Nat.{◌≤◌, ◌-◌}
-use native.Mathlib.Omega.{arith}
-use borrow.Author.Rules.{rules}
 use lib.ListN.{length, drop}
 use Rattle.buffer_copies.specs.Copies.{greater}
-use Rattle.buffer_copies.proofs.RankLaws.{from_greater, from_less, from_same, from_none}
 use Rattle.buffer_copies.proofs.compare.greater_bytes.Given as goal
 
 abbrev pub invariant-loop-i : goal.invariant-loop-i

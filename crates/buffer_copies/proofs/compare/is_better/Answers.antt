@@ -1,10 +1,8 @@
 use mathlib.Core.Path.{◌≡◌, ap, sym, ◌∙◌}
-use mathlib.Core.Logic.{⊎_elim}
 use native.Mathlib.Omega.{arith}
 use Rattle.buffer_copies.specs.Copies.{quality, soundness}
 use Rattle.buffer_copies.proofs.RankLaws.{Alike, quality_greater, quality_less, soundness_greater, soundness_less, length_greater, length_less, length_same}
-use borrow.Author.Rules.{rules}
-use Rattle.buffer_copies.proofs.compare.is_better.Goals.{Else-good-other_good, Joined-class-other}
+use Rattle.buffer_copies.proofs.compare.is_better.Goals.{Else-good-other_good, Joined-class-other, then-class-other+else-other_good-good+else-good-other_good+else-other_sound-sound+else-sound-other_sound, else-class-other}
 use Rattle.buffer_copies.proofs.compare.is_better.Goals as goal
 
 -- past the tests of the quality
@@ -16,13 +14,13 @@ same-quality c =
 -- past the tests of the classes
 alike : (c : Joined-class-other) → Alike c.args.class c.args.other
 alike c =
-    ⊎_elim
-    (λ w.
-    let p : w.1.result ≡ w.2.result = omega (arith, w.3.left, w.4.left) in
-    let q : w.5.result ≡ w.6.result = omega (arith, w.7.left, w.8.left) in
-    (sym w.1.ensures ∙ p ∙ w.2.ensures, sym w.5.ensures ∙ q ∙ w.6.ensures))
-    (λ w. (ap quality w.left, ap soundness w.left))
-    c.if-class-other.branch
+    elim c.if-class-other.branch [
+      | then-class-other+else-other_good-good+else-good-other_good+else-other_sound-sound+else-sound-other_sound w ↦
+          let p : w.quality_of-good.result ≡ w.quality_of-other_good.result = omega (arith, w.if-other_good-good.false, w.if-good-other_good.false) in
+          let q : w.soundness_of-sound.result ≡ w.soundness_of-other_sound.result = omega (arith, w.if-other_sound-sound.false, w.if-sound-other_sound.false) in
+          (sym w.quality_of-good.ensures ∙ p ∙ w.quality_of-other_good.ensures, sym w.soundness_of-sound.ensures ∙ q ∙ w.soundness_of-other_sound.ensures)
+      | else-class-other w ↦ (ap quality w.if-class-other.false, ap soundness w.if-class-other.false)
+    ]
 
 pub returns-then-other_good-good : goal.returns-then-other_good-good
 returns-then-other_good-good c =

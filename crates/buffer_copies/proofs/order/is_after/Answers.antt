@@ -1,6 +1,5 @@
 use Rattle.buffer_copies.specs.Pairs.{after}
 use borrow.Author.Tests.{le-ltb, lt-ltb}
-use borrow.Author.Rules.{rules}
 use Rattle.buffer_copies.proofs.order.is_after.Goals as goal
 
 pub returns-then-distance-gt0 : goal.returns-then-distance-gt0

@@ -3,7 +3,6 @@ use Prim.Native.Nat.{Ordering}
 use Rattle.buffer_copies.proofs.InsertionLaws.{compare_is}
 use Rattle.buffer_copies.specs.Pairs.{order}
 use borrow.Author.Tests.{eq-eqb, ne_eqb}
-use borrow.Author.Rules.{rules}
 use Rattle.buffer_copies.proofs.order.side_of.Goals as goal
 
 pub returns-then-c-d : goal.returns-then-c-d

@@ -1,5 +1,4 @@
 use Rattle.buffer_copies.specs.Pairs.{ahead}
-use borrow.Author.Rules.{rules}
 use Rattle.buffer_copies.proofs.order.ticks_ahead.Goals as goal
 
 pub returns : goal.returns

@@ -1,13 +1,10 @@
 use Prim.Native.Nat.{◌-◌, ◌≤◌}
-use mathlib.Core.Path.{◌≡◌, refl, ◌∙◌, sym}
+use mathlib.Core.Path.{◌≡◌}
 use mathlib.Core.Bool.{cond, false}
 use lib.Dec.{eqb}
 use lib.ListN.{length, drop}
 use Rattle.buffer_copies.specs.Sizes.{slots}
 use Rattle.buffer_layout.specs.Columns.{zeros}
-use Rattle.buffer_layout.proofs.ColumnLaws.{zeros_end, zeros_more}
-use borrow.Author.Rules.{rules}
-use native.Mathlib.Omega.{arith}
 use Rattle.buffer_layout.proofs.columns.zero_from.Given as goal
 
 abbrev pub invariant-loop-i : goal.invariant-loop-i

@@ -3,8 +3,6 @@ use Prim.Native.Nat.{ℕ}
 use Rattle.row_tags.specs.Tags.{tag_class}
 use Rattle.frame_codes.specs.Allowed.{allowed, allowed_in}
 use Rattle.frame_codes.proofs.AllowedLaws.{allowed_in_lem}
-use borrow.Author.Tests.{not-true, not-false}
-use borrow.Author.Rules.{rules}
 use Rattle.buffer_layout.proofs.well_formed.class_fine.Goals.{After-is_allowed}
 use Rattle.buffer_layout.proofs.well_formed.class_fine.Goals as goal
 
@@ -16,8 +14,8 @@ allowed_at c =
 
 pub returns-then-not-is_allowed : goal.returns-then-not-is_allowed
 returns-then-not-is_allowed c =
-    rw (← (allowed_at (goal.at.returns-then-not-is_allowed c).After-is_allowed), not-true c.is_allowed.result c.if-not-is_allowed.true)
+    rw (← (allowed_at (goal.at.returns-then-not-is_allowed c).After-is_allowed), c.if-not-is_allowed.true)
 
 pub returns : goal.returns
 returns c =
-    rw (← (allowed_at (goal.at.returns c).After-is_allowed), not-false c.is_allowed.result c.if-not-is_allowed.false, ← c.tag_channel.ensures.0)
+    rw (← (allowed_at (goal.at.returns c).After-is_allowed), c.if-not-is_allowed.false, ← c.tag_channel.ensures.0)

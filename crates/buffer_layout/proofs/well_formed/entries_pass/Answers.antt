@@ -1,34 +1,19 @@
-use Prim.Native.Nat.{ℕ, ◌+◌, ◌-◌, ◌^◌, ◌≤◌, ◌<◌}
+use Prim.Native.Nat.{ℕ, ◌+◌, ◌^◌, ◌<◌}
 use lib.Dec.{eqb}
 use lib.ListN.{get_or}
-use Rattle.formats.specs.declared.facts.Format.{Format}
 use Rattle.row_tags.specs.Tags.{tag_channel}
 use mathlib.Core.Path.{◌≡◌, ◌∙◌, sym, ap, ap₂, subst}
-use native.Mathlib.Nat.{sub-zero}
 use native.Mathlib.Numerals.{add-one}
 use native.Mathlib.Omega.{arith}
-use borrow.Author.Rules.{rules}
-use Rattle.buffer_layout.specs.Checks.{base_of, position_of, entries_pass}
-use Rattle.buffer_layout.proofs.PositionLaws.{Told, turn_early, turn_far, turn_fine, told_next}
-use Rattle.buffer_layout.proofs.CheckLaws.{passed, failed, claimed_free, rest_fine, fine_end, fine_class, fine_turn, fine_taken, fine_more}
+use Rattle.buffer_layout.specs.Checks.{base_of, position_of}
+use Rattle.buffer_layout.proofs.PositionLaws.{turn_early, turn_far, turn_fine, told_next}
+use Rattle.buffer_layout.proofs.CheckLaws.{claimed_free, rest_fine, fine_end, fine_class, fine_turn, fine_taken, fine_more}
 use Rattle.buffer_layout.proofs.well_formed.entries_pass.Goals as goal
-
-pub loop-i-init : goal.loop-i-init
-loop-i-init c =
-    (search rules, rw sub-zero, c.start_of-least.ensures)
-
-pub class_fine-requires : goal.class_fine-requires
-class_fine-requires c =
-    ap (λ (f : Format). f.table) c.format_of-table.ensures
 
 pub returns-then-not-class_fine : goal.returns-then-not-class_fine
 returns-then-not-class_fine c =
     let l = c.loop-i in
-    sym (fine_class _ _ _ _ _ _ _ l.i l.seen (omega arith) (failed c.class_fine.ensures c.if-not-class_fine.true)) ∙ l.invariant.1
-
-pub position-at-requires : goal.position-at-requires
-position-at-requires c =
-    c.tag_channel.ensures.1
+    sym (fine_class _ _ _ _ _ _ _ l.i l.seen (omega arith) (sym c.class_fine.ensures ∙ c.if-not-class_fine.true)) ∙ l.invariant.1
 
 pub returns-then-at-least : goal.returns-then-at-least
 returns-then-at-least c =
@@ -38,7 +23,7 @@ returns-then-at-least c =
     let bo = c.base_of-base.ensures in
     let lb : base_of f (get_or a.times.now 0 0) < 2 ^ 32 = subst (λ (b : ℕ). b < 2 ^ 32) bo c.position-at.ensures.1 in
     let p : c.position-at.result ≡ position_of (base_of f (get_or a.times.now 0 0)) (get_or a.times.now l.i 0) (tag_channel (get_or a.tags.now l.i 0)) = c.position-at.ensures.0 ∙ ap₂ (λ (b d : ℕ). position_of b (get_or a.times.now l.i 0) d) bo c.tag_channel.ensures.0 in
-    sym (fine_turn _ _ _ _ _ _ _ l.i l.seen (omega arith) (passed c.class_fine.ensures c.if-not-class_fine.false)
+    sym (fine_turn _ _ _ _ _ _ _ l.i l.seen (omega arith) (sym c.class_fine.ensures ∙ c.if-not-class_fine.false)
     (turn_early (eqb f.drawn 0) f.last_time f.last_channel a.times.now a.tags.now c.requires.1 lb l.i l.least c.position-at.result l.invariant.2 c.position-at.ensures.2 p c.if-at-least.true)) ∙ l.invariant.1
 
 pub returns-then-at-ge-STRETCH : goal.returns-then-at-ge-STRETCH
@@ -49,16 +34,8 @@ returns-then-at-ge-STRETCH c =
     let bo = c.base_of-base.ensures in
     let lb : base_of f (get_or a.times.now 0 0) < 2 ^ 32 = subst (λ (b : ℕ). b < 2 ^ 32) bo c.position-at.ensures.1 in
     let p : c.position-at.result ≡ position_of (base_of f (get_or a.times.now 0 0)) (get_or a.times.now l.i 0) (tag_channel (get_or a.tags.now l.i 0)) = c.position-at.ensures.0 ∙ ap₂ (λ (b d : ℕ). position_of b (get_or a.times.now l.i 0) d) bo c.tag_channel.ensures.0 in
-    sym (fine_turn _ _ _ _ _ _ _ l.i l.seen (omega arith) (passed c.class_fine.ensures c.if-not-class_fine.false)
+    sym (fine_turn _ _ _ _ _ _ _ l.i l.seen (omega arith) (sym c.class_fine.ensures ∙ c.if-not-class_fine.false)
     (turn_far (eqb f.drawn 0) f.last_time f.last_channel a.times.now a.tags.now c.requires.1 lb l.i l.least c.position-at.result l.invariant.2 c.position-at.ensures.2 p (omega (arith, c.if-at-ge-STRETCH.true)))) ∙ l.invariant.1
-
-pub overflow_add-least : goal.overflow_add-least
-overflow_add-least c =
-    omega (arith, c.if-at-ge-STRETCH.false)
-
-pub overflow_cast-slot : goal.overflow_cast-slot
-overflow_cast-slot c =
-    omega (arith, c.shared_slice_known-1.given c.loop-i.i)
 
 pub returns-then-not-claim : goal.returns-then-not-claim
 returns-then-not-claim c =
@@ -68,8 +45,8 @@ returns-then-not-claim c =
     let bo = c.base_of-base.ensures in
     let lb : base_of f (get_or a.times.now 0 0) < 2 ^ 32 = subst (λ (b : ℕ). b < 2 ^ 32) bo c.position-at.ensures.1 in
     let p : c.position-at.result ≡ position_of (base_of f (get_or a.times.now 0 0)) (get_or a.times.now l.i 0) (tag_channel (get_or a.tags.now l.i 0)) = c.position-at.ensures.0 ∙ ap₂ (λ (b d : ℕ). position_of b (get_or a.times.now l.i 0) d) bo c.tag_channel.ensures.0 in
-    sym (fine_taken _ _ _ _ _ _ _ l.i l.seen (omega arith) (passed c.class_fine.ensures c.if-not-class_fine.false)
-    (turn_fine (eqb f.drawn 0) f.last_time f.last_channel a.times.now a.tags.now c.requires.1 lb l.i l.least c.position-at.result l.invariant.2 c.position-at.ensures.2 p c.if-at-least.false (omega (arith, c.if-at-ge-STRETCH.false))) (failed c.claim.ensures.0 c.if-not-claim.true)) ∙ l.invariant.1
+    sym (fine_taken _ _ _ _ _ _ _ l.i l.seen (omega arith) (sym c.class_fine.ensures ∙ c.if-not-class_fine.false)
+    (turn_fine (eqb f.drawn 0) f.last_time f.last_channel a.times.now a.tags.now c.requires.1 lb l.i l.least c.position-at.result l.invariant.2 c.position-at.ensures.2 p c.if-at-least.false (omega (arith, c.if-at-ge-STRETCH.false))) (sym c.claim.ensures.value ∙ c.if-not-claim.true)) ∙ l.invariant.1
 
 pub loop-i-preserved : goal.loop-i-preserved
 loop-i-preserved c =
@@ -79,10 +56,10 @@ loop-i-preserved c =
     let bo = c.base_of-base.ensures in
     let lb : base_of f (get_or a.times.now 0 0) < 2 ^ 32 = subst (λ (b : ℕ). b < 2 ^ 32) bo c.position-at.ensures.1 in
     let p : c.position-at.result ≡ position_of (base_of f (get_or a.times.now 0 0)) (get_or a.times.now l.i 0) (tag_channel (get_or a.tags.now l.i 0)) = c.position-at.ensures.0 ∙ ap₂ (λ (b d : ℕ). position_of b (get_or a.times.now l.i 0) d) bo c.tag_channel.ensures.0 in
-    let g = passed c.claim.ensures.0 c.if-not-claim.false in (
+    let g = sym c.claim.ensures.value ∙ c.if-not-claim.false in (
       omega arith,
-      ap (rest_fine a.times.now a.tags.now a.lengths.now a.slots.now a.occupied a.fixed a.n (l.i + 1)) (c.claim.ensures.1 ∙ claimed_free l.seen _ g)
-          ∙ sym (fine_more _ _ _ _ _ _ _ l.i l.seen (omega arith) (passed c.class_fine.ensures c.if-not-class_fine.false)
+      ap (rest_fine a.times.now a.tags.now a.lengths.now a.slots.now a.occupied a.fixed a.n (l.i + 1)) (c.claim.ensures.words_after ∙ claimed_free l.seen _ g)
+          ∙ sym (fine_more _ _ _ _ _ _ _ l.i l.seen (omega arith) (sym c.class_fine.ensures ∙ c.if-not-class_fine.false)
           (turn_fine (eqb f.drawn 0) f.last_time f.last_channel a.times.now a.tags.now c.requires.1 lb l.i l.least c.position-at.result l.invariant.2 c.position-at.ensures.2 p c.if-at-least.false (omega (arith, c.if-at-ge-STRETCH.false))) g) ∙ l.invariant.1,
       rw (add-one l.i) (told_next (eqb f.drawn 0) f.last_time f.last_channel a.times.now a.tags.now c.requires.1 lb l.i l.least c.position-at.result l.invariant.2 c.position-at.ensures.2 p c.if-at-least.false (omega (arith, c.if-at-ge-STRETCH.false))),
     )

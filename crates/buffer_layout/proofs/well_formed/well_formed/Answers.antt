@@ -1,23 +1,16 @@
-use borrow.Author.Tests.{not-false}
 use mathlib.Core.Path.{◌∙◌, sym}
-use Rattle.buffer_layout.proofs.CheckLaws.{passed, failed}
 use Rattle.buffer_layout.proofs.PassLaws.{last_not, rest_not, formed_entries}
-use borrow.Author.Rules.{rules}
 use Rattle.buffer_layout.proofs.well_formed.well_formed.Goals as goal
 
 pub returns-then-not-last_kept : goal.returns-then-not-last_kept
 returns-then-not-last_kept c =
-    sym (last_not _ _ _ _ _ _ (failed c.last_kept.ensures.0 c.if-not-last_kept.true))
+    sym (last_not _ _ _ _ _ _ (sym c.last_kept.ensures.0 ∙ c.if-not-last_kept.true))
 
 pub returns-then-not-unused_zero : goal.returns-then-not-unused_zero
 returns-then-not-unused_zero c =
-    sym (rest_not _ _ _ _ _ _ _ c.held_in-n.ensures.0 (passed c.last_kept.ensures.0 c.if-not-last_kept.false) (failed c.unused_zero.ensures c.if-not-unused_zero.true))
-
-pub entries_pass-requires : goal.entries_pass-requires
-entries_pass-requires c =
-    (search rules, c.last_kept.ensures.1 (not-false _ c.if-not-last_kept.false))
+    sym (rest_not _ _ _ _ _ _ _ c.held_in-n.ensures.0 (sym c.last_kept.ensures.0 ∙ c.if-not-last_kept.false) (sym c.unused_zero.ensures ∙ c.if-not-unused_zero.true))
 
 pub returns : goal.returns
 returns c =
     c.entries_pass.ensures
-    ∙ sym (formed_entries _ _ _ _ _ _ _ c.held_in-n.ensures.0 (passed c.last_kept.ensures.0 c.if-not-last_kept.false) (passed c.unused_zero.ensures c.if-not-unused_zero.false))
+    ∙ sym (formed_entries _ _ _ _ _ _ _ c.held_in-n.ensures.0 (sym c.last_kept.ensures.0 ∙ c.if-not-last_kept.false) (sym c.unused_zero.ensures ∙ c.if-not-unused_zero.false))

@@ -2,15 +2,10 @@ use Prim.Native.Nat.{◌/◌, ◌%◌}
 use mathlib.Core.Path.{◌≡◌, ◌∙◌, sym}
 use native.Mathlib.Omega.{arith}
 use lib.ListN.{get_or}
-use borrow.Author.Tests.{lt-ltb, le-ltb, eq-eqb, ne_eqb}
+use borrow.Author.Tests.{lt-ltb, eq-eqb, ne_eqb}
 use Rattle.buffer_slots.specs.Bits.{mark_of}
 use Rattle.buffer_slots.proofs.BitLaws.{bit_shift}
-use borrow.Author.Rules.{rules}
 use Rattle.buffer_slots.proofs.bits.claim.Goals as goal
-
-pub returns-then-slot-ge-SLOTS : goal.returns-then-slot-ge-SLOTS
-returns-then-slot-ge-SLOTS c =
-    (rw (le-ltb _ _ c.if-slot-ge-SLOTS.true), rw (le-ltb _ _ c.if-slot-ge-SLOTS.true))
 
 pub with_bit-requires : goal.with_bit-requires
 with_bit-requires c =
@@ -21,10 +16,10 @@ pub returns-then-shifted-eq0 : goal.returns-then-shifted-eq0
 returns-then-shifted-eq0 c =
     let a = c.args in
     let z = sym (bit_shift (a.slot % 64) (get_or a.words.now (a.slot / 64) 0)) ∙ c.if-shifted-eq0.true in
-    (rw (lt-ltb _ _ c.if-slot-ge-SLOTS.false, eq-eqb _ _ z), rw (lt-ltb _ _ c.if-slot-ge-SLOTS.false, eq-eqb _ _ z, c.with_bit.ensures))
+    record { value = rw (lt-ltb _ _ c.if-slot-ge-SLOTS.false, eq-eqb _ _ z); words_after = rw (lt-ltb _ _ c.if-slot-ge-SLOTS.false, eq-eqb _ _ z, c.with_bit.ensures) }
 
 pub returns : goal.returns
 returns c =
     let a = c.args in
     let z : mark_of a.words.now a.slot ≡ 0 → ⊥ = λ h. c.if-shifted-eq0.false (bit_shift (a.slot % 64) (get_or a.words.now (a.slot / 64) 0) ∙ h) in
-    (rw (lt-ltb _ _ c.if-slot-ge-SLOTS.false, ne_eqb _ _ z), rw (lt-ltb _ _ c.if-slot-ge-SLOTS.false, ne_eqb _ _ z))
+    record { value = rw (lt-ltb _ _ c.if-slot-ge-SLOTS.false, ne_eqb _ _ z); words_after = rw (lt-ltb _ _ c.if-slot-ge-SLOTS.false, ne_eqb _ _ z) }

@@ -1,5 +1,4 @@
 use Rattle.buffer_slots.proofs.BitLaws.{low_1, low_2, low_3}
-use borrow.Author.Rules.{rules}
 use Rattle.buffer_slots.proofs.bits.lowest_free.Goals as goal
 
 pub returns-then-first-lt64 : goal.returns-then-first-lt64

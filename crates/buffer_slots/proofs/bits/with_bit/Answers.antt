@@ -1,5 +1,4 @@
 use Rattle.buffer_slots.proofs.BitLaws.{add_lt}
-use borrow.Author.Rules.{rules}
 use Rattle.buffer_slots.proofs.bits.with_bit.Goals as goal
 
 pub overflow_add-result : goal.overflow_add-result

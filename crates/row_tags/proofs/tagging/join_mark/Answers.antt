@@ -1,6 +1,5 @@
 use native.Mathlib.Omega.{arith}
 use Rattle.row_tags.proofs.TagLaws.{joined_other, joined_own}
-use borrow.Author.Rules.{rules}
 use Rattle.row_tags.proofs.tagging.join_mark.Goals as goal
 
 pub returns-then-tag_mark-eq0 : goal.returns-then-tag_mark-eq0

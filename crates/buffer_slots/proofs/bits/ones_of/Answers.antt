@@ -1,7 +1,0 @@
-use mathlib.Core.Path.{refl}
-use lib.Count.{ones-le}
-use Rattle.buffer_slots.proofs.bits.ones_of.Goals as goal
-
-pub returns : goal.returns
-returns c =
-    (refl, ones-le 64 c.args.word c.ranges.word.fits)
