@@ -6,4 +6,4 @@ use Rattle.report.proofs.calls.block_of.Goals as goal
 pub returns : goal.returns
 unfolding block_of
 returns c =
-    rw (c.fraction_lost.ensures, same c.cumulative_lost.result (record { sfits = c.cumulative_lost.type-inv }), c.cumulative_lost.ensures, c.extended_highest.ensures)
+    rw (c.fraction_lost.ensures, same c.cumulative_lost.result (record { sfits = c.cumulative_lost.type_inv }), c.cumulative_lost.ensures, c.extended_highest.ensures)

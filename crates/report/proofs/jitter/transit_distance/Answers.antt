@@ -8,4 +8,4 @@ use Rattle.report.proofs.jitter.transit_distance.Goals as goal
 pub returns : goal.returns
 unfolding distance
 returns c =
-    rw (← c.difference.ensures, ← c.as_signed.ensures) (c.size.ensures ∙ ap nat_abs (same c.as_signed.result (record { sfits = c.as_signed.type-inv })))
+    rw (← c.difference.ensures, ← c.as_signed.ensures) (c.size.ensures ∙ ap nat_abs (same c.as_signed.result (record { sfits = c.as_signed.type_inv })))
