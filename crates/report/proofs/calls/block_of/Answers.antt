@@ -1,6 +1,5 @@
 use Rattle.report.specs.Calls.{block_of}
 use Rattle.report_loss.proofs.SignedLaws.{same}
-use borrow.Author.Rules.{rules}
 use Rattle.report.proofs.calls.block_of.Goals as goal
 
 pub returns : goal.returns

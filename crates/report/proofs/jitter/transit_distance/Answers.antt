@@ -2,7 +2,6 @@ use mathlib.Core.Path.{ap, ◌∙◌}
 use lib.IntN.{nat_abs}
 use Rattle.report_loss.proofs.SignedLaws.{same}
 use Rattle.report.specs.Jitter.{distance}
-use borrow.Author.Rules.{rules}
 use Rattle.report.proofs.jitter.transit_distance.Goals as goal
 
 pub returns : goal.returns
