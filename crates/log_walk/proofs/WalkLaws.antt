@@ -43,14 +43,14 @@ unfolding walk_by
 enough zero k st count s h g = absurd (omega arith)
 enough (suc j) zero st count s h g = absurd (omega arith)
 enough (suc j) (suc k) st count s h g =
-    onward_same _ _ s (next_field st count s) (next_inside st count s)
+    onward_same (walk_by j st count) (walk_by k st count) s (next_field st count s) (next_inside st count s)
     (λ m a b. enough j k st count (drop m s) (rw length-drop (omega arith)) (rw length-drop (omega arith)))
 
 -- the field at the front, and the walk behind it
 pub walk_on : (st : Settings) (count : ℕ) (s : List ℕ) → walk st count s ≡ onward (walk st count) s (next_field st count s)
 unfolding walk walk_by
 walk_on st count s =
-    onward_same _ _ s (next_field st count s) (next_inside st count s)
+    onward_same (walk_by (length s) st count) (walk st count) s (next_field st count s) (next_inside st count s)
     (λ m a b. enough (length s) (suc (length (drop m s))) st count (drop m s) (rw length-drop (omega arith)) (omega arith))
 
 pub walk_next : (st : Settings) (count : ℕ) (s : List ℕ) (x : Next) → next_field st count s ≡ x → walk st count s ≡ onward (walk st count) s x

@@ -6,7 +6,6 @@ use Rattle.rtp.specs.Refusals.{number}
 use Rattle.rtp.specs.declared.settings.Settings.{Settings}
 use Rattle.rtp.specs.declared.refusal.Refusal.TheVariants.{CutField, MisplacedTag, NotAllowed}
 use Rattle.log_fields.specs.declared.fields.Field.{Field}
-use Rattle.log_fields.specs.declared.fields.FieldHead.{FieldHead}
 use Rattle.log_walk.specs.declared.opening.Cursor.{Cursor}
 use Rattle.log_walk.specs.declared.opening.OpenAnswer.{OpenAnswer}
 use Rattle.log_fields.specs.Fields.{settings_tag, settings_size, first_size, field_of, settings_in}

@@ -1,16 +1,13 @@
 -- Document 02, P3: a step from a record's place to the next frame, the end, or the first field at fault. Within a field the order is 18, 17, 19, 20.
-use Rattle.std.specs.Prelude.{ℕ, zero, suc, ◌+◌, ◌-◌, List, Bool, true, false, cond, ◌&&◌, length, drop, ltb, leb, eqb}
+use Rattle.std.specs.Prelude.{ℕ, zero, suc, ◌+◌, ◌-◌, List, Bool, false, cond, length, drop, ltb, leb, eqb}
 use Rattle.rtp.specs.Editions.{Edition}
 use Rattle.rtp.specs.Numbers.{byte_at, be32}
 use Rattle.rtp.specs.Ranges.{in_range}
 use Rattle.rtp.specs.Refusals.{number}
 use Rattle.rtp.specs.Faults.{fault, fault_at, shifted}
 use Rattle.rtp.specs.declared.settings.Settings.{Settings}
-use Rattle.rtp.specs.declared.refusal.Fault.{Fault}
 use Rattle.rtp.specs.declared.refusal.Refusal.TheVariants.{SettingsOutOfRange, Malformed, CutField, MisplacedTag, NotAllowed, WrongCount}
 use Rattle.log_fields.specs.declared.fields.Field.{Field}
-use Rattle.log_fields.specs.declared.fields.FieldHead.{FieldHead}
-use Rattle.log_walk.specs.declared.frames.Shown.{Shown}
 use Rattle.log_walk.specs.declared.frames.Next.{Next}
 use Rattle.log_walk.specs.declared.opening.Cursor.{Cursor}
 use Rattle.log_walk.specs.declared.stepping.StepAnswer.{StepAnswer}

@@ -1,12 +1,12 @@
 -- The calls, case by case.
-use mathlib.Core.Path.{◌≡◌, refl, sym}
-use mathlib.Core.Bool.{Bool, true, false, not, cond}
+use mathlib.Core.Path.{◌≡◌}
+use mathlib.Core.Bool.{true, false, cond}
 use Prim.Native.Nat.{ℕ, ◌≤◌}
 use lib.Dec.{ltb}
 use borrow.Author.Tests.{ltb-false, eq-eqb, ne_eqb}
 use Rattle.rtp.specs.Time.{difference}
 use Rattle.rtp.specs.declared.refusal.Refusal.TheVariants.{Malformed}
-use Rattle.rtp.proofs.TestLaws.{either, not-both}
+use Rattle.rtp.proofs.TestLaws.{either}
 use Rattle.report_sequence.specs.Sizes.{min_sequential}
 use Rattle.report.specs.Sizes.{max_sum}
 use Rattle.report.specs.declared.record.Reception.{Reception}
@@ -17,15 +17,6 @@ use Rattle.report_loss.specs.Report.{noted}
 use Rattle.report.specs.Jitter.{arrived}
 use Rattle.report.specs.WellFormed.{well_formed}
 use Rattle.report.specs.Calls.{with_counts, packet_numbers, packet_judged, packet_call, no_block, block_numbers, report_numbers, block_of, report_call}
-
--- the answer r of a test t, negated
-pub passed : (r t : Bool) → r ≡ t → not r ≡ false → t ≡ true
-passed true t e h = sym e
-passed false t e h = not-both true refl h
-
-pub failed : (r t : Bool) → r ≡ t → not r ≡ true → t ≡ false
-failed true t e h = not-both false h refl
-failed false t e h = sym e
 
 -- a record that is taken
 pub sum_bounded : (r : Reception) → well_formed r ≡ true → r.jitter ≤ max_sum

@@ -1,5 +1,4 @@
 use Rattle.c_log_answers.proofs.LogAnswerLaws.{unwritten_log, written_log}
-use borrow.Author.Rules.{rules}
 use Rattle.c_log_answers.proofs.log_answers.log_written_fields.Goals as goal
 
 pub returns-in-Refused : goal.returns-in-Refused

@@ -1,5 +1,4 @@
 use Rattle.c_log_answers.proofs.LogAnswerLaws.{opened_refused}
-use borrow.Author.Rules.{rules}
 use Rattle.c_log_answers.proofs.log_answers.opened_number.Goals as goal
 
 pub returns-in-Refused : goal.returns-in-Refused

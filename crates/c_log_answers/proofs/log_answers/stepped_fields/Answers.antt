@@ -1,5 +1,4 @@
 use Rattle.c_log_answers.proofs.LogAnswerLaws.{stepped_frame, stepped_end, stepped_refused}
-use borrow.Author.Rules.{rules}
 use Rattle.c_log_answers.proofs.log_answers.stepped_fields.Goals as goal
 
 pub returns-in-Frame : goal.returns-in-Frame

@@ -6,7 +6,6 @@ use Rattle.rtp.proofs.ByteLaws.{read_two}
 use Rattle.log_fields.specs.declared.fields.Field.{Field}
 use Rattle.log_fields.specs.Fields.{content_length, field_numbers}
 use Rattle.log_fields.proofs.FieldLaws.{field_stopped, field_cut_head, field_cut, field_whole}
-use borrow.Author.Rules.{rules}
 use Rattle.log_fields.proofs.fields.field_of.Goals.{After-read_u16-length}
 use Rattle.log_fields.proofs.fields.field_of.Goals as goal
 

@@ -1,5 +1,4 @@
 use borrow.Author.Tests.{lt-ltb, le-ltb}
-use borrow.Author.Rules.{rules}
 use Rattle.log_fields.proofs.fields.frame_fits.Goals as goal
 
 pub returns-then-channel-settings : goal.returns-then-channel-settings

@@ -3,7 +3,6 @@ use native.Mathlib.Omega.{arith}
 use Rattle.rtp.specs.Numbers.{be32}
 use Rattle.rtp.proofs.ByteLaws.{read_four}
 use Rattle.log_walk.proofs.FieldLaws.{end_length, end_count, end_last, end_more}
-use borrow.Author.Rules.{rules}
 use Rattle.log_walk.proofs.frames.end_field.Goals.{After-read_u32}
 use Rattle.log_walk.proofs.frames.end_field.Goals as goal
 

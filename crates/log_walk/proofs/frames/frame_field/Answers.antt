@@ -5,20 +5,11 @@ use Rattle.rtp.specs.Numbers.{byte_at}
 use Rattle.rtp.proofs.ByteLaws.{read_four}
 use Rattle.log_walk.specs.declared.frames.Next.{Next}
 use Rattle.log_walk.proofs.FieldLaws.{frame_short, frame_allowed_lem, frame_refused}
-use borrow.Author.Rules.{rules}
 use Rattle.log_walk.proofs.frames.frame_field.Goals as goal
 
 pub returns-then-content-lt-FRAME_HEAD : goal.returns-then-content-lt-FRAME_HEAD
 returns-then-content-lt-FRAME_HEAD c =
     c.refuse.ensures ∙ sym (frame_short _ _ _ c.if-content-lt-FRAME_HEAD.true)
-
-pub overflow_cast-channel : goal.overflow_cast-channel
-overflow_cast-channel c =
-    omega (arith, c.shared_slice_known-3-1.given 7)
-
-pub overflow_cast-class : goal.overflow_cast-class
-overflow_cast-class c =
-    omega (arith, c.shared_slice_known-3-1.given 8)
 
 pub returns-then-frame_fits : goal.returns-then-frame_fits
 returns-then-frame_fits c =

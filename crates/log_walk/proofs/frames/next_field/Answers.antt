@@ -5,7 +5,6 @@ use Rattle.log_fields.specs.Fields.{field_of}
 use Rattle.log_fields.proofs.FieldLaws.{whole_inside}
 use Rattle.log_fields.proofs.NumberLaws.{same_field}
 use Rattle.log_walk.proofs.FieldLaws.{next_by_lem}
-use borrow.Author.Rules.{rules}
 use Rattle.log_walk.proofs.frames.next_field.Goals.{In-Cut, In-Whole}
 use Rattle.log_walk.proofs.frames.next_field.Goals as goal
 

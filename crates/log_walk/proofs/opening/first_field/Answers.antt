@@ -6,7 +6,6 @@ use Rattle.log_fields.specs.Fields.{field_of}
 use Rattle.log_fields.proofs.FieldLaws.{whole_inside}
 use Rattle.log_fields.proofs.NumberLaws.{same_field}
 use Rattle.log_walk.proofs.FieldLaws.{opening_by}
-use borrow.Author.Rules.{rules}
 use Rattle.log_walk.proofs.opening.first_field.Goals.{In-Cut, In-Whole}
 use Rattle.log_walk.proofs.opening.first_field.Goals as goal
 

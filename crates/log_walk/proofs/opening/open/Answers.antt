@@ -4,7 +4,6 @@ use Rattle.log_walk.specs.declared.opening.OpenAnswer.{OpenAnswer}
 use Rattle.log_walk.specs.Opening.{open_numbers}
 use Rattle.log_walk.specs.declared.opening.Cursor.{Cursor}
 use Rattle.log_walk.proofs.FieldLaws.{open_as}
-use borrow.Author.Rules.{rules}
 use Rattle.log_walk.proofs.opening.open.Goals as goal
 
 pub returns-in-Opened : goal.returns-in-Opened

@@ -5,7 +5,6 @@ use Rattle.rtp.specs.Ranges.{in_range}
 use Rattle.log_fields.specs.Fields.{settings_in}
 use Rattle.log_walk.specs.declared.opening.OpenAnswer.{OpenAnswer}
 use Rattle.log_walk.proofs.FieldLaws.{settings_length, settings_in_range, settings_out_of_range}
-use borrow.Author.Rules.{rules}
 use Rattle.log_walk.proofs.opening.settings_field.Goals.{After-in_range}
 use Rattle.log_walk.proofs.opening.settings_field.Goals as goal
 

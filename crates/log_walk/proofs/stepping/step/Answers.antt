@@ -4,7 +4,6 @@ use Rattle.rtp.specs.Editions.{current}
 use Rattle.log_walk.specs.declared.stepping.StepAnswer.{StepAnswer}
 use Rattle.log_walk.specs.Stepping.{step}
 use Rattle.log_walk.proofs.WalkLaws.{shown_inside, step_as}
-use borrow.Author.Rules.{rules}
 use Rattle.log_walk.proofs.stepping.step.Goals.{In-Frame}
 use Rattle.log_walk.proofs.stepping.step.Goals as goal
 

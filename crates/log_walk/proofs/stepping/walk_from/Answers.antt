@@ -1,5 +1,5 @@
-use mathlib.Core.Path.{◌≡◌, refl, sym, ap, subst, ◌∙◌}
-use Prim.Native.Nat.{◌-◌, ◌≤◌}
+use mathlib.Core.Path.{◌≡◌, sym, ap, subst, ◌∙◌}
+use Prim.Native.Nat.{◌-◌}
 use native.Mathlib.Omega.{arith}
 use lib.ListN.{length, drop, length-drop}
 use Rattle.rtp.proofs.AreaLaws.{part_to_end}
@@ -7,71 +7,61 @@ use Rattle.log_walk.specs.declared.frames.Next.{Next}
 use Rattle.log_walk.specs.Stepping.{next_field, further, onward, walk}
 use Rattle.log_walk.proofs.FieldLaws.{NextInside, next_inside}
 use Rattle.log_walk.proofs.WalkLaws.{walk_next, walk_pass}
-use borrow.Author.Rules.{rules}
+use Rattle.log_walk.proofs.stepping.walk_from.Goals.{After-next_field}
 use Rattle.log_walk.proofs.stepping.walk_from.Goals as goal
 
 -- the field at the place, its places inside what is left of the log
-found : (c : tie.After-next-field invariant_loop decreases_loop) (x : Next) → c.next_field.result ≡ x
-    → let l = turn_of c in
-    let a = l.before.before.args in
-    next_field a.settings a.count (drop l.loop.at a.log.now) ≡ x
+found : (c : After-next_field) (x : Next) → c.next_field.result ≡ x
+    → let a = c.args in next_field a.settings a.count (drop c.loop-f.at a.log.now) ≡ x
 found c x e =
-    let l = turn_of c in
-    let a = l.before.before.args in
-    ap (next_field a.settings a.count) (sym (part_to_end l.loop.at a.log.now)) ∙ sym c.next_field.ensures ∙ e
+    let a = c.args in
+    ap (next_field a.settings a.count) (sym (part_to_end c.loop-f.at a.log.now)) ∙ sym c.next_field.ensures ∙ e
 
-inside : (c : tie.After-next-field invariant_loop decreases_loop) (x : Next) → c.next_field.result ≡ x
-    → let l = turn_of c in NextInside (length l.before.before.args.log.now - l.loop.at) x
+inside : (c : After-next_field) (x : Next) → c.next_field.result ≡ x → NextInside (length c.args.log.now - c.loop-f.at) x
 inside c x e =
-    let l = turn_of c in
-    let a = l.before.before.args in
-    rw (← length-drop l.loop.at a.log.now) (subst (NextInside (length (drop l.loop.at a.log.now))) (found c x e) (next_inside a.settings a.count (drop l.loop.at a.log.now)))
+    let a = c.args in
+    rw (← length-drop c.loop-f.at a.log.now)
+    (subst (NextInside (length (drop c.loop-f.at a.log.now))) (found c x e) (next_inside a.settings a.count (drop c.loop-f.at a.log.now)))
 
 -- the answer, where the field is not passed over
-answered : (c : tie.After-next-field invariant_loop decreases_loop) (x : Next) → c.next_field.result ≡ x
-    → let l = turn_of c in
-    let a = l.before.before.args in
-    further l.loop.at (onward (walk a.settings a.count) (drop l.loop.at a.log.now) x)
+answered : (c : After-next_field) (x : Next) → c.next_field.result ≡ x
+    → let a = c.args in
+    further c.loop-f.at (onward (walk a.settings a.count) (drop c.loop-f.at a.log.now) x)
     ≡ further a.place (walk a.settings a.count (drop a.place a.log.now))
 answered c x e =
-    let l = turn_of c in
-    let a = l.before.before.args in
-    ap (further l.loop.at) (sym (walk_next a.settings a.count (drop l.loop.at a.log.now) x (found c x e))) ∙ l.loop.inv.1
-
-pub loop-f-init : goal.loop-f-init
-loop-f-init c =
-    (c.requires, refl)
+    let a = c.args in
+    ap (further c.loop-f.at) (sym (walk_next a.settings a.count (drop c.loop-f.at a.log.now) x (found c x e))) ∙ c.loop-f.invariant.1
 
 pub overflow_add-result : goal.overflow_add-result
 overflow_add-result c =
-    let i = inside c _ c.in-Frame.is in omega (arith, i.1)
+    let i = inside (goal.at.overflow_add-result c).After-next_field _ c.in-Frame.is in omega (arith, i.1)
 
 pub overflow_add-at : goal.overflow_add-at
 overflow_add-at c =
-    let i = inside c _ c.in-Pass.is in omega (arith, i.1)
+    let i = inside (goal.at.overflow_add-at c).After-next_field _ c.in-Pass.is in omega (arith, i.1)
 
 pub loop-f-smaller : goal.loop-f-smaller
 loop-f-smaller c =
-    let i = inside c _ c.in-Pass.is in omega (arith, i.0, i.1)
+    let i = inside (goal.at.loop-f-smaller c).After-next_field _ c.in-Pass.is in omega (arith, i.0, i.1)
 
 pub loop-f-preserved : goal.loop-f-preserved
 loop-f-preserved c =
-    let i = inside c _ c.in-Pass.is in
-    let l = (c) in
-    (omega (arith, i.1), sym (walk_pass _ _ l.loop.at _ _ (found c _ c.in-Pass.is)) ∙ l.loop.inv.1)
+    let a = (goal.at.loop-f-preserved c).After-next_field in
+    let i = inside a _ c.in-Pass.is in
+    (omega (arith, i.1), sym (walk_pass _ _ c.loop-f.at _ _ (found a _ c.in-Pass.is)) ∙ c.loop-f.invariant.1)
 
 pub overflow_add-result-in-Refused : goal.overflow_add-result-in-Refused
 overflow_add-result-in-Refused c =
-    let i = inside c _ c.in-Refused.is in omega (arith, i)
+    let i = inside (goal.at.overflow_add-result-in-Refused c).After-next_field _ c.in-Refused.is in omega (arith, i)
 
 pub returns-in-Frame : goal.returns-in-Frame
 returns-in-Frame c =
-    answered c _ c.in-Frame.is
+    answered (goal.at.returns-in-Frame c).After-next_field _ c.in-Frame.is
 
 pub returns-in-End : goal.returns-in-End
 returns-in-End c =
-    answered c _ c.in-End.is
+    answered (goal.at.returns-in-End c).After-next_field _ c.in-End.is
 
 pub returns-in-Refused : goal.returns-in-Refused
 returns-in-Refused c =
-    answered c _ c.in-Refused.is
+    answered (goal.at.returns-in-Refused c).After-next_field _ c.in-Refused.is

@@ -1,13 +1,7 @@
-use mathlib.Core.Path.{◌≡◌, refl, sym, ap, subst, ◌∙◌}
+use mathlib.Core.Path.{◌≡◌}
 use Prim.Native.Nat.{◌-◌, ◌≤◌}
-use native.Mathlib.Omega.{arith}
-use lib.ListN.{length, drop, length-drop}
-use Rattle.rtp.proofs.AreaLaws.{part_to_end}
-use Rattle.log_walk.specs.declared.frames.Next.{Next}
-use Rattle.log_walk.specs.Stepping.{next_field, further, onward, walk}
-use Rattle.log_walk.proofs.FieldLaws.{NextInside, next_inside}
-use Rattle.log_walk.proofs.WalkLaws.{walk_next, walk_pass}
-use borrow.Author.Rules.{rules}
+use lib.ListN.{length, drop}
+use Rattle.log_walk.specs.Stepping.{further, walk}
 use Rattle.log_walk.proofs.stepping.walk_from.Given as goal
 
 abbrev pub invariant-loop-f : goal.invariant-loop-f

@@ -1,4 +1,3 @@
-use borrow.Author.Rules.{rules}
 use Rattle.log_writer.proofs.FieldBytesLaws.{end_laid}
 use Rattle.log_writer.proofs.field_bytes.lay_end.Goals as goal
 

@@ -1,4 +1,3 @@
-use borrow.Author.Rules.{rules}
 use lib.ListN.{length}
 use Rattle.rtp.specs.declared.refusal.Refusal.TheVariants.{AreaTooShort, NotAllowed}
 use Rattle.log_writer.specs.FieldBytes.{end_bytes}

@@ -1,9 +1,7 @@
-use borrow.Author.Rules.{rules}
 use mathlib.Core.Path.{◌≡◌, sym, ◌∙◌}
 use mathlib.Core.Bool.{true}
 use native.Mathlib.Omega.{arith}
 use lib.ListN.{length}
-use borrow.Author.Tests.{not-true, not-false}
 use Rattle.rtp.specs.Editions.{current}
 use Rattle.rtp.specs.Ranges.{in_range}
 use Rattle.rtp.specs.declared.refusal.Refusal.TheVariants.{SettingsOutOfRange, AreaTooShort, NotAllowed}
@@ -15,21 +13,21 @@ use Rattle.log_writer.proofs.field_bytes.put_frame.Goals as goal
 
 ranged : (c : Else-not-in_range) → in_range current c.args.asked ≡ true
 ranged c =
-    sym c.in_range.ensures ∙ not-false _ c.if-not-in_range.false
+    sym c.in_range.ensures ∙ c.if-not-in_range.false
 
 fits : (c : Else-not-frame_fits) → let a = c.args in frame_fits a.asked a.channel a.class (length a.frame.now) ≡ true
 fits c =
-    sym c.frame_fits.ensures ∙ not-false _ c.if-not-frame_fits.false
+    sym c.frame_fits.ensures ∙ c.if-not-frame_fits.false
 
 small : (c : Else-not-frame_fits) → let a = c.args in SmallFrame a.asked a.channel a.class (length a.frame.now)
 small c =
-    let fits : let a = c.args in frame_fits a.asked a.channel a.class (length a.frame.now) ≡ true = sym c.frame_fits.ensures ∙ not-false _ c.if-not-frame_fits.false in
+    let fits : let a = c.args in frame_fits a.asked a.channel a.class (length a.frame.now) ≡ true = sym c.frame_fits.ensures ∙ c.if-not-frame_fits.false in
     let a = c.args in fits_small a.asked a.channel a.class (length a.frame.now) (fits)
 
 pub returns-then-not-in_range : goal.returns-then-not-in_range
 returns-then-not-in_range c =
     let a = c.args in
-    none_put _ SettingsOutOfRange a.out.now (frame_refused current a.asked a.time a.channel a.class a.frame.now (length a.out.now) (sym c.in_range.ensures ∙ not-true _ c.if-not-in_range.true))
+    none_put _ SettingsOutOfRange a.out.now (frame_refused current a.asked a.time a.channel a.class a.frame.now (length a.out.now) (sym c.in_range.ensures ∙ c.if-not-in_range.true))
 
 pub returns-then-frame-gt-MAX_FRAME : goal.returns-then-frame-gt-MAX_FRAME
 returns-then-frame-gt-MAX_FRAME c =
@@ -39,7 +37,7 @@ returns-then-frame-gt-MAX_FRAME c =
 pub returns-then-not-frame_fits : goal.returns-then-not-frame_fits
 returns-then-not-frame_fits c =
     let a = c.args in
-    none_put _ NotAllowed a.out.now (frame_unfit current a.asked a.time a.channel a.class a.frame.now (length a.out.now) (ranged (goal.at.returns-then-not-frame_fits c).Else-not-in_range) (sym c.frame_fits.ensures ∙ not-true _ c.if-not-frame_fits.true))
+    none_put _ NotAllowed a.out.now (frame_unfit current a.asked a.time a.channel a.class a.frame.now (length a.out.now) (ranged (goal.at.returns-then-not-frame_fits c).Else-not-in_range) (sym c.frame_fits.ensures ∙ c.if-not-frame_fits.true))
 
 pub returns-then-out-size : goal.returns-then-out-size
 returns-then-out-size c =

@@ -1,8 +1,6 @@
-use borrow.Author.Rules.{rules}
 use mathlib.Core.Path.{◌≡◌, sym, ◌∙◌}
 use mathlib.Core.Bool.{true}
 use lib.ListN.{length}
-use borrow.Author.Tests.{not-true, not-false}
 use Rattle.rtp.specs.Editions.{current}
 use Rattle.rtp.specs.Ranges.{in_range}
 use Rattle.rtp.specs.declared.refusal.Refusal.TheVariants.{SettingsOutOfRange, AreaTooShort}
@@ -13,12 +11,12 @@ use Rattle.log_writer.proofs.field_bytes.put_settings.Goals as goal
 
 ranged : (c : Else-not-in_range) → in_range current c.args.asked ≡ true
 ranged c =
-    sym c.in_range.ensures ∙ not-false _ c.if-not-in_range.false
+    sym c.in_range.ensures ∙ c.if-not-in_range.false
 
 pub returns-then-not-in_range : goal.returns-then-not-in_range
 returns-then-not-in_range c =
     let a = c.args in
-    none_put _ SettingsOutOfRange a.out.now (settings_refused current a.asked (length a.out.now) (sym c.in_range.ensures ∙ not-true _ c.if-not-in_range.true))
+    none_put _ SettingsOutOfRange a.out.now (settings_refused current a.asked (length a.out.now) (sym c.in_range.ensures ∙ c.if-not-in_range.true))
 
 pub returns-then-out-lt-FIRST_SIZE : goal.returns-then-out-lt-FIRST_SIZE
 returns-then-out-lt-FIRST_SIZE c =

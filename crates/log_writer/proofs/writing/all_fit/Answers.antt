@@ -1,13 +1,11 @@
 use borrow.Author.Rules.{rules}
 use mathlib.Core.Path.{◌≡◌, sym, ◌∙◌}
 use mathlib.Core.List.{◌∷◌}
-use Prim.Native.Nat.{◌+◌, ◌-◌, ◌≤◌}
-use lib.ListN.{length, drop}
-use borrow.Author.Tests.{not-true, not-false}
+use Prim.Native.Nat.{◌+◌}
+use lib.ListN.{drop}
 use Rattle.rtp.specs.Sizes.{row_width}
 use Rattle.write_plan.specs.Lists.{rows_in}
 use Rattle.write_plan.specs.Room.{row_as}
-use Rattle.log_writer.specs.Writings.{all_fit}
 use Rattle.log_writer.proofs.RowsLaws.{none_left, next_row, fit_none, fit_not, fit_more}
 use Rattle.log_writer.proofs.writing.all_fit.Goals.{After-first_row-row}
 use Rattle.log_writer.proofs.writing.all_fit.Goals as goal
@@ -21,12 +19,12 @@ row_here c =
 pub returns-then-not-row_fits : goal.returns-then-not-row_fits
 returns-then-not-row_fits c =
     let a = c.args in
-    sym (c.loop-at.invariant.1 ∙ fit_not a.asked _ _ _ (row_here (goal.at.returns-then-not-row_fits c).After-first_row-row) (sym c.row_fits.ensures ∙ not-true _ c.if-not-row_fits.true))
+    sym (c.loop-at.invariant.1 ∙ fit_not a.asked _ _ _ (row_here (goal.at.returns-then-not-row_fits c).After-first_row-row) (sym c.row_fits.ensures ∙ c.if-not-row_fits.true))
 
 pub loop-at-preserved : goal.loop-at-preserved
 loop-at-preserved c =
     let a = c.args in
-    (search rules, c.loop-at.invariant.1 ∙ fit_more a.asked _ _ _ (row_here (goal.at.loop-at-preserved c).After-first_row-row) (sym c.row_fits.ensures ∙ not-false _ c.if-not-row_fits.false))
+    (search rules, c.loop-at.invariant.1 ∙ fit_more a.asked _ _ _ (row_here (goal.at.loop-at-preserved c).After-first_row-row) (sym c.row_fits.ensures ∙ c.if-not-row_fits.false))
 
 pub returns : goal.returns
 returns c =

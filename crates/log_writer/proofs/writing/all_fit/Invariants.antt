@@ -1,14 +1,8 @@
-use borrow.Author.Rules.{rules}
-use mathlib.Core.Path.{◌≡◌, sym, ◌∙◌}
-use mathlib.Core.List.{◌∷◌}
-use Prim.Native.Nat.{◌+◌, ◌-◌, ◌≤◌}
+use mathlib.Core.Path.{◌≡◌}
+use Prim.Native.Nat.{◌-◌, ◌≤◌}
 use lib.ListN.{length, drop}
-use borrow.Author.Tests.{not-true, not-false}
-use Rattle.rtp.specs.Sizes.{row_width}
 use Rattle.write_plan.specs.Lists.{rows_in}
-use Rattle.write_plan.specs.Room.{row_as}
 use Rattle.log_writer.specs.Writings.{all_fit}
-use Rattle.log_writer.proofs.RowsLaws.{none_left, next_row, fit_none, fit_not, fit_more}
 use Rattle.log_writer.proofs.writing.all_fit.Given as goal
 
 abbrev pub invariant-loop-at : goal.invariant-loop-at

@@ -1,4 +1,3 @@
-use borrow.Author.Rules.{rules}
 use mathlib.Core.Path.{sym, ◌∙◌}
 use Rattle.log_writer.proofs.WritingLaws.{parts_unloggable, many_unloggable, fit_loggable}
 use Rattle.log_writer.proofs.writing.can_log.Goals as goal

@@ -1,4 +1,3 @@
-use borrow.Author.Rules.{rules}
 use native.Mathlib.Omega.{arith}
 use Rattle.write_plan.proofs.ListLaws.{length_rows}
 use Rattle.log_writer.proofs.WritingLaws.{log_laid}

@@ -1,4 +1,3 @@
-use borrow.Author.Rules.{rules}
 use Rattle.log_writer.proofs.RowsLaws.{row_laid}
 use Rattle.log_writer.proofs.writing.lay_row.Goals as goal
 

@@ -1,13 +1,12 @@
-use borrow.Author.Rules.{rules}
 use mathlib.Core.Path.{◌≡◌}
 use mathlib.Core.List.{◌∷◌}
-use Prim.Native.Nat.{◌+◌, ◌-◌}
+use Prim.Native.Nat.{◌+◌}
 use native.Mathlib.Omega.{arith}
-use lib.ListN.{length, drop}
+use lib.ListN.{drop}
 use Rattle.rtp.specs.Sizes.{row_width}
 use Rattle.write_plan.specs.Lists.{rows_in}
 use Rattle.write_plan.specs.Room.{row_as}
-use Rattle.log_writer.proofs.RowsLaws.{none_left, next_row, Going, going_start, going_end, going_room, going_more}
+use Rattle.log_writer.proofs.RowsLaws.{none_left, next_row, going_start, going_end, going_room, going_more}
 use Rattle.log_writer.proofs.writing.lay_rows.Goals.{After-first_row-row}
 use Rattle.log_writer.proofs.writing.lay_rows.Goals as goal
 

@@ -1,16 +1,7 @@
 use borrow.Author.Rules.{rules}
-use mathlib.Core.Path.{◌≡◌}
-use Prim.Native.Nat.{◌+◌, ◌-◌, ◌≤◌}
 use native.Mathlib.Omega.{arith}
-use lib.ListN.{length, drop}
-use Rattle.write_plan.specs.Lists.{rows_in}
-use Rattle.log_writer.specs.Room.{rows_size}
 use Rattle.log_writer.proofs.RowsLaws.{none_size, next_size}
 use Rattle.log_writer.proofs.writing.rows_size.Goals as goal
-
-pub overflow_cast-size : goal.overflow_cast-size
-overflow_cast-size c =
-    omega (arith, c.shared_slice_known-1.given (c.loop-at.at + 3))
 
 pub overflow_add-size-in-loop-at : goal.overflow_add-size-in-loop-at
 overflow_add-size-in-loop-at c =

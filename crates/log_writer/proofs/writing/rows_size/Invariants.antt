@@ -1,11 +1,8 @@
-use borrow.Author.Rules.{rules}
 use mathlib.Core.Path.{◌≡◌}
 use Prim.Native.Nat.{◌+◌, ◌-◌, ◌≤◌}
-use native.Mathlib.Omega.{arith}
 use lib.ListN.{length, drop}
 use Rattle.write_plan.specs.Lists.{rows_in}
 use Rattle.log_writer.specs.Room.{rows_size}
-use Rattle.log_writer.proofs.RowsLaws.{none_size, next_size}
 use Rattle.log_writer.proofs.writing.rows_size.Given as goal
 
 abbrev pub invariant-loop-at : goal.invariant-loop-at

@@ -1,9 +1,7 @@
-use borrow.Author.Rules.{rules}
 use mathlib.Core.Path.{◌≡◌, sym, ◌∙◌}
 use mathlib.Core.Bool.{true, false}
 use native.Mathlib.Omega.{arith}
 use lib.ListN.{length}
-use borrow.Author.Tests.{not-true, not-false}
 use Rattle.rtp.specs.Editions.{current}
 use Rattle.rtp.specs.Ranges.{in_range}
 use Rattle.rtp.specs.declared.refusal.Refusal.TheVariants.{SettingsOutOfRange, RowOutsideBytes, AreaTooShort, NotAllowed}
@@ -17,7 +15,7 @@ use Rattle.log_writer.proofs.writing.write.Goals as goal
 -- what the tests say
 ranged : (c : Else-not-in_range) → in_range current c.args.asked ≡ true
 ranged c =
-    sym c.in_range.ensures ∙ not-false _ c.if-not-in_range.false
+    sym c.in_range.ensures ∙ c.if-not-in_range.false
 
 inside : (c : Else-any_outside) → let a = c.args in outside (length a.bytes.now) (rows_in a.rows.now) ≡ false
 inside c =
@@ -25,12 +23,12 @@ inside c =
 
 kept : (c : Else-not-can_log) → let a = c.args in loggable a.asked a.rows.now ≡ true
 kept c =
-    sym c.can_log.ensures ∙ not-false _ c.if-not-can_log.false
+    sym c.can_log.ensures ∙ c.if-not-can_log.false
 
 pub returns-then-not-in_range : goal.returns-then-not-in_range
 returns-then-not-in_range c =
     let a = c.args in
-    none_put _ SettingsOutOfRange a.out.now (log_refused current a.asked a.rows.now a.bytes.now (length a.out.now) (sym c.in_range.ensures ∙ not-true _ c.if-not-in_range.true))
+    none_put _ SettingsOutOfRange a.out.now (log_refused current a.asked a.rows.now a.bytes.now (length a.out.now) (sym c.in_range.ensures ∙ c.if-not-in_range.true))
 
 pub returns-then-any_outside : goal.returns-then-any_outside
 returns-then-any_outside c =
@@ -40,7 +38,7 @@ returns-then-any_outside c =
 pub returns-then-not-can_log : goal.returns-then-not-can_log
 returns-then-not-can_log c =
     let a = c.args in
-    none_put _ NotAllowed a.out.now (log_unfit current a.asked a.rows.now a.bytes.now (length a.out.now) (ranged (goal.at.returns-then-not-can_log c).Else-not-in_range) (inside (goal.at.returns-then-not-can_log c).Else-any_outside) (sym c.can_log.ensures ∙ not-true _ c.if-not-can_log.true))
+    none_put _ NotAllowed a.out.now (log_unfit current a.asked a.rows.now a.bytes.now (length a.out.now) (ranged (goal.at.returns-then-not-can_log c).Else-not-in_range) (inside (goal.at.returns-then-not-can_log c).Else-any_outside) (sym c.can_log.ensures ∙ c.if-not-can_log.true))
 
 pub rows_size-inner-requires : goal.rows_size-inner-requires
 rows_size-inner-requires c =

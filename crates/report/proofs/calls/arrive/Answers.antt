@@ -1,6 +1,5 @@
 use borrow.Author.Tests.{eq-eqb, ne_eqb}
 use Rattle.report.specs.Jitter.{arrived}
-use borrow.Author.Rules.{rules}
 use Rattle.report.proofs.calls.arrive.Goals as goal
 
 pub returns-then-reception-eq0 : goal.returns-then-reception-eq0

@@ -1,20 +1,19 @@
-use Rattle.report.proofs.CallLaws.{passed, failed, sum_bounded, report_refused, report_none, report_block}
-use mathlib.Core.Path.{sym}
-use borrow.Author.Rules.{rules}
+use Rattle.report.proofs.CallLaws.{sum_bounded, report_refused, report_none, report_block}
+use mathlib.Core.Path.{sym, ◌∙◌}
 use Rattle.report.proofs.calls.report.Goals as goal
 
 pub returns-then-not-well_formed : goal.returns-then-not-well_formed
 returns-then-not-well_formed c =
-    sym (report_refused c.args.reception (failed _ _ c.well_formed-2.ensures c.if-not-well_formed.true))
+    sym (report_refused c.args.reception (sym c.well_formed-2.ensures ∙ c.if-not-well_formed.true))
 
 pub returns-then-reception-eq0 : goal.returns-then-reception-eq0
 returns-then-reception-eq0 c =
-    sym (report_none c.args.reception (passed _ _ c.well_formed-2.ensures c.if-not-well_formed.false) c.if-reception-eq0.true)
+    sym (report_none c.args.reception (sym c.well_formed-2.ensures ∙ c.if-not-well_formed.false) c.if-reception-eq0.true)
 
 pub block_of-block-requires : goal.block_of-block-requires
 block_of-block-requires c =
-    sum_bounded c.args.reception (passed _ _ c.well_formed-2.ensures c.if-not-well_formed.false)
+    sum_bounded c.args.reception (sym c.well_formed-2.ensures ∙ c.if-not-well_formed.false)
 
 pub returns : goal.returns
 returns c =
-    rw (c.block_of-block.ensures, c.note-next.ensures) (sym (report_block c.args.reception (passed _ _ c.well_formed-2.ensures c.if-not-well_formed.false) c.if-reception-eq0.false))
+    rw (c.block_of-block.ensures, c.note-next.ensures) (sym (report_block c.args.reception (sym c.well_formed-2.ensures ∙ c.if-not-well_formed.false) c.if-reception-eq0.false))

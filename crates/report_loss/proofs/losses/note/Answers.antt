@@ -1,5 +1,4 @@
 use Rattle.report_loss.specs.Report.{noted}
-use Rattle.std.proofs.Common.{rules}
 use Rattle.report_loss.proofs.losses.note.Goals as goal
 
 pub returns : goal.returns

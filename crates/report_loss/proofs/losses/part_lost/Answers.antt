@@ -1,4 +1,4 @@
-use Rattle.std.proofs.Common.{sym, rules}
+use Rattle.std.proofs.Common.{sym}
 use Rattle.report_loss.proofs.SignedLaws.{back, same}
 use Rattle.report_loss.proofs.ReportLaws.{above_zero, none_lost, none_due, most_lost_lem, part_lost}
 use Rattle.report_loss.proofs.losses.part_lost.Goals as goal

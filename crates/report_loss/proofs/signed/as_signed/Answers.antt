@@ -1,4 +1,4 @@
-use Rattle.std.proofs.Common.{sym, ◌∙◌, subst, w32, SFits, rules}
+use Rattle.std.proofs.Common.{sym, ◌∙◌, subst, w32, SFits}
 use mir.ValLaws.{to_z-of_z}
 use Rattle.report_loss.proofs.SignedLaws.{signed_bits, signed_fits, below_zero}
 use Rattle.report_loss.proofs.signed.as_signed.Goals as goal
@@ -13,4 +13,4 @@ overflow_sub-result-2 c =
 
 pub returns : goal.returns
 returns c =
-    to_z-of_z w32 _ (sub-result-2 c) ∙ below_zero c.args.x c.if-x-lt2147483648.false c.ranges.x.fits
+    to_z-of_z w32 _ (overflow_sub-result-2 c) ∙ below_zero c.args.x c.if-x-lt2147483648.false c.ranges.x.fits

@@ -1,4 +1,4 @@
-use Rattle.std.proofs.Common.{refl, rules}
+use Rattle.std.proofs.Common.{refl}
 use Rattle.report_sequence.specs.Sequence.{first}
 use Rattle.report_sequence.proofs.sequence.begin.Goals as goal
 

@@ -1,4 +1,4 @@
-use Rattle.std.proofs.Common.{sym, ap, ◌∙◌, rules}
+use Rattle.std.proofs.Common.{sym, ap, ◌∙◌}
 use Rattle.report_sequence.specs.Sequence.{doubted, valid}
 use Rattle.report_sequence.proofs.SequenceLaws.{followed_order, followed_anew, followed_doubt, followed_late}
 use Rattle.report_sequence.proofs.sequence.follow.Goals as goal

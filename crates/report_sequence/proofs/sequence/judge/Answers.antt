@@ -1,4 +1,4 @@
-use Rattle.std.proofs.Common.{sym, ap, ◌∙◌, arith, rules}
+use Rattle.std.proofs.Common.{sym, ap, ◌∙◌, arith}
 use Rattle.report_sequence.specs.declared.record.Counts.{Counts}
 use Rattle.report_sequence.specs.Sequence.{first, probed}
 use Rattle.report_sequence.proofs.SequenceLaws.{judged_first, judged_after, judged_probed}

@@ -1,4 +1,4 @@
-use Rattle.std.proofs.Common.{sym, ap, ◌∙◌, rules}
+use Rattle.std.proofs.Common.{sym, ap, ◌∙◌}
 use Rattle.report_sequence.specs.Sequence.{wanting, valid}
 use Rattle.report_sequence.proofs.SequenceLaws.{probed_valid, probed_early, probed_other}
 use Rattle.report_sequence.proofs.sequence.probe.Goals as goal
