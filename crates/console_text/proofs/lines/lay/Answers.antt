@@ -5,7 +5,6 @@ use lib.ListN.{length, take}
 use Rattle.console_text.specs.Lines.{line_size, gathered}
 use lib.Seq.{length-take-le}
 use Rattle.console_text.proofs.LineLaws.{gathered_put, gathered_continued}
-use borrow.Author.Rules.{rules}
 use Rattle.console_text.proofs.lines.lay.Goals as goal
 
 pub returns : goal.returns

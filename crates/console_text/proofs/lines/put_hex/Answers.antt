@@ -1,13 +1,11 @@
 use lib.Seq.{take_all}
 use Rattle.io.specs.Digits.{hex_digit_ascii}
-use borrow.Author.Rules.{rules}
-use mathlib.Core.Path.{◌≡◌, sym, ◌∙◌, ap}
+use mathlib.Core.Path.{sym, ◌∙◌, ap}
 use mathlib.Core.List.{List, [], ◌∷◌}
-use Prim.Native.Nat.{ℕ, ◌-◌, ◌/◌, ◌%◌, ◌≤◌}
+use Prim.Native.Nat.{ℕ, ◌/◌, ◌%◌}
 use native.Mathlib.Omega.{arith}
 use native.Mathlib.Numerals.{add-one}
-use lib.ListN.{length, take, get_or}
-use Rattle.io.specs.Counts.{IsPrefixLen}
+use lib.ListN.{take, get_or}
 use Rattle.console_text.specs.Lines.{gathered, hexadecimal}
 use Rattle.console_text.proofs.LineLaws.{gathered_more, hex_next, hex_none}
 use Rattle.console_text.proofs.lines.put_hex.Goals as goal
@@ -42,6 +40,6 @@ returns-clause-line_after c =
     let s = a.bytes.now in
     let v = c.loop-i in
     let p = c.put-end in
-      v.invariant.2
-          ∙ ap (λ (t : List ℕ). gathered p.new.line p.result (hexadecimal t)) (take_all v.i s (omega arith))
-          ∙ gathered_more a.line.now p.new.line a.at p.result [] (hexadecimal s) p.ensures.line_after
+    v.invariant.2
+    ∙ ap (λ (t : List ℕ). gathered p.new.line p.result (hexadecimal t)) (take_all v.i s (omega arith))
+    ∙ gathered_more a.line.now p.new.line a.at p.result [] (hexadecimal s) p.ensures.line_after
