@@ -1,5 +1,6 @@
 // A program's arguments: four numbers, the settings, which a word may follow.
-ghost use Rattle.std.specs.Prelude.{◌≡◌, ◌≤◌, true, length};
+ghost use Rattle.std.specs.Prelude.{◌≡◌, true};
+ghost use Rattle.io.specs.Counts.{IsPrefixLen};
 ghost use Rattle.console.specs.Answers.{InRange, WordSized};
 
 use console_text::numbers::Number;
@@ -74,7 +75,7 @@ fn complain(program: &[u8], purpose: &[u8], subject: &[u8], fault: &[u8]) {
 
 // Argument i at the front of the area; answers how many bytes it has. A missing argument and one that is longer than the area come as an empty text.
 fn fill(rt: &impl Env, i: usize, area: &mut [u8]) -> usize
-    ensures { result ≤ length area.new }
+    ensures { IsPrefixLen result area.new }
 {
     match rt.arg(i, area) {
         Ok(n) => n,

@@ -7,9 +7,9 @@ use borrow.Author.Rules.{rules}
 use Rattle.console.proofs.arguments.is_word.Goals as goal
 
 pub returns-then-n-eq0 : goal.returns-then-n-eq0
-returns-then-n-eq0 c =
+returns-then-n-eq0 g c =
     λ found. not-both false found refl
 
 pub returns : goal.returns
-returns c =
+returns g c =
     λ found. let e = ap length (c.same.ensures found) in (omega (arith, e), omega (arith, e))

@@ -8,7 +8,7 @@ use borrow.Author.Rules.{rules}
 use Rattle.console.proofs.standard_input.read_all.Given as goal
 
 abbrev pub invariant-loop-n : goal.invariant-loop-n
-invariant-loop-n l = (l.n ≤ length l.area) × (length l.area ≡ length l.initial.area)
+invariant-loop-n g l = (l.n ≤ length l.area) × (length l.area ≡ length l.initial.area)
 
 abbrev pub decreases-loop-n : goal.decreases-loop-n
-decreases-loop-n l = length l.area - l.n
+decreases-loop-n g l = length l.area - l.n
