@@ -4,7 +4,6 @@ use mathlib.Core.List.{◌∷◌}
 use Prim.Native.Nat.{ℕ}
 use borrow.Author.Tests.{ne_eqb}
 use Rattle.console_text.specs.Lines.{gathered, class_word}
-use borrow.Author.Rules.{rules}
 use Rattle.console.proofs.frame_lines.put_class.Goals as goal
 
 pub returns-in-1-clause-line_after : goal.returns-in-1-clause-line_after

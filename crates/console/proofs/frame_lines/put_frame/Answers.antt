@@ -4,7 +4,6 @@ use Prim.Native.Nat.{ℕ}
 use lib.ListN.{length}
 use Rattle.console_text.specs.Lines.{gathered, decimal, hexadecimal, class_word, frame_text}
 use Rattle.console_text.proofs.LineLaws.{gathered_more}
-use borrow.Author.Rules.{rules}
 use Rattle.console.proofs.frame_lines.put_frame.Goals as goal
 
 pieces : (a b c d e : List ℕ) → (((((a ++ b) ++ c) ++ d) ++ (32 ∷ [])) ++ e) ≡ a ++ (b ++ (c ++ (d ++ (32 ∷ e))))

@@ -1,10 +1,6 @@
-use native.Mathlib.Omega.{arith}
-use Rattle.console.specs.declared.standard_input.AllRead.{AllRead}
-use Rattle.console.specs.Answers.{Within}
 use mathlib.Core.Path.{◌≡◌}
-use Prim.Native.Nat.{ℕ, ◌-◌, ◌≤◌}
+use Prim.Native.Nat.{◌-◌, ◌≤◌}
 use lib.ListN.{length}
-use borrow.Author.Rules.{rules}
 use Rattle.console.proofs.standard_input.read_all.Given as goal
 
 abbrev pub invariant-loop-n : goal.invariant-loop-n
