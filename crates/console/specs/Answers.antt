@@ -24,4 +24,4 @@ Short Input.End = Unit
 abbrev pub Within : AllRead → ℕ → Type 0
 Within (AllRead.Bytes n) size = n ≤ size
 Within AllRead.TooLong size = Unit
-Within AllRead.Failed size = Unit
+Within (AllRead.Failed why) size = Unit

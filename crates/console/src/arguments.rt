@@ -1,12 +1,13 @@
 // A program's arguments: four numbers, the settings, which a word may follow.
 ghost use Rattle.std.specs.Prelude.{◌≡◌, true};
+ghost use Rattle.io.specs.Counts.{IsPrefixLen};
 ghost use Rattle.console.specs.Answers.{InRange, WordSized};
 
 use console_text::numbers::Number;
-use console_text::{lines, numbers};
-use libc::{STDERR_FILENO, STDOUT_FILENO};
+use console_text::{STDERR_FILENO, STDOUT_FILENO, lines, numbers};
 use rtp::settings;
 use rtp::settings::Settings;
+use std::env::{Env, FillError};
 
 // The settings that are asked for; or nothing more to do, and what there was to say is said.
 #[derive(Clone, Copy)]
@@ -72,10 +73,30 @@ fn complain(program: &[u8], purpose: &[u8], subject: &[u8], fault: &[u8]) {
     print_usage(STDERR_FILENO, program, purpose);
 }
 
-// Argument i; it says so if it is no number. A missing argument and one of more than 16 bytes come as an empty text, which is none.
-fn argument(program: &[u8], purpose: &[u8], i: usize, name: &[u8]) -> Number {
+// Argument i at the front of the area; answers how many bytes it has. A missing argument and one that is longer than the area come as an empty text.
+fn fill(rt: &impl Env, i: usize, area: &mut [u8]) -> usize
+    ensures { IsPrefixLen result area.new }
+{
+    match rt.arg(i, area) {
+        Ok(n) => n,
+        Err(_) => 0,
+    }
+}
+
+// Whether there is an argument i.
+pub fn is_there(rt: &impl Env, i: usize) -> bool {
     let mut text = [0u8; LONGEST];
-    let n = os::arg(i, &mut text);
+    match rt.arg(i, &mut text) {
+        Ok(_) => true,
+        Err(FillError::TooLong) => true,
+        Err(FillError::NotPresent) => false,
+    }
+}
+
+// Argument i; it says so if it is no number. A missing argument and one of more than 16 bytes come as an empty text, which is none.
+fn argument(rt: &impl Env, program: &[u8], purpose: &[u8], i: usize, name: &[u8]) -> Number {
+    let mut text = [0u8; LONGEST];
+    let n = fill(rt, i, &mut text);
     let value = numbers::parse(&text[..n]);
     match value {
         Number::Value(_) => {}
@@ -100,19 +121,19 @@ fn check(program: &[u8], purpose: &[u8], agreed: Settings) -> Asked
 }
 
 // The four numbers, up to the first that is none.
-fn read_four(program: &[u8], purpose: &[u8]) -> Asked
+fn read_four(rt: &impl Env, program: &[u8], purpose: &[u8]) -> Asked
     ensures { InRange result }
 {
-    let Number::Value(format) = argument(program, purpose, 1, b"FORMAT") else {
+    let Number::Value(format) = argument(rt, program, purpose, 1, b"FORMAT") else {
         return Asked::Nothing;
     };
-    let Number::Value(channels) = argument(program, purpose, 2, b"CHANNELS") else {
+    let Number::Value(channels) = argument(rt, program, purpose, 2, b"CHANNELS") else {
         return Asked::Nothing;
     };
-    let Number::Value(payload_type) = argument(program, purpose, 3, b"TYPE") else {
+    let Number::Value(payload_type) = argument(rt, program, purpose, 3, b"TYPE") else {
         return Asked::Nothing;
     };
-    let Number::Value(redundancy_type) = argument(program, purpose, 4, b"REDUNDANCY") else {
+    let Number::Value(redundancy_type) = argument(rt, program, purpose, 4, b"REDUNDANCY") else {
         return Asked::Nothing;
     };
     let agreed = Settings {
@@ -143,11 +164,11 @@ fn same(a: &[u8], b: &[u8]) -> bool
 
 // Whether argument i is this word, of 1 to 16 bytes. What the arguments are is the operating system's answer, and the rules leave it open; but
 // other words are none.
-pub fn is_word(i: usize, word: &[u8]) -> bool
+pub fn is_word(rt: &impl Env, i: usize, word: &[u8]) -> bool
     ensures { WordSized result word.now }
 {
     let mut text = [0u8; LONGEST];
-    let n = os::arg(i, &mut text);
+    let n = fill(rt, i, &mut text);
     if n == 0 {
         return false;
     }
@@ -155,31 +176,33 @@ pub fn is_word(i: usize, word: &[u8]) -> bool
 }
 
 // Whether the first argument asks for help.
-fn asks_help() -> bool {
-    is_word(1, b"--help")
+fn asks_help(rt: &impl Env) -> bool {
+    is_word(rt, 1, b"--help")
 }
 
 // Whether there are four arguments, or five and the last is the word.
-fn are_four(word: &[u8]) -> bool {
-    let n = os::arg_count();
-    if n == 6 {
-        return is_word(5, word);
+fn are_four(rt: &impl Env, word: &[u8]) -> bool {
+    if is_there(rt, 6) {
+        return false;
     }
-    n == 5
+    if is_there(rt, 5) {
+        return is_word(rt, 5, word);
+    }
+    is_there(rt, 4)
 }
 
 // The settings in the program's arguments, behind which the word may stand. With `--help` it prints the usage, with the program's name and its
 // purpose; wrong arguments it says to standard error. What the arguments are is the operating system's answer, and the rules leave it open; but
 // settings that it answers are in range.
-pub fn read_with(program: &[u8], purpose: &[u8], word: &[u8]) -> Asked
+pub fn read_with(rt: &impl Env, program: &[u8], purpose: &[u8], word: &[u8]) -> Asked
     ensures { InRange result }
 {
-    if asks_help() {
+    if asks_help(rt) {
         print_usage(STDOUT_FILENO, program, purpose);
         return Asked::Nothing;
     }
-    if are_four(word) {
-        return read_four(program, purpose);
+    if are_four(rt, word) {
+        return read_four(rt, program, purpose);
     }
     complain(
         program,
@@ -191,8 +214,8 @@ pub fn read_with(program: &[u8], purpose: &[u8], word: &[u8]) -> Asked
 }
 
 // .. behind which nothing may stand.
-pub fn read(program: &[u8], purpose: &[u8]) -> Asked
+pub fn read(rt: &impl Env, program: &[u8], purpose: &[u8]) -> Asked
     ensures { InRange result }
 {
-    read_with(program, purpose, b"")
+    read_with(rt, program, purpose, b"")
 }

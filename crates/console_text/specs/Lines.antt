@@ -1,5 +1,5 @@
 -- Lines of output, gathered in an area of a fixed size before they are written.
-use Rattle.std.specs.Prelude.{ℕ, zero, suc, ◌+◌, ◌/◌, ◌%◌, min, ◌≡◌, List, [], ◌∷◌, ◌++◌, cond, ltb, eqb, length, take}
+use Rattle.std.specs.Prelude.{ℕ, zero, suc, ◌/◌, ◌%◌, min, ◌≡◌, List, [], ◌∷◌, ◌++◌, cond, ltb, eqb, length, take}
 use Rattle.io.specs.Digits.{last_digits, hex_digit_ascii}
 use Rattle.console_text.specs.Ascii.{ascii}
 

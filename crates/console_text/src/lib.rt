@@ -3,3 +3,8 @@
 
 pub mod lines;
 pub mod numbers;
+
+// The numbers of standard output and standard error.
+pub const STDOUT_FILENO: i32 = 1;
+
+pub const STDERR_FILENO: i32 = 2;

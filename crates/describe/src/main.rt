@@ -13,6 +13,7 @@ use console::arguments::Asked;
 use console::stream::{AREA, Input};
 use console::{arguments, stream};
 use rtp::settings::Settings;
+use std::io::Read;
 
 // Prints the packet in the first n bytes of the area, and answers whether to go on.
 fn print_packet(settings: Settings, number: u64, n: usize, area: &[u8]) -> bool {
@@ -20,24 +21,30 @@ fn print_packet(settings: Settings, number: u64, n: usize, area: &[u8]) -> bool 
         if description::print(settings, number, &area[..n]) {
             return true;
         }
-        os::fail(b"describe: standard output");
+        arguments::say_fault(b"describe", b"standard output: ", b"not all is written");
     }
     false
 }
 
 // Reads and prints a packet, and answers whether to go on.
-fn next_packet(settings: Settings, number: u64, area: &mut [u8; AREA]) -> bool {
-    match stream::next(b"describe", number, area) {
+fn next_packet(
+    rt: &impl Eprint,
+    input: &mut impl Read,
+    settings: Settings,
+    number: u64,
+    area: &mut [u8; AREA],
+) -> bool {
+    match stream::next(rt, input, b"describe", number, area) {
         Input::End => false,
         Input::Packet(n) => print_packet(settings, number, n, area),
     }
 }
 
 // A proved loop has to end, so this one ends at a number that no run reaches.
-fn all_packets(settings: Settings, area: &mut [u8; AREA]) {
+fn all_packets(rt: &impl Eprint, input: &mut impl Read, settings: Settings, area: &mut [u8; AREA]) {
     let mut number = 1;
     while number < u64::MAX {
-        if next_packet(settings, number, area) {
+        if next_packet(rt, input, settings, number, area) {
             number += 1;
         } else {
             return;
@@ -45,15 +52,17 @@ fn all_packets(settings: Settings, area: &mut [u8; AREA]) {
     }
 }
 
-fn main() {
+fn main(rt: HostRuntime) {
     match arguments::read(
+        &rt,
         b"describe",
         b"Prints each packet in words: header, redundancy blocks and frames, or why it is refused.\n",
     ) {
         Asked::Nothing => {}
         Asked::Agreed(settings) => {
             let mut area = io::large_buffer();
-            all_packets(settings, &mut area);
+            let mut input = rt.reader();
+            all_packets(&rt, &mut input, settings, &mut area);
         }
     }
 }

@@ -1,9 +1,8 @@
 // Words for numbers, classes and frame types, put into a line, and a line printed.
-use console_text::lines;
 use console_text::lines::LINE;
+use console_text::{STDOUT_FILENO, lines};
 use formats::facts;
 use frame_codes::coding;
-use libc::STDOUT_FILENO;
 
 // A number of bytes after a text.
 pub(crate) fn put_bytes(line: &mut [u8; LINE], at: usize, text: &[u8], n: usize) -> usize {

@@ -141,7 +141,7 @@ Left room l at vs l' to ws =
 
 -- what a call leaves
 abbrev pub Done : ℕ → List ℕ → ℕ → List ℕ → List ℕ → ℕ → Type 0
-Done room l at vs l' to = (to ≡ at + length (fitting room at vs)) × (l' ≡ sets l at (fitting room at vs))
+Done room l at vs l' to = record { value : to ≡ at + length (fitting room at vs); area_after : l' ≡ sets l at (fitting room at vs) }
 
 pub left_all : (room : ℕ) (l : List ℕ) (at : ℕ) (vs ws : List ℕ) → vs ≡ ws → Left room l at vs l at ws
 left_all room l at vs ws e = (ap (λ (x : List ℕ). at + length (fitting room at x)) e, ap (λ (x : List ℕ). sets l at (fitting room at x)) e)
@@ -174,7 +174,7 @@ left_done :
     Left room l at vs l' to ws → fitting room to ws ≡ [] → Done room l at vs l' to
 left_done room l at vs l' to ws r f =
     let n : length (fitting room to ws) ≡ 0 = ap length f in
-    (omega (arith, r.0, n), sym (r.1 ∙ ap (sets l' to) f))
+    record { value = omega (arith, r.0, n); area_after = sym (r.1 ∙ ap (sets l' to) f) }
 
 -- none left
 pub left_none :

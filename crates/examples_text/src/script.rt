@@ -2,7 +2,10 @@
 ghost use Rattle.std.specs.Prelude.{◌≡◌, get_or, drop, replicate};
 ghost use Rattle.examples_text.specs.Lines.{ended, is_line, is_comment, spaces, after_spaces, starts_with, has_from, has_exactly};
 
-use libc::{STDIN_FILENO, STDOUT_FILENO};
+// The numbers of standard input and standard output.
+const STDIN_FILENO: i32 = 0;
+
+const STDOUT_FILENO: i32 = 1;
 
 // The room for a line. What is longer goes on as a line of its own.
 pub const LINE: usize = 512;

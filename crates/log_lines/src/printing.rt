@@ -2,9 +2,8 @@
 ghost use Rattle.log_lines.specs.FrameCounts.{frames_from, frames_of, AllPrinted};
 
 use crate::words;
-use console_text::lines;
 use console_text::lines::LINE;
-use libc::STDOUT_FILENO;
+use console_text::{STDOUT_FILENO, lines};
 use log_walk::frames::Shown;
 use log_walk::opening::{Cursor, OpenAnswer};
 use log_walk::stepping::StepAnswer;

@@ -10,12 +10,13 @@ use buffer_layout::buffer::{Buffer, SLOT_SIZE, STORE_SIZE};
 use buffer_offer::calls;
 use buffer_offer::calls::{NewAnswer, OfferAnswer};
 use buffer_slots::bits::SLOTS;
-use console::stream;
 use console::stream::{AREA, Input};
+use console::{arguments, stream};
+use console_text::{STDERR_FILENO, STDOUT_FILENO};
 use formats::frames;
-use libc::{STDERR_FILENO, STDOUT_FILENO};
 use rtp::settings::Settings;
 use rtp::sizes::ROW_AREA;
+use std::io::Read;
 
 // The frames kept between packets, for those that are still to come between them.
 const KEPT: usize = 64;
@@ -248,9 +249,15 @@ fn pass_on(state: State, n: usize, area: &[u8], store: &mut [u8]) -> State {
 }
 
 // The next packet read and passed on, or the end of the input.
-fn receive_packet(state: State, area: &mut [u8; AREA], store: &mut [u8]) -> State {
+fn receive_packet(
+    rt: &impl Eprint,
+    input: &mut impl Read,
+    state: State,
+    area: &mut [u8; AREA],
+    store: &mut [u8],
+) -> State {
     let number = std::num::wrapping_add_u64(state.totals.packets, 1);
-    match stream::next(b"receive", number, area) {
+    match stream::next(rt, input, b"receive", number, area) {
         Input::Packet(n) => {
             let next = pass_on(state, n, area, store);
             printing::say_progress(next.totals);
@@ -261,12 +268,18 @@ fn receive_packet(state: State, area: &mut [u8; AREA], store: &mut [u8]) -> Stat
 }
 
 // All packets. A proved loop has to end, so this one counts its turns down from a number that no stream reaches.
-fn receive_packets(state: State, area: &mut [u8; AREA], store: &mut [u8]) -> State {
+fn receive_packets(
+    rt: &impl Eprint,
+    input: &mut impl Read,
+    state: State,
+    area: &mut [u8; AREA],
+    store: &mut [u8],
+) -> State {
     let mut reached = state;
     let mut turns = u64::MAX;
     while turns > 0 {
         if reached.more {
-            let next = receive_packet(reached, area, store);
+            let next = receive_packet(rt, input, reached, area, store);
             reached = next;
         } else {
             break;
@@ -306,23 +319,24 @@ fn finish(state: State, store: &[u8]) {
             return;
         }
     }
-    os::fail(b"receive: standard output");
+    arguments::say_fault(b"receive", b"standard output: ", b"not all is written");
 }
 
-fn receive_stream(buffer: Buffer, step: u32, log: bool) {
+fn receive_stream(rt: &(impl Eprint + std::io::Input), buffer: Buffer, step: u32, log: bool) {
     let mut store = zero_store();
     let mut area = io::large_buffer();
     let start = write_start(begin(buffer, step, log));
-    let state = receive_packets(start, &mut area, &mut store);
+    let mut input = rt.reader();
+    let state = receive_packets(rt, &mut input, start, &mut area, &mut store);
     finish(state, &store);
 }
 
 // A buffer for the settings, and the stream through it. The settings are in range, so that a buffer is never refused.
-pub(crate) fn open(asked: Settings, log: bool) {
+pub(crate) fn open(rt: &(impl Eprint + std::io::Input), asked: Settings, log: bool) {
     let fresh = calls::new(asked);
     let answer = fresh.answer;
     match answer {
-        NewAnswer::Accepted => receive_stream(fresh.buffer, frames::step_of(asked.format), log),
+        NewAnswer::Accepted => receive_stream(rt, fresh.buffer, frames::step_of(asked.format), log),
         NewAnswer::Refused(_) => {}
     }
 }

@@ -2,7 +2,7 @@
 use crate::printing;
 use buffer_draw::draws::DrawnFrame;
 use buffer_layout::buffer::SLOT_SIZE;
-use libc::STDOUT_FILENO;
+use console_text::STDOUT_FILENO;
 use log_fields::fields::{FRAME_HEAD, HEAD_SIZE};
 use log_writer::field_bytes;
 use log_writer::field_bytes::LogWritten;

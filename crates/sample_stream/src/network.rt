@@ -1,7 +1,9 @@
 // What the network did with the packets.
 use crate::packets;
-use libc::STDOUT_FILENO;
 use rtp::sizes::MAX_PACKET;
+
+// The number of standard output.
+const STDOUT_FILENO: i32 = 1;
 
 // The version bits of this packet are cleared: refusal 2.
 const DAMAGED: u8 = 45;

@@ -2,9 +2,8 @@
 #![tactic(auto)]
 
 use console::standard_input::AllRead;
-use console::{arguments, standard_input};
-use console_text::lines;
-use libc::{STDERR_FILENO, STDOUT_FILENO};
+use console::{arguments, standard_input, stream};
+use console_text::{STDERR_FILENO, STDOUT_FILENO, lines};
 use log_lines::printing;
 use log_lines::printing::Printed;
 
@@ -35,15 +34,16 @@ fn print_front(area: &[u8], n: usize) {
             Printed::Failed => {}
         }
     }
-    os::fail(b"show_log: standard output");
+    arguments::say_fault(b"show_log", b"standard output: ", b"not all is written");
 }
 
-fn show() {
+fn show(rt: &(impl Eprint + Input)) {
     let mut area = zeros();
-    match standard_input::read_all(&mut area) {
+    let mut input = rt.reader();
+    match standard_input::read_all(&mut input, &mut area) {
         AllRead::Bytes(n) => print_front(&area, n),
         AllRead::TooLong => say_too_long(),
-        AllRead::Failed => os::fail(b"show_log: standard input"),
+        AllRead::Failed(why) => stream::say_failed(rt, b"show_log", why),
     }
 }
 
@@ -57,15 +57,15 @@ fn print_usage(fd: i32) {
     );
 }
 
-fn main() {
-    if arguments::is_word(1, b"--help") {
+fn main(rt: HostRuntime) {
+    if arguments::is_word(&rt, 1, b"--help") {
         print_usage(STDOUT_FILENO);
         return;
     }
-    if os::arg_count() < 2 {
-        show();
+    if arguments::is_there(&rt, 1) {
+        arguments::say_fault(b"show_log", b"it takes no arguments", b"");
+        print_usage(STDERR_FILENO);
         return;
     }
-    arguments::say_fault(b"show_log", b"it takes no arguments", b"");
-    print_usage(STDERR_FILENO);
+    show(&rt);
 }

@@ -1,38 +1,37 @@
+use Rattle.std.proofs.Common.{arith}
 use mathlib.Core.Path.{sym, ap, ◌∙◌}
 use mathlib.Core.List.{◌∷◌}
 use Prim.Native.Nat.{ℕ}
 use borrow.Author.Tests.{ne_eqb}
 use Rattle.console_text.specs.Lines.{gathered, class_word}
-use borrow.Author.Rules.{rules}
 use Rattle.console.proofs.frame_lines.put_class.Goals as goal
 
-pub returns-in-1 : goal.returns-in-1
+pub returns-in-1-clause-line_after : goal.returns-in-1-clause-line_after
 unfolding class_word
-returns-in-1 c =
+returns-in-1-clause-line_after c =
     let a = c.args in
-    (c.put.ensures.0, c.put.ensures.1 ∙ ap (λ (k : ℕ). gathered a.line.now a.at (32 ∷ class_word k)) (sym c.in-1.is))
+    c.put.ensures.line_after ∙ ap (λ (k : ℕ). gathered a.line.now a.at (32 ∷ class_word k)) (sym c.in-1.is)
 
-pub returns-in-2 : goal.returns-in-2
+pub returns-in-2-clause-line_after : goal.returns-in-2-clause-line_after
 unfolding class_word
-returns-in-2 c =
+returns-in-2-clause-line_after c =
     let a = c.args in
-    (c.put-in-2.ensures.0, c.put-in-2.ensures.1 ∙ ap (λ (k : ℕ). gathered a.line.now a.at (32 ∷ class_word k)) (sym c.in-2.is))
+    c.put-in-2.ensures.line_after ∙ ap (λ (k : ℕ). gathered a.line.now a.at (32 ∷ class_word k)) (sym c.in-2.is)
 
-pub returns-in-5 : goal.returns-in-5
+pub returns-in-5-clause-line_after : goal.returns-in-5-clause-line_after
 unfolding class_word
-returns-in-5 c =
+returns-in-5-clause-line_after c =
     let a = c.args in
-    (c.put-in-5.ensures.0, c.put-in-5.ensures.1 ∙ ap (λ (k : ℕ). gathered a.line.now a.at (32 ∷ class_word k)) (sym c.in-5.is))
+    c.put-in-5.ensures.line_after ∙ ap (λ (k : ℕ). gathered a.line.now a.at (32 ∷ class_word k)) (sym c.in-5.is)
 
-pub returns-in-6 : goal.returns-in-6
+pub returns-in-6-clause-line_after : goal.returns-in-6-clause-line_after
 unfolding class_word
-returns-in-6 c =
+returns-in-6-clause-line_after c =
     let a = c.args in
-    (c.put-in-6.ensures.0, c.put-in-6.ensures.1 ∙ ap (λ (k : ℕ). gathered a.line.now a.at (32 ∷ class_word k)) (sym c.in-6.is))
+    c.put-in-6.ensures.line_after ∙ ap (λ (k : ℕ). gathered a.line.now a.at (32 ∷ class_word k)) (sym c.in-6.is)
 
-pub returns-in_default : goal.returns-in_default
+pub returns-in_default-clause-line_after : goal.returns-in_default-clause-line_after
 unfolding class_word
-returns-in_default c =
-    let a = c.args in
-    let m = c.in_default.rest in
-    (c.put-in_default.ensures.0, simp (ne_eqb a.class 1 m.0.0.0.1, ne_eqb a.class 2 m.0.0.1, ne_eqb a.class 5 m.0.1, ne_eqb a.class 6 m.1) c.put-in_default.ensures.1)
+returns-in_default-clause-line_after c =
+    let k = c.args.class in
+    simp (ne_eqb k 1 (omega arith), ne_eqb k 2 (omega arith), ne_eqb k 5 (omega arith), ne_eqb k 6 (omega arith)) c.put-in_default.ensures.line_after

@@ -4,15 +4,14 @@ use Prim.Native.Nat.{ℕ}
 use lib.ListN.{length}
 use Rattle.console_text.specs.Lines.{gathered, decimal, hexadecimal, class_word, frame_text}
 use Rattle.console_text.proofs.LineLaws.{gathered_more}
-use borrow.Author.Rules.{rules}
 use Rattle.console.proofs.frame_lines.put_frame.Goals as goal
 
 pieces : (a b c d e : List ℕ) → (((((a ++ b) ++ c) ++ d) ++ (32 ∷ [])) ++ e) ≡ a ++ (b ++ (c ++ (d ++ (32 ∷ e))))
 pieces a b c d e = simp append_assoc
 
-pub returns : goal.returns
+pub returns-clause-line_after : goal.returns-clause-line_after
 unfolding frame_text
-returns c =
+returns-clause-line_after c =
     let a = c.args in
     let l = a.line.now in
     let at = a.at in
@@ -27,9 +26,9 @@ returns c =
     let t3 : List ℕ = 32 ∷ class_word a.class in
     let t4 : List ℕ = 32 ∷ decimal (length a.bytes.now) in
     let t6 : List ℕ = hexadecimal a.bytes.now in
-    let e2 = p2.ensures.1 ∙ gathered_more l p1.new.0 at p1.result t1 t2 p1.ensures.1 in
-    let e3 = p3.ensures.1 ∙ gathered_more l p2.new.0 at p2.result (t1 ++ t2) t3 e2 in
-    let e4 = p4.ensures.1 ∙ gathered_more l p3.new.0 at p3.result ((t1 ++ t2) ++ t3) t4 e3 in
-    let e5 = p5.ensures.1 ∙ gathered_more l p4.new.0 at p4.result (((t1 ++ t2) ++ t3) ++ t4) (32 ∷ []) e4 in
-    let e6 = p6.ensures.1 ∙ gathered_more l p5.new.0 at p5.result ((((t1 ++ t2) ++ t3) ++ t4) ++ (32 ∷ [])) t6 e5 in
-    (p6.ensures.0, e6 ∙ ap (gathered l at) (pieces t1 t2 t3 t4 t6))
+    let e2 = p2.ensures.line_after ∙ gathered_more l p1.new.line at p1.result t1 t2 p1.ensures.line_after in
+    let e3 = p3.ensures.line_after ∙ gathered_more l p2.new.line at p2.result (t1 ++ t2) t3 e2 in
+    let e4 = p4.ensures.line_after ∙ gathered_more l p3.new.line at p3.result ((t1 ++ t2) ++ t3) t4 e3 in
+    let e5 = p5.ensures.line_after ∙ gathered_more l p4.new.line at p4.result (((t1 ++ t2) ++ t3) ++ t4) (32 ∷ []) e4 in
+    let e6 = p6.ensures.line_after ∙ gathered_more l p5.new.line at p5.result ((((t1 ++ t2) ++ t3) ++ t4) ++ (32 ∷ [])) t6 e5 in
+    e6 ∙ ap (gathered l at) (pieces t1 t2 t3 t4 t6)

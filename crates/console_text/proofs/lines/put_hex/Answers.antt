@@ -1,13 +1,11 @@
 use lib.Seq.{take_all}
 use Rattle.io.specs.Digits.{hex_digit_ascii}
-use borrow.Author.Rules.{rules}
-use mathlib.Core.Path.{◌≡◌, sym, ◌∙◌, ap}
+use mathlib.Core.Path.{sym, ◌∙◌, ap}
 use mathlib.Core.List.{List, [], ◌∷◌}
-use Prim.Native.Nat.{ℕ, ◌-◌, ◌/◌, ◌%◌, ◌≤◌}
+use Prim.Native.Nat.{ℕ, ◌/◌, ◌%◌}
 use native.Mathlib.Omega.{arith}
 use native.Mathlib.Numerals.{add-one}
-use lib.ListN.{length, take, get_or}
-use Rattle.io.specs.Counts.{IsPrefixLen}
+use lib.ListN.{take, get_or}
 use Rattle.console_text.specs.Lines.{gathered, hexadecimal}
 use Rattle.console_text.proofs.LineLaws.{gathered_more, hex_next, hex_none}
 use Rattle.console_text.proofs.lines.put_hex.Goals as goal
@@ -17,10 +15,10 @@ loop-i-init c =
     let a = c.args in
     let p = c.put-end in (
       omega arith,
-      p.ensures.0,
-      p.ensures.1
-          ∙ sym (gathered_more a.line.now p.new.0 a.at p.result [] [] p.ensures.1)
-          ∙ ap (gathered p.new.0 p.result) (hex_none a.bytes.now),
+      p.ensures.prefix_len,
+      p.ensures.line_after
+          ∙ sym (gathered_more a.line.now p.new.line a.at p.result [] [] p.ensures.line_after)
+          ∙ ap (gathered p.new.line p.result) (hex_none a.bytes.now),
     )
 
 pub loop-i-preserved : goal.loop-i-preserved
@@ -30,20 +28,18 @@ loop-i-preserved c =
     let p = c.put-end in
     let b = c.put_byte-end in (
       omega arith,
-      b.ensures.0,
-      b.ensures.1
-          ∙ gathered_more p.new.0 v.line p.result v.end (hexadecimal (take v.i s)) (hex_digit_ascii (get_or s v.i 0 / 16) ∷ hex_digit_ascii (get_or s v.i 0 % 16) ∷ []) v.invariant.2
-          ∙ ap (gathered p.new.0 p.result) (sym (hex_next s v.i (omega arith)) ∙ ap (λ (k : ℕ). hexadecimal (take k s)) (sym (add-one v.i))),
+      b.ensures.prefix_len,
+      b.ensures.line_after
+          ∙ gathered_more p.new.line v.line p.result v.end (hexadecimal (take v.i s)) (hex_digit_ascii (get_or s v.i 0 / 16) ∷ hex_digit_ascii (get_or s v.i 0 % 16) ∷ []) v.invariant.2
+          ∙ ap (gathered p.new.line p.result) (sym (hex_next s v.i (omega arith)) ∙ ap (λ (k : ℕ). hexadecimal (take k s)) (sym (add-one v.i))),
     )
 
-pub returns : goal.returns
-returns c =
+pub returns-clause-line_after : goal.returns-clause-line_after
+returns-clause-line_after c =
     let a = c.args in
     let s = a.bytes.now in
     let v = c.loop-i in
-    let p = c.put-end in (
-      v.invariant.1,
-      v.invariant.2
-          ∙ ap (λ (t : List ℕ). gathered p.new.0 p.result (hexadecimal t)) (take_all v.i s (omega arith))
-          ∙ gathered_more a.line.now p.new.0 a.at p.result [] (hexadecimal s) p.ensures.1,
-    )
+    let p = c.put-end in
+    v.invariant.2
+    ∙ ap (λ (t : List ℕ). gathered p.new.line p.result (hexadecimal t)) (take_all v.i s (omega arith))
+    ∙ gathered_more a.line.now p.new.line a.at p.result [] (hexadecimal s) p.ensures.line_after

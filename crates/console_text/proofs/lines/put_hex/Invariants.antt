@@ -1,15 +1,8 @@
-use lib.Seq.{take_all}
-use Rattle.io.specs.Digits.{hex_digit_ascii}
-use borrow.Author.Rules.{rules}
-use mathlib.Core.Path.{◌≡◌, sym, ◌∙◌, ap}
-use mathlib.Core.List.{List, [], ◌∷◌}
-use Prim.Native.Nat.{ℕ, ◌-◌, ◌/◌, ◌%◌, ◌≤◌}
-use native.Mathlib.Omega.{arith}
-use native.Mathlib.Numerals.{add-one}
-use lib.ListN.{length, take, get_or}
+use mathlib.Core.Path.{◌≡◌}
+use Prim.Native.Nat.{◌-◌, ◌≤◌}
+use lib.ListN.{length, take}
 use Rattle.io.specs.Counts.{IsPrefixLen}
 use Rattle.console_text.specs.Lines.{gathered, hexadecimal}
-use Rattle.console_text.proofs.LineLaws.{gathered_more, hex_next, hex_none}
 use Rattle.console_text.proofs.lines.put_hex.Given as goal
 
 abbrev pub invariant-loop-i : goal.invariant-loop-i

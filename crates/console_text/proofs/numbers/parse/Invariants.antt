@@ -1,13 +1,7 @@
-use borrow.Author.Rules.{rules}
-use mathlib.Core.Path.{◌≡◌, sym, ◌∙◌, ap}
-use Prim.Native.Nat.{ℕ, suc, ◌-◌}
-use native.Mathlib.Omega.{arith}
-use native.Mathlib.Numerals.{add-one}
+use mathlib.Core.Path.{◌≡◌}
+use Prim.Native.Nat.{◌-◌}
 use lib.ListN.{length, drop}
-use borrow.Author.Tests.{eq-eqb, ne_eqb}
-use Rattle.console_text.specs.declared.numbers.Number.{Number}
-use Rattle.console_text.specs.Numbers.{with_digits, number_of, parsed}
-use Rattle.console_text.proofs.NumberLaws.{with_next, with_none}
+use Rattle.console_text.specs.Numbers.{with_digits, number_of}
 use Rattle.console_text.proofs.numbers.parse.Given as goal
 
 abbrev pub invariant-loop-i : goal.invariant-loop-i

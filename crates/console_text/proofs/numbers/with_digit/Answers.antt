@@ -1,6 +1,5 @@
 use borrow.Author.Tests.{lt-ltb, le-ltb}
 use Rattle.console_text.specs.Numbers.{with_digit}
-use borrow.Author.Rules.{rules}
 use Rattle.console_text.proofs.numbers.with_digit.Goals as goal
 
 pub returns-then-digit-lt48 : goal.returns-then-digit-lt48

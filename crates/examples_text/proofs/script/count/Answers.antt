@@ -1,21 +1,16 @@
-use mathlib.Core.Path.{◌≡◌}
-use mathlib.Core.Logic.{⊎_elim}
-use Prim.Native.Nat.{◌+◌, ◌-◌, ◌≤◌}
 use native.Mathlib.Omega.{arith}
-use lib.ListN.{length, drop}
-use Rattle.examples_text.specs.Lines.{spaces}
 use Rattle.examples_text.proofs.LineLaws.{spaces_space, spaces_other, spaces_end}
-use borrow.Author.Rules.{rules}
 use Rattle.examples_text.proofs.script.count.Goals as goal
+use Rattle.examples_text.proofs.script.count.Goals.{then-bytes-i-eq-SPACE, else-bytes-i-eq-SPACE}
 
 pub loop-i-preserved : goal.loop-i-preserved
 loop-i-preserved c =
     let l = c.loop-i in
     let s = c.args.line.now in
-    ⊎_elim
-    (λ w. (omega (arith, w.1), omega (arith, w.1, l.invariant.1, spaces_space s l.i (omega arith) (omega (arith, w.0.taken)))))
-    (λ w. (omega (arith, w.1), omega (arith, w.1, l.invariant.1, spaces_other s l.i (omega arith) w.0.left)))
-    c.if-bytes-i-eq-SPACE.branch
+    elim c.if-bytes-i-eq-SPACE.branch [
+      | then-bytes-i-eq-SPACE w ↦ let e = spaces_space s l.i (omega arith) w.if-bytes-i-eq-SPACE.true in (omega arith, omega arith)
+      | else-bytes-i-eq-SPACE w ↦ let e = spaces_other s l.i (omega arith) w.if-bytes-i-eq-SPACE.false in (omega arith, omega arith)
+    ]
 
 pub returns : goal.returns
 returns c =

@@ -1,11 +1,7 @@
 use mathlib.Core.Path.{◌≡◌}
-use mathlib.Core.Logic.{⊎_elim}
 use Prim.Native.Nat.{◌+◌, ◌-◌, ◌≤◌}
-use native.Mathlib.Omega.{arith}
 use lib.ListN.{length, drop}
 use Rattle.examples_text.specs.Lines.{spaces}
-use Rattle.examples_text.proofs.LineLaws.{spaces_space, spaces_other, spaces_end}
-use borrow.Author.Rules.{rules}
 use Rattle.examples_text.proofs.script.count.Given as goal
 
 abbrev pub invariant-loop-i : goal.invariant-loop-i

@@ -1,11 +1,8 @@
-use mathlib.Core.Path.{◌≡◌, sym, ap, ◌∙◌}
-use Prim.Native.Nat.{ℕ, ◌-◌}
+use mathlib.Core.Path.{sym, ap, ◌∙◌}
+use Prim.Native.Nat.{ℕ}
 use native.Mathlib.Omega.{arith}
 use lib.Dec.{leb}
-use lib.ListN.{length, drop}
-use Rattle.examples_text.specs.Lines.{starts_with}
 use Rattle.examples_text.proofs.LineLaws.{starts_next, starts_differs, starts_end}
-use borrow.Author.Rules.{rules}
 use Rattle.examples_text.proofs.script.first_is.Goals as goal
 
 pub returns-then-byte-word : goal.returns-then-byte-word

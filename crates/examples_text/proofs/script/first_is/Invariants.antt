@@ -1,11 +1,7 @@
-use mathlib.Core.Path.{◌≡◌, sym, ap, ◌∙◌}
-use Prim.Native.Nat.{ℕ, ◌-◌}
-use native.Mathlib.Omega.{arith}
-use lib.Dec.{leb}
+use mathlib.Core.Path.{◌≡◌}
+use Prim.Native.Nat.{◌-◌}
 use lib.ListN.{length, drop}
 use Rattle.examples_text.specs.Lines.{starts_with}
-use Rattle.examples_text.proofs.LineLaws.{starts_next, starts_differs, starts_end}
-use borrow.Author.Rules.{rules}
 use Rattle.examples_text.proofs.script.first_is.Given as goal
 
 abbrev pub invariant-loop-i : goal.invariant-loop-i

@@ -1,9 +1,5 @@
-use mathlib.Core.Path.{sym, subst}
-use mathlib.Core.List.{List}
-use Prim.Native.Nat.{ℕ, ◌-◌}
-use native.Mathlib.Omega.{arith}
-use Rattle.examples_text.proofs.LineLaws.{Reading, reading_none, reading_next, reading_last, reading_full}
-use borrow.Author.Rules.{rules}
+use Prim.Native.Nat.{◌-◌}
+use Rattle.examples_text.proofs.LineLaws.{Reading}
 use Rattle.examples_text.proofs.script.next.Given as goal
 
 abbrev pub invariant-loop-i : goal.invariant-loop-i

@@ -1,12 +1,11 @@
-use mathlib.Core.Path.{◌≡◌, sym, ap, ◌∙◌}
-use mathlib.Core.Logic.{⊎_elim}
-use Prim.Native.Nat.{ℕ, ◌+◌, ◌-◌, ◌<◌}
+use mathlib.Core.Path.{sym, ap, ◌∙◌}
+use Prim.Native.Nat.{ℕ, ◌+◌, ◌<◌}
 use native.Mathlib.Omega.{arith}
-use lib.ListN.{length, drop}
+use lib.ListN.{drop}
 use Rattle.examples_text.specs.Lines.{after_spaces}
 use Rattle.examples_text.proofs.LineLaws.{after_zero_lem, after_space, after_other, after_end}
-use borrow.Author.Rules.{rules}
 use Rattle.examples_text.proofs.script.place.Goals as goal
+use Rattle.examples_text.proofs.script.place.Goals.{then-line-i-eq-SPACE, else-line-i-eq-SPACE}
 
 pub returns-then-left-eq0 : goal.returns-then-left-eq0
 returns-then-left-eq0 c =
@@ -18,10 +17,10 @@ loop-i-preserved c =
     let l = c.loop-i in
     let s = c.args.line.now in
     let some : 0 < l.left = omega (arith, c.if-left-eq0.false) in
-    ⊎_elim
-    (λ w. l.invariant ∙ after_space l.left s l.i some (omega arith) w.0.taken ∙ ap (λ (k : ℕ). after_spaces k (drop (l.i + 1) s)) (sym w.1))
-    (λ w. l.invariant ∙ after_other l.left s l.i some (omega arith) w.0.left ∙ ap (λ (k : ℕ). after_spaces k (drop (l.i + 1) s)) (sym w.1))
-    c.if-line-i-eq-SPACE.branch
+    elim c.if-line-i-eq-SPACE.branch [
+      | then-line-i-eq-SPACE w ↦ l.invariant ∙ after_space l.left s l.i some (omega arith) w.if-line-i-eq-SPACE.true ∙ ap (λ (k : ℕ). after_spaces k (drop (l.i + 1) s)) (sym w.left-is)
+      | else-line-i-eq-SPACE w ↦ l.invariant ∙ after_other l.left s l.i some (omega arith) w.if-line-i-eq-SPACE.false ∙ ap (λ (k : ℕ). after_spaces k (drop (l.i + 1) s)) (sym w.left-is)
+    ]
 
 pub returns : goal.returns
 returns c =

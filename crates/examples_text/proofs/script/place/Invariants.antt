@@ -1,11 +1,7 @@
-use mathlib.Core.Path.{◌≡◌, sym, ap, ◌∙◌}
-use mathlib.Core.Logic.{⊎_elim}
-use Prim.Native.Nat.{ℕ, ◌+◌, ◌-◌, ◌<◌}
-use native.Mathlib.Omega.{arith}
+use mathlib.Core.Path.{◌≡◌}
+use Prim.Native.Nat.{◌-◌}
 use lib.ListN.{length, drop}
 use Rattle.examples_text.specs.Lines.{after_spaces}
-use Rattle.examples_text.proofs.LineLaws.{after_zero_lem, after_space, after_other, after_end}
-use borrow.Author.Rules.{rules}
 use Rattle.examples_text.proofs.script.place.Given as goal
 
 abbrev pub invariant-loop-i : goal.invariant-loop-i

@@ -1,20 +1,12 @@
-use mathlib.Core.Path.{◌≡◌, refl, sym, ◌∙◌}
-use Prim.Native.Nat.{◌-◌, ◌≤◌}
+use mathlib.Core.Path.{sym, ◌∙◌}
 use native.Mathlib.Omega.{arith}
-use lib.ListN.{length, drop}
-use Rattle.examples_text.specs.Values.{with_digits}
 use Rattle.examples_text.proofs.ValueLaws.{with_end, with_stop, with_other, with_long, with_next}
-use borrow.Author.Rules.{rules}
 use Rattle.examples_text.proofs.values.decimal.Goals as goal
 
 pub returns-then-byte-le-SPACE : goal.returns-then-byte-le-SPACE
 returns-then-byte-le-SPACE c =
     let a = c.args in
     sym (with_stop 0 a.line.now a.at (omega (arith, c.byte.ensures, c.if-byte-le-SPACE.true)))
-
-pub loop-i-init : goal.loop-i-init
-loop-i-init c =
-    (refl, omega arith)
 
 pub returns-then-bytes-i-le-SPACE : goal.returns-then-bytes-i-le-SPACE
 returns-then-bytes-i-le-SPACE c =

@@ -1,10 +1,7 @@
-use mathlib.Core.Path.{◌≡◌, refl, sym, ◌∙◌}
+use mathlib.Core.Path.{◌≡◌}
 use Prim.Native.Nat.{◌-◌, ◌≤◌}
-use native.Mathlib.Omega.{arith}
 use lib.ListN.{length, drop}
 use Rattle.examples_text.specs.Values.{with_digits}
-use Rattle.examples_text.proofs.ValueLaws.{with_end, with_stop, with_other, with_long, with_next}
-use borrow.Author.Rules.{rules}
 use Rattle.examples_text.proofs.values.decimal.Given as goal
 
 abbrev pub invariant-loop-i : goal.invariant-loop-i

@@ -1,7 +1,6 @@
 use Rattle.examples_text.specs.Values.{digit}
 use native.Mathlib.Omega.{arith}
 use borrow.Author.Tests.{lt-ltb, le-ltb, le-leb, lt-leb}
-use borrow.Author.Rules.{rules}
 use Rattle.examples_text.proofs.values.digit.Goals as goal
 
 pub returns-then-byte-lt48 : goal.returns-then-byte-lt48

@@ -1,6 +1,5 @@
 use borrow.Author.Tests.{lt-ltb, le-ltb}
 use Rattle.examples_text.specs.Values.{pair_of}
-use borrow.Author.Rules.{rules}
 use Rattle.examples_text.proofs.values.pair.Goals as goal
 
 pub returns-then-byte-gt-SPACE : goal.returns-then-byte-gt-SPACE

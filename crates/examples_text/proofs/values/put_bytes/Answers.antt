@@ -1,19 +1,12 @@
 use mathlib.Core.Path.{sym, ap, ◌∙◌}
 use mathlib.Core.List.{◌∷◌}
-use Prim.Native.Nat.{ℕ, ◌+◌, ◌-◌}
+use Prim.Native.Nat.{ℕ, ◌+◌}
 use native.Mathlib.Omega.{arith}
-use lib.ListN.{length, drop}
+use lib.ListN.{drop}
 use Rattle.examples_text.specs.Lines.{after_spaces}
 use Rattle.examples_text.specs.Values.{byte_room, bytes_of}
-use Rattle.examples_text.proofs.ValueLaws.{bytes_next, bytes_stop, bytes_end, Left, left_all, left_next, left_none, left_full}
-use borrow.Author.Rules.{rules}
+use Rattle.examples_text.proofs.ValueLaws.{bytes_next, bytes_stop, bytes_end, left_next, left_none, left_full}
 use Rattle.examples_text.proofs.values.put_bytes.Goals as goal
-
-pub loop-i-init : goal.loop-i-init
-loop-i-init c =
-    let a = c.args in
-    let s = a.line.now in
-    left_all byte_room a.area.now a.at (bytes_of (after_spaces a.k s)) (bytes_of (drop c.place-i.result s)) (ap bytes_of (sym c.place-i.ensures))
 
 pub returns-then-bytes-i-le-NEWLINE : goal.returns-then-bytes-i-le-NEWLINE
 returns-then-bytes-i-le-NEWLINE c =

@@ -1,12 +1,7 @@
-use mathlib.Core.Path.{◌≡◌, refl, sym, ap, ◌∙◌}
-use mathlib.Core.List.{◌∷◌}
-use mathlib.Core.Logic.{⊎_elim}
-use Prim.Native.Nat.{ℕ, ◌+◌, ◌-◌}
-use native.Mathlib.Omega.{arith}
-use lib.ListN.{length, set, drop}
+use Prim.Native.Nat.{◌-◌}
+use lib.ListN.{length, drop}
 use Rattle.examples_text.specs.Values.{number_room, numbers_of}
-use Rattle.examples_text.proofs.ValueLaws.{numbers_space, numbers_other, numbers_end, Left, left_all, left_as, left_same, left_next, left_none, left_full}
-use borrow.Author.Rules.{rules}
+use Rattle.examples_text.proofs.ValueLaws.{Left}
 use Rattle.examples_text.proofs.values.put_numbers.Given as goal
 
 abbrev pub invariant-loop-i : goal.invariant-loop-i

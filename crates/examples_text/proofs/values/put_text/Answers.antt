@@ -1,19 +1,11 @@
-use mathlib.Core.Path.{sym, ap}
-use Prim.Native.Nat.{◌+◌, ◌-◌}
+use Prim.Native.Nat.{◌+◌}
 use native.Mathlib.Omega.{arith}
-use lib.ListN.{length, get_or, drop}
+use lib.ListN.{get_or, drop}
 use Rattle.examples_text.specs.Lines.{after_spaces, text}
 use Rattle.examples_text.specs.Values.{byte_room}
 use Rattle.examples_text.proofs.LineLaws.{text_next, text_stop, text_end}
-use Rattle.examples_text.proofs.ValueLaws.{Left, left_all, left_next, left_none, left_full}
-use borrow.Author.Rules.{rules}
+use Rattle.examples_text.proofs.ValueLaws.{left_next, left_none, left_full}
 use Rattle.examples_text.proofs.values.put_text.Goals as goal
-
-pub loop-i-init : goal.loop-i-init
-loop-i-init c =
-    let a = c.args in
-    let s = a.line.now in
-    left_all byte_room a.area.now a.at (text (after_spaces a.k s)) (text (drop c.place-i.result s)) (ap text (sym c.place-i.ensures))
 
 pub returns-then-bytes-i-le-NEWLINE : goal.returns-then-bytes-i-le-NEWLINE
 returns-then-bytes-i-le-NEWLINE c =

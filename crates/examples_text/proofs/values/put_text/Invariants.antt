@@ -1,12 +1,8 @@
-use mathlib.Core.Path.{sym, ap}
-use Prim.Native.Nat.{◌+◌, ◌-◌}
-use native.Mathlib.Omega.{arith}
-use lib.ListN.{length, get_or, drop}
+use Prim.Native.Nat.{◌-◌}
+use lib.ListN.{length, drop}
 use Rattle.examples_text.specs.Lines.{after_spaces, text}
 use Rattle.examples_text.specs.Values.{byte_room}
-use Rattle.examples_text.proofs.LineLaws.{text_next, text_stop, text_end}
-use Rattle.examples_text.proofs.ValueLaws.{Left, left_all, left_next, left_none, left_full}
-use borrow.Author.Rules.{rules}
+use Rattle.examples_text.proofs.ValueLaws.{Left}
 use Rattle.examples_text.proofs.values.put_text.Given as goal
 
 abbrev pub invariant-loop-i : goal.invariant-loop-i

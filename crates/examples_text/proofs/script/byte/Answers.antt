@@ -1,9 +1,0 @@
-use mathlib.Core.Path.{sym}
-use native.Mathlib.Omega.{arith}
-use lib.ListN.{get_or-eq_default}
-use borrow.Author.Rules.{rules}
-use Rattle.examples_text.proofs.script.byte.Goals as goal
-
-pub returns-else-i-line : goal.returns-else-i-line
-returns-else-i-line c =
-    sym (get_or-eq_default c.args.line.now 0 {n = c.args.i} (omega arith))
