@@ -14,11 +14,11 @@ features=$(printf '%s,' "${groups[@]}")
 if [ -z "${HEOLSTORPIT_LIB_DIR:-}" ]; then
     need rt 'the Rattle kit'
     mkdir -p ../target
-    (cd .. && rt staticlib heolstorpit) > ../target/staticlib.log 2>&1 || {
-        tail -n 30 ../target/staticlib.log
+    (cd .. && rt lib heolstorpit) > ../target/built.log 2>&1 || {
+        tail -n 30 ../target/built.log
         exit 1
     }
-    HEOLSTORPIT_LIB_DIR=$(cd ../target/staticlib && pwd)
+    HEOLSTORPIT_LIB_DIR=$(cd ../crates/heolstorpit/out && pwd)
     export HEOLSTORPIT_LIB_DIR
 fi
 

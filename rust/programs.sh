@@ -5,8 +5,8 @@
 set -euo pipefail
 cd "$(dirname "$0")/.."
 for program in receive show_log; do
-    [ -x "target/bin/$program" ] || {
-        echo "$0: needs target/bin/$program (rt check $program)" >&2
+    [ -x "crates/$program/out/$program" ] || {
+        echo "$0: needs crates/$program/out/$program (rt run $program)" >&2
         exit 1
     }
 done
@@ -24,7 +24,7 @@ same() { # what is compared, on standard input the one, and a file the other
 }
 
 # a log, and the frames in it are those that are printed without `log`
-target/bin/receive 2 1 97 121 log < "$stream" 2> "$work/said" | tee "$work/log" | target/bin/show_log > "$work/shown"
+crates/receive/out/receive 2 1 97 121 log < "$stream" 2> "$work/said" | tee "$work/log" | crates/show_log/out/show_log > "$work/shown"
 same 'the log that receive writes' "$log" < "$work/log"
 grep -v -e '^[0-9]' -e '^gap from ' "$printed" | same 'what receive says beside the log' "$work/said"
 same 'what show_log prints of it' "$shown" < "$work/shown"
@@ -56,7 +56,7 @@ while IFS='|' read -r how lines last; do
     # shellcheck disable=SC2086
     damage $how > "$work/damaged"
     { head -n "$lines" "$shown" && echo "$last"; } > "$work/expected"
-    target/bin/show_log < "$work/damaged" | same "what show_log prints of the log damaged by $how" "$work/expected"
+    crates/show_log/out/show_log < "$work/damaged" | same "what show_log prints of the log damaged by $how" "$work/expected"
     cases=$((cases + 1))
 done < rust/programs/damaged.txt
 [ "$cases" -gt 0 ]
@@ -95,7 +95,7 @@ twice() { # a packet of 160 SIDs and, in a redundant block (RFC 2198: offset, le
 }
 verdicts() { # what is compared, packets, frames, repeated, late, no room; the stream on standard input
     echo "packets $2, refused 0, frames $3, inserted $3, repeated $4, better 0, late $5, far 0, no room $6" > "$work/expected"
-    target/bin/receive 4 1 97 121 | grep '^packets ' | same "$1" "$work/expected"
+    crates/receive/out/receive 4 1 97 121 | grep '^packets ' | same "$1" "$work/expected"
 }
 { sids 1 0 100 && sids 2 100 150; } | verdicts 'room made for a packet of 150 frames' 2 250 0 0 0
 sids 1 0 339 | verdicts 'a packet of 339 frames, of which 192 have room' 1 192 0 0 147

@@ -10,7 +10,6 @@ use Rattle.rtp.proofs.TestLaws.{by-test, not-both, both}
 use Rattle.formats.specs.declared.facts.Format.{Format}
 use Rattle.formats.specs.declared.facts.FrameTable.{FrameTable}
 use Rattle.formats.specs.declared.frames.Coded.{Coded}
-use Rattle.formats.specs.declared.frames.Frame.{Frame}
 use Rattle.formats.specs.Formats.{no_code, g719_format, gsm_format, format_of}
 use Rattle.formats.specs.Frames.{no_data, sound, sid, g719_length, gsm_length, length_in, frame, frame_in, frame_of}
 use Rattle.frame_codes.specs.Codes.{is_frame, code_below, highest_code, code_for, table_code}

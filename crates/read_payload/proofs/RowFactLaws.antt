@@ -13,7 +13,6 @@ use Rattle.rtp.specs.Sizes.{max_rows}
 use Rattle.rtp.specs.Numbers.{byte_at}
 use Rattle.rtp.proofs.TestLaws.{by-test}
 use Rattle.formats.specs.declared.frames.Coded.{Coded}
-use Rattle.read_contents.specs.declared.entries.Entry.{Entry}
 use Rattle.read_contents.specs.declared.entries.EntryRead.{EntryRead}
 use Rattle.read_contents.specs.declared.entries.ContentsRead.{ContentsRead}
 use Rattle.formats.specs.Formats.{format_of}

@@ -27,9 +27,7 @@ use Rattle.rtp.proofs.AreaLaws.{over_part}
 use Rattle.read_headers.proofs.RedundancyLaws.{headers_step_lem, at_redundant, ahead}
 use Rattle.read_contents.specs.declared.entries.ContentsRead.{ContentsRead}
 use Rattle.read_payload.specs.declared.reading.PayloadRead.{PayloadRead}
-use Rattle.formats.specs.Formats.{format_of}
-use Rattle.formats.specs.Frames.{step_of}
-use Rattle.read_contents.specs.Contents.{Contents, refused as unread, groups, contents, size_in, sizes_answer}
+use Rattle.read_contents.specs.Contents.{Contents, refused as unread, groups, contents, sizes_answer}
 use Rattle.read_payload.specs.Payloads.{body, payload, Rows, no_rows, rows_of, placed_rows, payload_rows, rows_answer, rows_words, asked_rows}
 use Rattle.read_rows.proofs.RowLaws.{length_marked}
 use Rattle.read_payload.proofs.PayloadLaws.{length_table, start_in, at_fault, part_fault, pay_rows, pay_place, pay_small, asked_in}

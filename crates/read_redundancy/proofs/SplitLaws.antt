@@ -18,7 +18,7 @@ use Rattle.read_headers.specs.declared.redundancy.HeaderSizes.{HeaderSizes}
 use Rattle.read_headers.specs.declared.redundancy.HeadersRead.{HeadersRead}
 use Rattle.read_headers.proofs.RedundancyLaws.{Small, Within, within, InFront, front}
 use Rattle.rtp.proofs.ByteLaws.{Bytes}
-use Rattle.read_payload.specs.Payloads.{Rows, no_rows, rows_answer}
+use Rattle.read_payload.specs.Payloads.{no_rows, rows_answer}
 use Rattle.read_payload.specs.declared.reading.PayloadRead.{PayloadRead}
 use Rattle.read_redundancy.specs.Blocks.{split_rows, redundant_rows}
 use Rattle.read_redundancy.specs.Room.{headed_rows, blocks_from, BlocksAsked, BlocksRoom}

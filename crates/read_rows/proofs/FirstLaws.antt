@@ -1,5 +1,5 @@
 -- The first entry's DIS1 passed over: a table's sizes stay, and its rows are those counted from a time before the payload's.
-use Rattle.std.proofs.Common.{◌≡◌, ℕ, zero, suc, ◌+◌, ◌*◌, ◌%◌, ◌^◌, ◌<◌, ◌≤◌, true, false, ltb, List, [], ◌∷◌, ◌++◌, length, drop, sym, refl, ap, subst, arith, ltb-false, ltb-true, lt-ltb}
+use Rattle.std.proofs.Common.{◌≡◌, ℕ, zero, suc, ◌+◌, ◌*◌, ◌%◌, ◌^◌, ◌<◌, ◌≤◌, ltb, List, [], ◌∷◌, ◌++◌, length, drop, sym, refl, ap, subst, arith, ltb-false, ltb-true, lt-ltb}
 use Rattle.rtp.specs.Editions.{Edition}
 use Rattle.rtp.specs.Sizes.{max_rows}
 use Rattle.rtp.specs.Time.{difference}
@@ -9,14 +9,11 @@ use Rattle.rtp.proofs.TestLaws.{by-test}
 use Rattle.formats.specs.Frames.{step_of}
 use Rattle.read_contents.specs.declared.entries.Entry.{Entry}
 use Rattle.read_contents.specs.declared.entries.EntryRead.{EntryRead}
-use Rattle.read_contents.specs.declared.entries.Sizes.{Sizes}
-use Rattle.read_contents.specs.declared.entries.ContentsRead.{ContentsRead}
-use Rattle.read_contents.specs.Contents.{entry_size, entry_of, Group, Contents, refused, groups, gap_at, gaps_from, meaning, prepend, contents, direct, pass_first, row_count, size_in, frames_in, sizes_answer}
+use Rattle.read_contents.specs.Contents.{entry_of, Group, Contents, refused, groups, gap_at, gaps_from, meaning, prepend, contents, direct, pass_first, row_count, size_in, frames_in, sizes_answer}
 use Rattle.read_rows.specs.Rows.{Row, placed, time_after, block_rows, group_rows, table_rows, words, marked}
-use Rattle.read_rows.specs.Room.{contents_words, origin_of}
+use Rattle.read_rows.specs.Room.{contents_words}
 use Rattle.read_contents.proofs.EntryLaws.{fair}
-use Rattle.read_rows.proofs.GroupLaws.{size_more}
-use Rattle.read_contents.proofs.ContentsLaws.{contents_step_lem, contents_refused, contents_last, contents_more, at_refused}
+use Rattle.read_contents.proofs.ContentsLaws.{contents_step_lem, contents_refused, contents_last, contents_more}
 
 pub length_direct : (gaps : List ℕ) → length (direct gaps) ≡ length gaps
 length_direct [] = refl

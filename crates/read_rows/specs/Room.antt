@@ -1,10 +1,10 @@
 -- What functions ask of their callers inside this crate: room in an area, and numbers that fit its words.
-use Rattle.std.specs.Prelude.{ℕ, ◌+◌, ◌*◌, ◌^◌, ◌<◌, ◌≤◌, List, [], length}
+use Rattle.std.specs.Prelude.{ℕ, ◌+◌, ◌*◌, ◌^◌, ◌<◌, ◌≤◌, List, []}
 use Rattle.rtp.specs.Sizes.{row_width}
 use Rattle.read_contents.specs.declared.entries.ContentsRead.{ContentsRead}
 use Rattle.formats.specs.Frames.{step_of}
 use Rattle.rtp.specs.Time.{difference}
-use Rattle.read_contents.specs.Contents.{entry_size, gap_at, Contents, refused, groups}
+use Rattle.read_contents.specs.Contents.{gap_at, Contents, refused, groups}
 use Rattle.read_rows.specs.Rows.{words, table_rows, marked}
 
 -- a row's kind is 256 × mark + class

@@ -3,7 +3,6 @@ use Prim.Native.Nat.{ℕ}
 use Rattle.formats.specs.Formats.{amr_format}
 use Rattle.frame_codes.specs.Codes.{graded_code}
 use Rattle.frame_codes.proofs.AmrLaws.{amr_code, amr_past}
-use borrow.Author.Rules.{rules}
 use Rattle.frame_codes.proofs.amr_codes.amr_code.Goals as goal
 
 pub returns-then-n-le-AMR_LONGEST : goal.returns-then-n-le-AMR_LONGEST

@@ -1,6 +1,5 @@
 use Prim.Native.Nat.{suc}
 use native.Mathlib.Omega.{arith}
-use borrow.Author.Rules.{rules}
 use Rattle.formats.specs.declared.facts.FrameTable.{FrameTable}
 use Rattle.formats.specs.Frames.{amr_length, length_in}
 use Rattle.frame_codes.specs.Codes.{amr_longest, type_below, type_for}

@@ -3,7 +3,6 @@ use Prim.Native.Nat.{ℕ}
 use Rattle.formats.specs.Formats.{amr_wb_format}
 use Rattle.frame_codes.specs.Codes.{graded_code}
 use Rattle.frame_codes.proofs.AmrLaws.{amr_wb_code, amr_wb_past}
-use borrow.Author.Rules.{rules}
 use Rattle.frame_codes.proofs.amr_codes.amr_wb_code.Goals as goal
 
 pub returns-then-n-le-AMR_WB_LONGEST : goal.returns-then-n-le-AMR_WB_LONGEST

@@ -1,10 +1,7 @@
-use Prim.Native.Nat.{◌≤◌}
 use native.Mathlib.Omega.{arith}
-use lib.Dec.{eqb}
 use borrow.Author.Tests.{eq-eqb, ne_eqb}
 use Rattle.frame_codes.specs.Codes.{graded_code}
 use Rattle.frame_codes.proofs.AmrLaws.{good_small}
-use borrow.Author.Rules.{rules}
 use Rattle.frame_codes.proofs.amr_codes.graded_code.Goals as goal
 
 pub returns-then-kind-eq-NO_TYPE : goal.returns-then-kind-eq-NO_TYPE

@@ -1,4 +1,3 @@
-use borrow.Author.Rules.{rules}
 use borrow.Author.Tests.{lt-ltb, le-ltb}
 use Rattle.frame_codes.specs.Codes.{has_length}
 use Rattle.frame_codes.proofs.amr_codes.has_length.Goals as goal

@@ -1,7 +1,6 @@
 use mathlib.Core.Path.{ap, sym}
 use Rattle.formats.specs.Frames.{amr_length, amr_wb_length, length_in}
 use Rattle.frame_codes.specs.Codes.{sound_bits}
-use borrow.Author.Rules.{rules}
 use Rattle.frame_codes.proofs.amr_codes.sounds_of.Goals as goal
 
 pub returns-in-Amr : goal.returns-in-Amr

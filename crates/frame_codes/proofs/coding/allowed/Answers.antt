@@ -1,7 +1,6 @@
 use mathlib.Core.Path.{◌∙◌, ap}
 use Rattle.formats.specs.declared.facts.Format.{Format}
 use Rattle.frame_codes.proofs.AllowedLaws.{allowed_in_lem}
-use borrow.Author.Rules.{rules}
 use Rattle.frame_codes.proofs.coding.allowed.Goals as goal
 
 pub returns : goal.returns

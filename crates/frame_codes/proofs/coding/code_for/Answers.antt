@@ -2,7 +2,6 @@ use mathlib.Core.Path.{◌∙◌, ap, sym}
 use Rattle.formats.specs.declared.facts.Format.{Format}
 use Rattle.formats.specs.declared.facts.FrameTable.{FrameTable}
 use Rattle.frame_codes.proofs.CodeLaws.{table_code_lem}
-use borrow.Author.Rules.{rules}
 use Rattle.frame_codes.proofs.coding.code_for.Goals as goal
 
 pub returns-in-G719 : goal.returns-in-G719

@@ -1,7 +1,6 @@
 use mathlib.Core.Path.{◌∙◌}
 use borrow.Author.Tests.{eq-eqb, ne_eqb}
 use Rattle.frame_codes.proofs.CodeLaws.{g719_none, g719_no_data}
-use borrow.Author.Rules.{rules}
 use Rattle.frame_codes.proofs.coding.g719_code.Goals as goal
 
 pub returns-then-n-eq0 : goal.returns-then-n-eq0

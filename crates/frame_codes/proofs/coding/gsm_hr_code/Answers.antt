@@ -7,7 +7,6 @@ use borrow.Author.Tests.{lt-leb, eq-eqb, ne_eqb}
 use Rattle.rtp.proofs.TestLaws.{by-test}
 use Rattle.formats.specs.Frames.{no_data, sound, sid, gsm_length}
 use Rattle.frame_codes.proofs.CodeLaws.{gsm_rule, gsm_none, gsm_codes}
-use borrow.Author.Rules.{rules}
 use Rattle.frame_codes.proofs.coding.gsm_hr_code.Goals as goal
 
 -- another class than GSM-HR has

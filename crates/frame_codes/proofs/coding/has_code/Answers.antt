@@ -4,7 +4,6 @@ use lib.Dec.{ltb}
 use Rattle.formats.specs.declared.facts.Format.{Format}
 use Rattle.formats.specs.Formats.{no_code}
 use Rattle.frame_codes.proofs.CodeLaws.{table_code_lem}
-use borrow.Author.Rules.{rules}
 use Rattle.frame_codes.proofs.coding.has_code.Goals as goal
 
 pub returns : goal.returns

@@ -1,7 +1,6 @@
 use mathlib.Core.Path.{◌∙◌}
 use borrow.Author.Tests.{eq-eqb, ne_eqb}
 use Rattle.frame_codes.proofs.CodeLaws.{g719_has_lem}
-use borrow.Author.Rules.{rules}
 use Rattle.frame_codes.proofs.coding.has_g719.Goals as goal
 
 pub returns-then-class-eq0 : goal.returns-then-class-eq0

@@ -1,5 +1,4 @@
 use borrow.Author.Tests.{eq-eqb, ne_eqb}
-use borrow.Author.Rules.{rules}
 use Rattle.frame_codes.proofs.coding.is_allowed.Goals as goal
 
 pub returns-then-class : goal.returns-then-class

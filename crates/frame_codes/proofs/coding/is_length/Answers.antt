@@ -1,7 +1,6 @@
 use mathlib.Core.Path.{◌∙◌}
 use borrow.Author.Tests.{le-ltb, lt-ltb, le-leb, lt-leb}
 use Rattle.frame_codes.proofs.CodeLaws.{is_length, length_is}
-use borrow.Author.Rules.{rules}
 use Rattle.frame_codes.proofs.coding.is_length.Goals as goal
 
 pub returns-then-n-lt80 : goal.returns-then-n-lt80

@@ -2,7 +2,6 @@ use mathlib.Core.Path.{◌≡◌, sym, ◌∙◌}
 use mathlib.Core.Bool.{true, false}
 use borrow.Author.Tests.{le-leb, lt-leb}
 use Rattle.frame_codes.proofs.CodeLaws.{is_length, sound_code, length_is, sound_code_lem}
-use borrow.Author.Rules.{rules}
 use Rattle.frame_codes.proofs.coding.length_code.Goals as goal
 
 pub returns-then-n-le220 : goal.returns-then-n-le220

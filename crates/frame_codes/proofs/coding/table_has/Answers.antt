@@ -1,4 +1,4 @@
-use mathlib.Core.Path.{◌≡◌, ◌∙◌, ap, sym, subst}
+use mathlib.Core.Path.{◌∙◌, ap, sym, subst}
 use mathlib.Core.Bool.{Bool}
 use Prim.Native.Nat.{ℕ, ◌<◌}
 use native.Mathlib.Omega.{arith}
@@ -7,7 +7,6 @@ use Rattle.formats.specs.declared.facts.FrameTable.{FrameTable}
 use Rattle.formats.specs.Formats.{no_code}
 use Rattle.frame_codes.specs.Codes.{table_code, sound_bits, has_length}
 use Rattle.frame_codes.proofs.AmrLaws.{sounds_has, amr_sounds, amr_wb_sounds}
-use borrow.Author.Rules.{rules}
 use Rattle.frame_codes.proofs.coding.table_has.Goals as goal
 
 -- the code that a frame table has

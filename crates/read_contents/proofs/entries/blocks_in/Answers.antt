@@ -1,6 +1,5 @@
 use Rattle.read_contents.specs.Contents.{min_entry}
 use native.Mathlib.Omega.{arith}
-use borrow.Author.Rules.{rules}
 use Rattle.read_contents.proofs.entries.blocks_in.Goals as goal
 
 pub bounds-s-1 : goal.bounds-s-1

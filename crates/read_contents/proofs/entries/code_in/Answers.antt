@@ -1,7 +1,6 @@
 use native.Mathlib.Nat.{mod-lt}
 use mathlib.Core.Path.{refl}
 use Rattle.formats.proofs.FormatLaws.{code_placed}
-use borrow.Author.Rules.{rules}
 use Rattle.read_contents.proofs.entries.code_in.Goals as goal
 
 pub nonzero_div-result : goal.nonzero_div-result

@@ -1,7 +1,6 @@
 use Rattle.read_contents.specs.Contents.{gaps_size, entry_size}
 use native.Mathlib.Omega.{arith}
 use Rattle.read_contents.proofs.EntryLaws.{min_few}
-use borrow.Author.Rules.{rules}
 use Rattle.read_contents.proofs.entries.entry_size.Goals as goal
 
 pub overflow_add-result-then-format_of : goal.overflow_add-result-then-format_of

@@ -1,14 +1,9 @@
-use mathlib.Core.Path.{◌≡◌, ◌∙◌, ap}
-use mathlib.Core.List.{List}
-use Prim.Native.Nat.{ℕ, ◌+◌, ◌/◌, ◌%◌, ◌≤◌}
-use lib.ListN.{length, get_or, drop}
-use lib.Dec.{eqb}
+use Prim.Native.Nat.{◌+◌, ◌/◌}
 use lib.Seq.{get_or-drop}
 use native.Mathlib.Omega.{arith}
 use borrow.Author.Tests.{eq-eqb, ne_eqb}
-use Rattle.read_contents.specs.Contents.{half_at, gap_at}
+use Rattle.read_contents.specs.Contents.{gap_at}
 use Rattle.read_contents.proofs.EntryLaws.{min_few, half_past}
-use borrow.Author.Rules.{rules}
 use Rattle.read_contents.proofs.entries.gap.Goals as goal
 
 pub overflow_add-at : goal.overflow_add-at

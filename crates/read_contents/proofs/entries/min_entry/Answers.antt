@@ -1,5 +1,4 @@
 use Rattle.read_contents.specs.Contents.{min_entry}
-use borrow.Author.Rules.{rules}
 use Rattle.read_contents.proofs.entries.min_entry.Goals as goal
 
 pub returns-then-format_of : goal.returns-then-format_of

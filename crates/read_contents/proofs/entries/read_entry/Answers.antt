@@ -5,7 +5,6 @@ use Rattle.read_contents.proofs.EntryLaws.{min_some}
 use Rattle.read_contents.specs.Contents.{entry_of}
 use Rattle.formats.proofs.NumberLaws.{same_coded}
 use borrow.Author.Tests.{le-ltb, lt-ltb, eq-eqb, ne_eqb}
-use borrow.Author.Rules.{rules}
 use Rattle.read_contents.proofs.entries.read_entry.Goals.{After-frame_of}
 use Rattle.read_contents.proofs.entries.read_entry.Goals as goal
 

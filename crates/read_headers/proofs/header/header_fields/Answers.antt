@@ -1,7 +1,6 @@
 use native.Mathlib.Omega.{arith}
 use Rattle.rtp.proofs.ByteLaws.{read_two, read_four}
 use Rattle.read_headers.specs.Header.{fields}
-use borrow.Author.Rules.{rules}
 use Rattle.read_headers.proofs.header.header_fields.Goals as goal
 
 pub returns : goal.returns

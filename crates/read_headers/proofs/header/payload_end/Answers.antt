@@ -1,6 +1,5 @@
 use Rattle.read_headers.specs.Header.{payload_end}
 use borrow.Author.Tests.{le-ltb, lt-ltb, eq-eqb, ne_eqb}
-use borrow.Author.Rules.{rules}
 use Rattle.read_headers.proofs.header.payload_end.Goals as goal
 
 pub returns-then-first-eq0 : goal.returns-then-first-eq0

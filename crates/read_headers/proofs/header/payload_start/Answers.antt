@@ -6,7 +6,6 @@ use Rattle.rtp.specs.Numbers.{be16}
 use Rattle.rtp.proofs.ByteLaws.{read_two}
 use Rattle.read_headers.specs.Header.{payload_start}
 use borrow.Author.Tests.{le-ltb, lt-ltb, eq-eqb, ne_eqb}
-use borrow.Author.Rules.{rules}
 use Rattle.read_headers.proofs.header.payload_start.Goals.{After-read_u16-words}
 use Rattle.read_headers.proofs.header.payload_start.Goals as goal
 

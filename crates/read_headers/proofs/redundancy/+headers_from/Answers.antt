@@ -9,7 +9,6 @@ use Rattle.rtp.proofs.AreaLaws.{part_to_end}
 use Rattle.rtp.proofs.ByteLaws.{bytes_drop}
 use Rattle.read_headers.proofs.RedundancyLaws.{fair, shorter, at_refused, at_primary, at_redundant, ahead, within, Within, Small, InFront, front}
 use Rattle.read_headers.proofs.NumberLaws.{same_block}
-use borrow.Author.Rules.{rules}
 use Prim.Native.Nat.{ℕ, ◌-◌, ◌<◌, ◌≤◌}
 use Rattle.read_headers.proofs.redundancy.+headers_from.Goals.{After-headers_from, In-Headers, In-Redundant, In-Refused-headers_from}
 use Rattle.read_headers.proofs.redundancy.+headers_from.Goals as goal

@@ -1,6 +1,5 @@
 use Rattle.read_headers.specs.Redundancy.{block_header}
 use borrow.Author.Tests.{le-ltb, lt-ltb, eq-eqb, ne_eqb}
-use borrow.Author.Rules.{rules}
 use Rattle.read_headers.proofs.redundancy.read_block_header.Goals as goal
 
 pub returns-then-s-eq0 : goal.returns-then-s-eq0

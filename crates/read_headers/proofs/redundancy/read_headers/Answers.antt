@@ -2,7 +2,6 @@ use mathlib.Core.Path.{ap, ◌∙◌}
 use Rattle.read_headers.specs.Redundancy.{headers, redundancy_headers, headers_read_numbers, headers_numbers}
 use Rattle.read_headers.proofs.NumberLaws.{answer_numbers}
 use borrow.Author.Tests.{le-ltb, lt-ltb}
-use borrow.Author.Rules.{rules}
 use Rattle.read_headers.proofs.redundancy.read_headers.Goals as goal
 
 pub returns-then-s-gt-MAX_PACKET : goal.returns-then-s-gt-MAX_PACKET

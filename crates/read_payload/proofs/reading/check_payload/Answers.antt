@@ -15,7 +15,6 @@ use Rattle.read_contents.proofs.ContentsLaws.{Small}
 use Rattle.read_payload.proofs.PayloadLaws.{pay_refused, pay_headless, pay_part, pay_rows, pay_place, pay_small, asked_out, asked_long, asked_in, answer_none}
 use Rattle.read_contents.proofs.NumberLaws.{contents_is}
 use Rattle.read_payload.proofs.NumberLaws.{rows_has}
-use borrow.Author.Rules.{rules}
 use Rattle.read_payload.proofs.reading.check_payload.Goals.{Else-s-gt-MAX_PACKET, Else-s-header, In-Contents, In-Refused}
 use Rattle.read_payload.proofs.reading.check_payload.Goals as goal
 

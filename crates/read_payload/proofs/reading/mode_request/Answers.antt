@@ -1,8 +1,7 @@
 use Prim.Native.Nat.{ℕ, ◌/◌}
-use mathlib.Core.Path.{◌≡◌, sym, ◌∙◌, ap}
+use mathlib.Core.Path.{sym, ◌∙◌, ap}
 use Rattle.formats.specs.declared.facts.Format.{Format}
 use Rattle.read_payload.proofs.PayloadLaws.{request_none, request_some, no_byte}
-use borrow.Author.Rules.{rules}
 use Rattle.read_payload.proofs.reading.mode_request.Goals as goal
 
 pub returns-then-format_of-eq0 : goal.returns-then-format_of-eq0

@@ -10,7 +10,7 @@ use Rattle.rtp.specs.declared.refusal.Fault.{Fault}
 use Rattle.formats.specs.Formats.{format_of}
 use Rattle.formats.specs.declared.facts.Format.{Format}
 use Rattle.read_contents.specs.declared.entries.ContentsRead.{ContentsRead}
-use Rattle.read_contents.specs.Contents.{Contents, contents, pass_first, sizes_answer}
+use Rattle.read_contents.specs.Contents.{contents, pass_first, sizes_answer}
 use Rattle.read_contents.proofs.ContentsLaws.{Within}
 use Rattle.read_contents.proofs.NumberLaws.{contents_is}
 use Rattle.read_rows.specs.Tables.{exact, fitting, fitting_words}
@@ -19,7 +19,6 @@ use Rattle.read_payload.specs.Payloads.{body, Rows, no_rows, payload_rows, rows_
 use Rattle.read_payload.specs.declared.reading.PayloadRead.{PayloadRead}
 use Rattle.read_payload.proofs.PayloadLaws.{pay_headless, put_words, put_within, put_refused, put_rows, asked_out, asked_short, asked_long, asked_in, answer_none, words_none}
 use Rattle.read_payload.proofs.NumberLaws.{rows_has}
-use borrow.Author.Rules.{rules}
 use Rattle.read_payload.proofs.reading.read_payload.Goals.{After-put_table, Else-at-s-gt-MAX_PACKET, Else-s-header, In-Contents, In-Refused}
 use Rattle.read_payload.proofs.reading.read_payload.Goals as goal
 

@@ -15,7 +15,6 @@ use Rattle.read_redundancy.specs.Room.{asked_block, blocks_from}
 use Rattle.read_redundancy.proofs.AnswerLaws.{add_answer, then_answer, Few, further, Inside}
 use Rattle.read_redundancy.proofs.BlockLaws.{from_few, from_refused, block_in, first_few, checked_primary, asked_rest, checked, from_inside}
 use Rattle.read_headers.proofs.NumberLaws.{same_block}
-use borrow.Author.Rules.{rules}
 use Prim.Native.Nat.{ℕ, ◌+◌, ◌-◌, ◌<◌, ◌≤◌}
 use Rattle.read_redundancy.proofs.blocks.+check_blocks.Goals.{After-check_blocks, In-Redundant, In-Refused-check_blocks, In-Rows}
 use Rattle.read_redundancy.proofs.blocks.+check_blocks.Goals as goal

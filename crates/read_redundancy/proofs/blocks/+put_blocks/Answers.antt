@@ -1,7 +1,6 @@
 use Rattle.rtp.specs.Editions.{current}
 use Rattle.row_tags.specs.Tags.{redundant_mark}
 use lib.ListN.{length, take, drop, length-take}
-use mathlib.Core.List.{List}
 use mathlib.Core.Path.{◌≡◌, ap, sym, ◌∙◌}
 use native.Mathlib.Omega.{arith}
 use Rattle.rtp.specs.Areas.{over}
@@ -16,7 +15,6 @@ use Rattle.read_payload.proofs.PayloadLaws.{words_none}
 use Rattle.read_redundancy.specs.Room.{asked_block}
 use Rattle.read_redundancy.proofs.BlockLaws.{from_refused, block_in, first_few, first_taken, asked_primary, room_rest, put_rest}
 use Rattle.read_headers.proofs.NumberLaws.{same_block}
-use borrow.Author.Rules.{rules}
 use Prim.Native.Nat.{ℕ, ◌+◌, ◌-◌, ◌*◌, ◌<◌, ◌≤◌}
 use Rattle.read_redundancy.proofs.blocks.+put_blocks.Goals.{After-put_block-in-Redundant, In-Redundant, In-Rows}
 use Rattle.read_redundancy.proofs.blocks.+put_blocks.Goals as goal

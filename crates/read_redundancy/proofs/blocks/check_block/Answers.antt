@@ -6,7 +6,6 @@ use Rattle.read_payload.specs.Payloads.{rows_answer}
 use Rattle.read_redundancy.proofs.AnswerLaws.{gives_empty}
 use Rattle.read_redundancy.proofs.BlockLaws.{asked_other, asked_empty, asked_some}
 use Rattle.read_payload.proofs.NumberLaws.{rows_is}
-use borrow.Author.Rules.{rules}
 use Rattle.read_redundancy.proofs.blocks.check_block.Goals as goal
 
 pub returns-then-s-eq0 : goal.returns-then-s-eq0

@@ -6,7 +6,6 @@ use Rattle.read_payload.specs.Payloads.{asked_rows}
 use Rattle.read_redundancy.specs.Room.{asked_block}
 use Rattle.read_redundancy.proofs.AnswerLaws.{gives_read, gives_empty, gives_same}
 use Rattle.read_redundancy.proofs.BlockLaws.{asked_other, asked_empty, asked_some}
-use borrow.Author.Rules.{rules}
 use Rattle.read_redundancy.proofs.blocks.put_block.Goals.{After-read_payload}
 use Rattle.read_redundancy.proofs.blocks.put_block.Goals as goal
 

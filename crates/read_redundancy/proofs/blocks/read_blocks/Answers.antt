@@ -16,7 +16,6 @@ use Rattle.read_redundancy.proofs.AnswerLaws.{gives_none, only_refusal, further,
 use Rattle.read_redundancy.proofs.BlockLaws.{from_inside}
 use Rattle.read_redundancy.proofs.SplitLaws.{split_refused, split_place, split_short, split_small, split_blocks, split_answer, split_asked, split_room}
 use Rattle.read_headers.proofs.NumberLaws.{headers_is}
-use borrow.Author.Rules.{rules}
 use Rattle.read_redundancy.proofs.blocks.read_blocks.Goals.{After-check_blocks, In-Headers, In-Refused, In-Refused-check_blocks}
 use Rattle.read_redundancy.proofs.blocks.read_blocks.Goals as goal
 

@@ -4,7 +4,6 @@ use native.Mathlib.Omega.{arith}
 use Rattle.rtp.specs.Editions.{current}
 use Rattle.read_redundancy.proofs.AnswerLaws.{gives_numbers, gives_none, gives_same}
 use Rattle.read_redundancy.proofs.AskedLaws.{redundant_out, redundant_short, redundant_long, redundant_in}
-use borrow.Author.Rules.{rules}
 use Rattle.read_redundancy.proofs.blocks.read_redundant.Goals as goal
 
 pub returns-then-rows-lt-ROW_AREA : goal.returns-then-rows-lt-ROW_AREA

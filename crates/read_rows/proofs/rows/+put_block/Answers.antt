@@ -1,4 +1,4 @@
-use Rattle.std.proofs.Common.{ℕ, ◌-◌, ◌/◌, ◌%◌, ◌<◌, length, arith, rules}
+use Rattle.std.proofs.Common.{◌/◌, ◌%◌, length, arith}
 use Rattle.rtp.proofs.AreaLaws.{part_length}
 use Rattle.rtp.specs.Sizes.{row_width}
 use Rattle.read_rows.proofs.RowLaws.{block_row, block_rest, block_none, block_put}

@@ -1,6 +1,6 @@
 use Rattle.rtp.specs.Editions.{current}
 use Rattle.formats.specs.Frames.{max_class}
-use Rattle.std.proofs.Common.{◌≡◌, ℕ, ◌+◌, ◌-◌, ◌*◌, ◌<◌, ◌≤◌, true, length, take, drop, sym, ap, ◌∙◌, arith, rules}
+use Rattle.std.proofs.Common.{◌≡◌, ℕ, ◌+◌, ◌-◌, ◌*◌, ◌<◌, ◌≤◌, true, length, take, drop, sym, ap, ◌∙◌, arith}
 use Rattle.rtp.specs.Sizes.{row_width, max_rows}
 use Rattle.rtp.proofs.AreaLaws.{part_length, part_to_end}
 use Rattle.read_contents.specs.declared.entries.EntryRead.{EntryRead}

@@ -1,4 +1,4 @@
-use Rattle.std.proofs.Common.{◌≡◌, ℕ, ◌+◌, ◌-◌, ◌*◌, ◌/◌, ◌%◌, ◌^◌, ◌<◌, ◌≤◌, length, ap, ◌∙◌, mul-le-mul_left, arith, rules}
+use Rattle.std.proofs.Common.{◌≡◌, ℕ, ◌+◌, ◌*◌, ◌/◌, ◌%◌, ◌^◌, ◌≤◌, length, ap, ◌∙◌, mul-le-mul_left, arith}
 use Rattle.rtp.specs.Sizes.{row_width}
 use Rattle.rtp.proofs.AreaLaws.{part_length}
 use Rattle.formats.specs.Frames.{step_of}

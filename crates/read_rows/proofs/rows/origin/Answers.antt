@@ -1,4 +1,4 @@
-use Rattle.std.proofs.Common.{◌≤◌, mul-le-mul_left, arith, rules}
+use Rattle.std.proofs.Common.{◌≤◌, mul-le-mul_left, arith}
 use Rattle.formats.proofs.FormatLaws.{max_step, step_fine}
 use Rattle.read_rows.proofs.rows.origin.Goals as goal
 

@@ -1,4 +1,4 @@
-use Rattle.std.proofs.Common.{arith, length-set, rules}
+use Rattle.std.proofs.Common.{arith, length-set}
 use Rattle.rtp.proofs.AreaLaws.{over_four}
 use Rattle.read_rows.proofs.rows.put_row.Goals as goal
 

@@ -1,4 +1,4 @@
-use Rattle.std.proofs.Common.{◌≡◌, ℕ, ◌+◌, ◌-◌, ◌*◌, ◌≤◌, length, take, drop, sym, ap, ◌∙◌, arith, rules}
+use Rattle.std.proofs.Common.{◌≡◌, ◌+◌, ◌*◌, ◌≤◌, length, sym, ◌∙◌, arith}
 use Rattle.rtp.specs.Editions.{current}
 use Rattle.rtp.specs.Sizes.{max_packet, row_width, row_area}
 use Rattle.rtp.proofs.AreaLaws.{part_to_end}
