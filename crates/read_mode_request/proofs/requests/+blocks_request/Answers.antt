@@ -10,7 +10,6 @@ use Rattle.read_headers.proofs.NumberLaws.{same_block}
 use Rattle.read_mode_request.specs.Requests.{block_request}
 use Rattle.read_mode_request.specs.Walks.{request_from}
 use Rattle.read_mode_request.proofs.RequestLaws.{from_refused, from_primary, from_redundant}
-use borrow.Author.Rules.{rules}
 use Prim.Native.Nat.{ℕ, ◌-◌, ◌<◌}
 use Rattle.read_mode_request.proofs.requests.+blocks_request.Goals.{In-Redundant}
 use Rattle.read_mode_request.proofs.requests.+blocks_request.Goals as goal

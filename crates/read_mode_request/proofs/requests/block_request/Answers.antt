@@ -1,6 +1,5 @@
 use mathlib.Core.Path.{sym, ◌∙◌}
 use Rattle.read_mode_request.proofs.RequestLaws.{request_other, request_empty, request_block}
-use borrow.Author.Rules.{rules}
 use Rattle.read_mode_request.proofs.requests.block_request.Goals as goal
 
 pub returns-then-s-eq0 : goal.returns-then-s-eq0

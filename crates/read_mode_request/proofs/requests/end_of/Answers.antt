@@ -1,8 +1,7 @@
-use lib.ListN.{length, drop_of_length-le, take, drop}
+use lib.ListN.{length, drop_of_length-le}
 use lib.Seq.{take_all}
 use mathlib.Core.Path.{sym, ◌∙◌}
 use native.Mathlib.Omega.{arith}
-use borrow.Author.Rules.{rules}
 use Rattle.read_mode_request.proofs.requests.end_of.Goals as goal
 
 pub returns-then-s-n : goal.returns-then-s-n

@@ -1,7 +1,6 @@
 use mathlib.Core.Path.{sym, ◌∙◌, ap}
 use Rattle.formats.specs.declared.facts.Format.{Format}
 use Rattle.read_mode_request.proofs.RequestLaws.{request_plain, request_redundant, request_unknown, request_headless}
-use borrow.Author.Rules.{rules}
 use Rattle.read_mode_request.proofs.requests.mode_request.Goals as goal
 
 pub returns-then-format_of-eq0 : goal.returns-then-format_of-eq0

@@ -1,4 +1,4 @@
-use lib.ListN.{length, drop}
+use lib.ListN.{length}
 use mathlib.Core.Path.{◌≡◌, sym, ◌∙◌}
 use native.Mathlib.Omega.{arith}
 use Rattle.read_headers.specs.Redundancy.{redundancy_headers, headers_answer}
@@ -7,7 +7,6 @@ use Rattle.rtp.proofs.AreaLaws.{part_to_end}
 use Rattle.read_headers.proofs.NumberLaws.{headers_is}
 use Rattle.read_headers.proofs.RedundancyLaws.{Small}
 use Rattle.read_mode_request.proofs.RequestLaws.{redundant_none, redundant_small, redundant_from}
-use borrow.Author.Rules.{rules}
 use Rattle.read_mode_request.proofs.requests.redundant_request.Goals.{In-Headers}
 use Rattle.read_mode_request.proofs.requests.redundant_request.Goals as goal
 
