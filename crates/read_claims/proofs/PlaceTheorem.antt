@@ -32,7 +32,7 @@ use Rattle.read_payload.specs.Payloads.{table_start, starting_at, body, payload,
 use Rattle.read_rows.specs.Tables.{exact}
 use Rattle.read_redundancy.specs.Blocks.{Block, cut, typed_block_rows, prepend_rows, then_rows, blocks_rows, split_rows, redundant_rows}
 use Rattle.read_packet.specs.Readings.{payload_in, typed_rows, Outcome, refused, read_as, outcome_of, headed_by, reading, outcome_numbers}
-use Rattle.read_claims.specs.Places.{Placed, answer, PlaceClaims}
+use Rattle.read_claims.specs.Places.{Placed, PlaceClaims}
 use Rattle.read_redundancy.proofs.BlockLaws.{block}
 use Rattle.read_packet.proofs.PlaceLaws.{reading_inside, OutcomeInside}
 use Rattle.read_packet.proofs.ReadingLaws.{payload_fits}

@@ -2,7 +2,7 @@
 use mathlib.Core.Path.{◌≡◌, refl, ap, sym, ◌∙◌, subst}
 use mathlib.Core.List.{List, ◌++◌}
 use mathlib.Core.Bool.{true, false}
-use Prim.Native.Nat.{ℕ, ◌+◌, ◌-◌, ◌%◌, ◌≤◌, ◌<◌}
+use Prim.Native.Nat.{ℕ, ◌-◌, ◌%◌, ◌≤◌, ◌<◌}
 use native.Mathlib.Omega.{arith}
 use lib.ListN.{length}
 use borrow.Author.Tests.{lt-ltb, le-ltb, eq-eqb, ne_eqb}
@@ -20,9 +20,9 @@ use Rattle.read_contents.specs.Contents.{Contents, refused, groups}
 use Rattle.write_plan.specs.declared.planning.Sizes.{Sizes}
 use Rattle.write_sizes.specs.declared.measuring.Written.{Written}
 use Rattle.write_sizes.specs.Asking.{request_bytes, max_request, askable}
-use Rattle.write_sizes.specs.Measures.{written_numbers, planned_numbers, refused_numbers, measured}
+use Rattle.write_sizes.specs.Measures.{written_numbers, planned_numbers, measured}
 use Rattle.write_plan.specs.Lists.{rows_in, whole, outside}
-use Rattle.write_plan.specs.Plans.{max_payload, unwritable, payload_size, plan}
+use Rattle.write_plan.specs.Plans.{max_payload, unwritable, plan}
 use Rattle.write_payload.specs.Bytes.{table_bytes, frames}
 use Rattle.write_payload.specs.Writings.{Encoded, no_bytes, bytes_of, planned_bytes, encoded, room_for, writing, encoded_numbers, encoded_bytes}
 use Rattle.write_payload.specs.Room.{WholePlan, PayloadRoom}

@@ -2,7 +2,7 @@
 use mathlib.Core.Path.{◌≡◌, refl, ap, sym, ◌∙◌}
 use mathlib.Core.List.{List, [], ◌∷◌}
 use mathlib.Core.Bool.{true, false, cond}
-use Prim.Native.Nat.{ℕ, suc, ◌+◌, ◌-◌, ◌*◌, ◌/◌, ◌≤◌, ◌<◌}
+use Prim.Native.Nat.{ℕ, suc, ◌+◌, ◌*◌, ◌/◌, ◌≤◌, ◌<◌}
 use native.Mathlib.Omega.{arith}
 use native.Mathlib.Nat.{mul-le-mul_left, mul-le-mul_right, suc-mul, one-mul, add-mul, add-zero}
 use lib.ListN.{length, get_or, drop}
@@ -21,7 +21,7 @@ use Rattle.formats.specs.Formats.{format_of, step_of, max_gap}
 use Rattle.frame_codes.specs.Codes.{no_code, code_for}
 use Rattle.formats.proofs.FormatLaws.{header_small}
 use Rattle.frame_codes.proofs.CodeLaws.{code_small}
-use Rattle.write_plan.specs.Plans.{max_payload, gap_between, starts, head_gap, single, joins_run, joins, attach, follows, plan_from, plan, next_channel, step_before, fitting}
+use Rattle.write_plan.specs.Plans.{max_payload, gap_between, starts, head_gap, joins_run, joins, attach, follows, plan_from, plan, next_channel, step_before, fitting}
 use Rattle.write_plan.specs.Entries.{entries_of, in_entries}
 use Rattle.write_plan.specs.Lists.{rows_in}
 use Rattle.write_plan.proofs.ListLaws.{rows_none, rows_more, length_rows}

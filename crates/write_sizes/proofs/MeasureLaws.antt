@@ -14,7 +14,7 @@ use Rattle.rtp.specs.declared.refusal.Refusal.TheVariants.{SettingsOutOfRange, U
 use Rattle.read_contents.specs.Contents.{Group, Contents, refused, groups, size_in}
 use Rattle.write_plan.specs.declared.planning.Sizes.{Sizes}
 use Rattle.write_plan.specs.declared.planning.ListPlan.{ListPlan}
-use Rattle.write_plan.specs.Lists.{rows_in, whole}
+use Rattle.write_plan.specs.Lists.{rows_in}
 use Rattle.write_plan.specs.Plans.{unwritable, payload_size, plan}
 use Rattle.write_plan.specs.Room.{list_answer}
 use Rattle.write_sizes.specs.declared.measuring.Written.{Written}

@@ -12,7 +12,6 @@ use Rattle.read_mode_request.specs.Requests.{typed_request}
 use Rattle.read_packet.specs.Readings.{payload_in, typed_rows, outcome_of, reading}
 use Rattle.read_packet.proofs.ReadingLaws.{reading_out, reading_short, reading_refused, reading_headed, comes_refused, comes_typed}
 use Rattle.read_headers.proofs.NumberLaws.{same_header}
-use borrow.Author.Rules.{rules}
 use Rattle.read_packet.proofs.reading.read.Goals.{In-Header, Then-in_range}
 use Rattle.read_packet.proofs.reading.read.Goals as goal
 

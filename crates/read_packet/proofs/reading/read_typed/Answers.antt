@@ -3,8 +3,7 @@ use native.Mathlib.Omega.{arith}
 use Rattle.rtp.specs.Editions.{current}
 use Rattle.read_headers.proofs.HeaderLaws.{within}
 use Rattle.read_redundancy.proofs.AnswerLaws.{gives_read, gives_none, gives_same}
-use Rattle.read_packet.proofs.ReadingLaws.{payload_fits, typed_plain, typed_redundant, typed_other}
-use borrow.Author.Rules.{rules}
+use Rattle.read_packet.proofs.ReadingLaws.{typed_plain, typed_redundant, typed_other}
 use Rattle.read_packet.proofs.reading.read_typed.Goals as goal
 
 pub overflow_cast-place : goal.overflow_cast-place

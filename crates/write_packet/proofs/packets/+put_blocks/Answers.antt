@@ -1,4 +1,4 @@
-use Prim.Native.Nat.{ℕ, ◌-◌, ◌*◌, ◌≤◌, ◌<◌}
+use Prim.Native.Nat.{ℕ, ◌-◌, ◌*◌, ◌≤◌}
 use mathlib.Core.Path.{◌≡◌, refl, ap, sym, ◌∙◌}
 use mathlib.Core.List.{List, ◌++◌}
 use native.Mathlib.Omega.{arith}
@@ -11,7 +11,6 @@ use Rattle.write_parts.proofs.WordLaws.{words_counted}
 use Rattle.write_packet.specs.Room.{list_bytes, lists_payloads, list_header, lists_headers, over_from, BlockRoom}
 use Rattle.write_packet.proofs.FromLaws.{from_part, from_both}
 use Rattle.write_packet.proofs.PutLaws.{room_one, payloads_split, headers_split, block_first, blocks_rest, blocks_one}
-use borrow.Author.Rules.{rules}
 use Rattle.write_packet.proofs.packets.+put_blocks.Goals.{After-first_words-n, After-put_block-size}
 use Rattle.write_packet.proofs.packets.+put_blocks.Goals as goal
 

@@ -6,7 +6,6 @@ use Rattle.rtp.specs.Editions.{current}
 use Rattle.write_parts.proofs.HeadingLaws.{block_in}
 use Rattle.write_packet.specs.Room.{list_bytes, over_from}
 use Rattle.write_packet.proofs.FromLaws.{from_part, from_length}
-use borrow.Author.Rules.{rules}
 use Rattle.write_packet.proofs.packets.put_block.Goals as goal
 
 pub returns : goal.returns

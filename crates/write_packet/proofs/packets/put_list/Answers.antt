@@ -4,7 +4,6 @@ use Rattle.rtp.specs.Editions.{current}
 use Rattle.rtp.specs.Areas.{over}
 use Rattle.write_payload.specs.Writings.{Encoded, encoded_bytes}
 use Rattle.write_packet.proofs.PutLaws.{list_writing, list_count}
-use borrow.Author.Rules.{rules}
 use Rattle.write_packet.proofs.packets.put_list.Goals as goal
 
 pub returns-in-Bytes : goal.returns-in-Bytes

@@ -9,7 +9,7 @@ use Rattle.rtp.specs.Areas.{over}
 use Rattle.rtp.proofs.AreaLaws.{over_part, part_length}
 use Rattle.read_rows.specs.Rows.{rows_in}
 use Rattle.write_parts.specs.Parts.{parts}
-use Rattle.write_parts.specs.Headings.{Heading, header_bytes}
+use Rattle.write_parts.specs.Headings.{header_bytes}
 use Rattle.write_packet.specs.Packets.{assembled_from}
 use Rattle.write_packet.specs.Room.{lists_payloads, lists_headers, list_headers_size}
 use Rattle.rtp.proofs.RangeLaws.{ranged}
@@ -19,7 +19,6 @@ use Rattle.write_packet.proofs.FromLaws.{from_front}
 use Rattle.write_packet.proofs.ListBytesLaws.{length_headers, payloads_one}
 use Rattle.write_packet.proofs.PutLaws.{room_one}
 use Rattle.write_packet.proofs.SendingLaws.{Plain, plain_packet, Redundant, redundant_packet}
-use borrow.Author.Rules.{rules}
 use Rattle.write_packet.proofs.packets.put_packet.Goals.{Else-counts-lt2, Then-counts-lt2}
 use Rattle.write_packet.proofs.packets.put_packet.Goals as goal
 

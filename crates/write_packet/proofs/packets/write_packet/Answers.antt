@@ -11,12 +11,10 @@ use Rattle.write_sizes.specs.Asking.{askable}
 use Rattle.write_sizes.proofs.RequestLaws.{asked}
 use Rattle.write_payload.proofs.WritingLaws.{refused_pair}
 use Rattle.write_parts.specs.Parts.{parts, counts_fit}
-use Rattle.write_parts.specs.Headings.{Heading}
 use Rattle.write_packet.specs.Packets.{assembled_from, sending}
 use Rattle.write_parts.proofs.ListsLaws.{told_none, told_bytes, size_few}
 use Rattle.write_packet.proofs.ListPartLaws.{agrees}
 use Rattle.write_packet.proofs.SendingLaws.{assembled_numbers, Fitting, fitting, sending_out, sending_outside, sending_unfit, sending_fit, refused_packet, packet_short, packet_fits, packet_room}
-use borrow.Author.Rules.{rules}
 use Rattle.write_packet.proofs.packets.write_packet.Goals.{After-packet_size, After-primary_time-time, Else-any_outside, In-Bytes, Then-counts_fit, Then-in_range}
 use Rattle.write_packet.proofs.packets.write_packet.Goals as goal
 

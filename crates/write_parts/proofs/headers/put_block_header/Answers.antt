@@ -3,7 +3,6 @@ use native.Mathlib.Omega.{arith}
 use lib.ListN.{length-set}
 use Rattle.rtp.proofs.AreaLaws.{over_four}
 use Rattle.write_parts.proofs.HeadingLaws.{block_short, block_type, block_far, block_long, block_in}
-use borrow.Author.Rules.{rules}
 use Rattle.write_parts.proofs.headers.put_block_header.Goals as goal
 
 pub returns-then-out-lt4 : goal.returns-then-out-lt4

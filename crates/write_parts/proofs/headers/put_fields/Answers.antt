@@ -3,7 +3,6 @@ use native.Mathlib.Omega.{arith}
 use mathlib.Core.List.{◌++◌}
 use Rattle.rtp.proofs.AreaLaws.{over_part, fitted_in}
 use Rattle.rtp.specs.Numbers.{two, four}
-use borrow.Author.Rules.{rules}
 use Rattle.write_parts.proofs.headers.put_fields.Goals as goal
 
 pub returns : goal.returns

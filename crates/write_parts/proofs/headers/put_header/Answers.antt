@@ -1,5 +1,5 @@
 use mathlib.Core.Path.{◌≡◌, refl, ap, sym, ◌∙◌}
-use mathlib.Core.List.{List, [], ◌∷◌, ◌++◌}
+use mathlib.Core.List.{[], ◌∷◌, ◌++◌}
 use Prim.Native.Nat.{ℕ}
 use native.Mathlib.Omega.{arith}
 use lib.ListN.{length, set, length-set}
@@ -7,7 +7,6 @@ use Rattle.rtp.specs.Areas.{over}
 use Rattle.rtp.proofs.AreaLaws.{over_part, part_length, over_two}
 use Rattle.rtp.specs.Numbers.{two, four}
 use Rattle.write_parts.proofs.HeadingLaws.{header_short, header_large, header_in}
-use borrow.Author.Rules.{rules}
 use Rattle.write_parts.proofs.headers.put_header.Goals.{After-second_byte}
 use Rattle.write_parts.proofs.headers.put_header.Goals as goal
 

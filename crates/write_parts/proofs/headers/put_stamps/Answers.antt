@@ -4,7 +4,6 @@ use native.Mathlib.Omega.{arith}
 use lib.ListN.{length, take, drop}
 use Rattle.rtp.proofs.AreaLaws.{over_part, part_length, fitted_in}
 use Rattle.rtp.specs.Numbers.{four}
-use borrow.Author.Rules.{rules}
 use Rattle.write_parts.proofs.headers.put_stamps.Goals as goal
 
 pub returns : goal.returns

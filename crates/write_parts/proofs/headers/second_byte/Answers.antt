@@ -1,6 +1,5 @@
 use native.Mathlib.Omega.{arith}
 use borrow.Author.Tests.{eq-eqb, ne_eqb}
-use borrow.Author.Rules.{rules}
 use Rattle.write_parts.proofs.headers.second_byte.Goals as goal
 
 pub returns-then-marker-eq0 : goal.returns-then-marker-eq0

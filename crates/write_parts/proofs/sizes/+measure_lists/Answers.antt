@@ -1,13 +1,12 @@
 use mathlib.Core.Path.{◌≡◌, ap, sym, ◌∙◌, subst}
 use native.Mathlib.Omega.{arith}
-use lib.ListN.{take, drop, length-take, length-drop, length}
+use lib.ListN.{take, drop, length-take, length-drop}
 use Rattle.rtp.specs.Editions.{current}
 use Rattle.rtp.proofs.AreaLaws.{part_to_end}
 use Rattle.write_sizes.specs.Measures.{Numbers, written_numbers}
 use Rattle.write_parts.specs.ListSizes.{redundant_numbers, add_numbers, lists_numbers}
 use Rattle.write_parts.proofs.ListsLaws.{told_none, told_bytes, lists_one, lists_rest, add_none, add_rest, add_both, redundant_small, lists_small}
-use borrow.Author.Rules.{rules}
-use Prim.Native.Nat.{ℕ, ◌<◌}
+use Prim.Native.Nat.{ℕ}
 use Rattle.write_parts.proofs.sizes.+measure_lists.Goals.{After-first_words-n, After-measure_lists, In-Bytes, In-Bytes-measure_lists}
 use Rattle.write_parts.proofs.sizes.+measure_lists.Goals as goal
 

@@ -1,12 +1,11 @@
 use mathlib.Core.List.{List}
 use mathlib.Core.Path.{ap, sym, ◌∙◌}
-use Prim.Native.Nat.{ℕ, ◌+◌, ◌<◌}
+use Prim.Native.Nat.{ℕ, ◌+◌}
 use native.Mathlib.Omega.{arith}
 use lib.ListN.{length, get_or, length-drop}
 use Rattle.rtp.proofs.AreaLaws.{part_to_end}
 use Rattle.write_parts.specs.Parts.{total}
 use Rattle.write_parts.proofs.WordLaws.{total_none, total_first}
-use borrow.Author.Rules.{rules}
 use Rattle.write_parts.proofs.sizes.+total_of.Goals as goal
 
 pub returns-then-counts-eq0 : goal.returns-then-counts-eq0

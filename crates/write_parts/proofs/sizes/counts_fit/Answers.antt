@@ -1,5 +1,4 @@
 use borrow.Author.Tests.{lt-ltb, le-ltb, eq-eqb, ne_eqb}
-use borrow.Author.Rules.{rules}
 use Rattle.write_parts.proofs.sizes.counts_fit.Goals as goal
 
 pub returns-then-counts-eq0 : goal.returns-then-counts-eq0

@@ -3,7 +3,6 @@ use mathlib.Core.List.{List}
 use Rattle.read_rows.specs.Rows.{Row}
 use Rattle.read_rows.proofs.RowLaws.{rows_none, rows_more}
 use Rattle.write_plan.specs.Lists.{first_time}
-use borrow.Author.Rules.{rules}
 use Rattle.write_parts.proofs.sizes.first_time.Goals as goal
 
 pub returns-then-rows-lt-ROW_WIDTH : goal.returns-then-rows-lt-ROW_WIDTH

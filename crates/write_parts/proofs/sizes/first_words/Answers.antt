@@ -1,7 +1,6 @@
 use mathlib.Core.Path.{sym}
 use native.Mathlib.Omega.{arith}
 use Rattle.write_parts.proofs.WordLaws.{words_none, words_all, words_first}
-use borrow.Author.Rules.{rules}
 use Rattle.write_parts.proofs.sizes.first_words.Goals as goal
 
 pub returns-then-counts-eq0 : goal.returns-then-counts-eq0

@@ -4,7 +4,6 @@ use Rattle.rtp.specs.Editions.{current}
 use Rattle.write_sizes.specs.Measures.{measured}
 use Rattle.write_parts.specs.Parts.{max_offset}
 use Rattle.write_parts.proofs.ListsLaws.{told_none, told_bytes, redundant_none, redundant_long, redundant_far, redundant_all}
-use borrow.Author.Rules.{rules}
 use Rattle.write_parts.proofs.sizes.measure_redundant.Goals.{In-Bytes}
 use Rattle.write_parts.proofs.sizes.measure_redundant.Goals as goal
 

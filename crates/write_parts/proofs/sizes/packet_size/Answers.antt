@@ -9,7 +9,6 @@ use Rattle.write_plan.specs.Plans.{max_payload}
 use Rattle.write_parts.specs.Parts.{max_redundant, max_block}
 use Rattle.write_parts.specs.ListSizes.{lists_numbers, packet_numbers, size_numbers}
 use Rattle.write_parts.proofs.ListsLaws.{told_none, told_bytes, lists_small, size_many, size_few}
-use borrow.Author.Rules.{rules}
 use Rattle.write_parts.proofs.sizes.packet_size.Goals.{After-measure_lists, In-Bytes}
 use Rattle.write_parts.proofs.sizes.packet_size.Goals as goal
 

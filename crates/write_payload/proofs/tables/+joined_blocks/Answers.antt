@@ -14,8 +14,7 @@ use Rattle.write_plan.specs.Plans.{joins_run, gap_between, plan_from}
 use Rattle.write_plan.specs.Room.{row_as, words_at}
 use Rattle.write_payload.specs.Room.{joined, Accepted}
 use Rattle.write_payload.proofs.RunLaws.{joined_none, joined_few, joined_rest, joined_words, joined_step}
-use borrow.Author.Rules.{rules}
-use Prim.Native.Nat.{ℕ, suc, ◌*◌, ◌≤◌, ◌<◌}
+use Prim.Native.Nat.{ℕ, suc, ◌*◌, ◌≤◌}
 use Rattle.write_payload.proofs.tables.+joined_blocks.Goals.{After-joined_blocks, After-joins_run, Else-rows-lt-ROW_WIDTH}
 use Rattle.write_payload.proofs.tables.+joined_blocks.Goals as goal
 

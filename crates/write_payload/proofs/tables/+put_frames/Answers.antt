@@ -10,8 +10,7 @@ use Rattle.write_plan.specs.Lists.{rows_in}
 use Rattle.write_payload.specs.Bytes.{frames}
 use Rattle.write_payload.specs.Room.{FramesRoom}
 use Rattle.write_payload.proofs.FrameBytesLaws.{put_none, frame_inside, frame_room, rest_room, frame_part, put_frame}
-use borrow.Author.Rules.{rules}
-use Prim.Native.Nat.{ℕ, ◌+◌, ◌-◌, ◌≤◌, ◌<◌}
+use Prim.Native.Nat.{ℕ, ◌+◌, ◌-◌, ◌≤◌}
 use Rattle.write_payload.proofs.tables.+put_frames.Goals.{After-struct_known-2-1}
 use Rattle.write_payload.proofs.tables.+put_frames.Goals as goal
 

@@ -9,7 +9,6 @@ use Rattle.write_plan.specs.Plans.{gap_between}
 use Rattle.write_payload.specs.Bytes.{halves}
 use Rattle.write_payload.specs.Room.{block_gaps, GapRoom}
 use Rattle.write_payload.proofs.GapLaws.{one_words, one_small, two_words, two_small, two_rest, put_no_gap, put_one_gap, put_two_gaps}
-use borrow.Author.Rules.{rules}
 use Prim.Native.Nat.{ℕ, ◌+◌, ◌-◌, ◌*◌, ◌≤◌, ◌<◌}
 use Rattle.write_payload.proofs.tables.+put_gaps.Goals.{After-gap_between, After-gap_between-high, After-shared_slice_known-2-1, Else-blocks-eq1}
 use Rattle.write_payload.proofs.tables.+put_gaps.Goals as goal

@@ -15,8 +15,7 @@ use Rattle.write_plan.specs.Plans.{plan_from}
 use Rattle.write_plan.specs.Room.{row_as, words_at}
 use Rattle.write_payload.specs.Room.{timed, joined, RunRoom, plan_bytes}
 use Rattle.write_payload.proofs.TableLaws.{first_words_lem, first_run, few_blocks, Entered, entered, put_no_run, put_run}
-use borrow.Author.Rules.{rules}
-use Prim.Native.Nat.{ℕ, suc, ◌+◌, ◌-◌, ◌*◌, ◌≤◌, ◌<◌}
+use Prim.Native.Nat.{ℕ, suc, ◌+◌, ◌-◌, ◌*◌, ◌≤◌}
 use Rattle.write_payload.proofs.tables.+put_table.Goals.{After-first_blocks-blocks, After-joined_blocks-run, Else-rows-lt-ROW_WIDTH}
 use Rattle.write_payload.proofs.tables.+put_table.Goals as goal
 

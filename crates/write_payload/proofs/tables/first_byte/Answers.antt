@@ -3,7 +3,6 @@ use Prim.Native.Nat.{◌+◌, ◌*◌, ◌<◌}
 use native.Mathlib.Omega.{arith}
 use Rattle.write_payload.specs.Bytes.{first_byte}
 use Rattle.write_payload.proofs.EntryLaws.{first_small}
-use borrow.Author.Rules.{rules}
 use Rattle.write_payload.proofs.tables.first_byte.Goals.{After-struct_known-1}
 use Rattle.write_payload.proofs.tables.first_byte.Goals as goal
 

@@ -11,7 +11,6 @@ use Rattle.write_payload.specs.Bytes.{start_bytes}
 use Rattle.write_plan.specs.Room.{row_as, words_at}
 use Rattle.write_payload.specs.Room.{GapRoom, StartRoom}
 use Rattle.write_payload.proofs.EntryLaws.{room_start, room_gaps, put_plain, put_displaced}
-use borrow.Author.Rules.{rules}
 use Rattle.write_payload.proofs.tables.put_entry.Goals.{After-min_entry-start, After-put_start}
 use Rattle.write_payload.proofs.tables.put_entry.Goals as goal
 

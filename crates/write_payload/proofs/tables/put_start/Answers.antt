@@ -5,7 +5,6 @@ use lib.ListN.{length, length-set}
 use Rattle.formats.specs.declared.facts.Format.{Format}
 use Rattle.read_contents.proofs.EntryLaws.{min_some, min_counted}
 use Rattle.write_payload.proofs.EntryLaws.{put_single, put_counted}
-use borrow.Author.Rules.{rules}
 use Rattle.write_payload.proofs.tables.put_start.Goals.{Then-format_of}
 use Rattle.write_payload.proofs.tables.put_start.Goals as goal
 

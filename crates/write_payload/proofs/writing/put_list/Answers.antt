@@ -12,7 +12,6 @@ use Rattle.write_plan.specs.Entries.{in_entries}
 use Rattle.write_plan.specs.Plans.{plan_from}
 use Rattle.write_payload.specs.Room.{timed, TableRoom, plan_bytes}
 use Rattle.write_payload.proofs.PayloadLaws.{payload_row, payload_table, table_room, frames_room, put_both}
-use borrow.Author.Rules.{rules}
 use Rattle.write_payload.proofs.writing.put_list.Goals.{After-difference-previous}
 use Rattle.write_payload.proofs.writing.put_list.Goals as goal
 

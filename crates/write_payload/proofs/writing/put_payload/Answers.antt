@@ -1,11 +1,10 @@
-use mathlib.Core.Path.{◌≡◌, refl, subst, sym}
+use mathlib.Core.Path.{refl, subst, sym}
 use Prim.Native.Nat.{ℕ, ◌-◌}
 use lib.ListN.{length}
 use Rattle.rtp.specs.Editions.{current}
 use Rattle.rtp.proofs.AreaLaws.{part_length}
 use Rattle.write_payload.specs.Room.{ListRoom}
 use Rattle.write_payload.proofs.PayloadLaws.{put_all}
-use borrow.Author.Rules.{rules}
 use Rattle.write_payload.proofs.writing.put_payload.Goals as goal
 
 pub put_list-requires : goal.put_list-requires

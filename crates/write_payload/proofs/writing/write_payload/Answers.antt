@@ -11,7 +11,6 @@ use Rattle.write_payload.specs.Writings.{Encoded, encoded_bytes}
 use Rattle.write_sizes.specs.Asking.{askable}
 use Rattle.write_sizes.proofs.MeasureLaws.{Answered, answered, unanswered}
 use Rattle.write_payload.proofs.WritingLaws.{refused_pair, writing_out, writing_outside, writing_cut, writing_none, writing_short, writing_all, numbers_all, payload_room}
-use borrow.Author.Rules.{rules}
 use Rattle.write_payload.proofs.writing.write_payload.Goals.{Else-any_outside, In-Fits, Then-in_range}
 use Rattle.write_payload.proofs.writing.write_payload.Goals as goal
 

@@ -1,10 +1,7 @@
-use borrow.Author.Rules.{rules}
-use mathlib.Core.Path.{◌≡◌, sym, ◌∙◌}
+use mathlib.Core.Path.{◌≡◌}
 use Prim.Native.Nat.{◌≤◌, ◌-◌}
 use lib.ListN.{length, drop}
-use native.Mathlib.Omega.{arith}
 use Rattle.write_plan.specs.Lists.{rows_in, outside}
-use Rattle.write_plan.proofs.ListLaws.{outside_none, outside_here, outside_more}
 use Rattle.write_plan.proofs.lists.any_outside.Given as goal
 
 abbrev pub invariant-loop-at : goal.invariant-loop-at

@@ -1,4 +1,3 @@
-use borrow.Author.Rules.{rules}
 use Rattle.write_plan.proofs.lists.first_row.Goals as goal
 
 pub returns : goal.returns

@@ -15,8 +15,7 @@ use Rattle.write_plan.specs.Room.{row_as, words_at, plan_answer, Small}
 use Rattle.write_plan.proofs.ListLaws.{length_rows}
 use Rattle.write_plan.proofs.PlanLaws.{plan_empty, plan_cut, plan_stop, plan_start, plan_go, small_plan, small_weaker, follows_short, next_below}
 use lib.ListN.{length, drop, length-drop}
-use borrow.Author.Rules.{rules}
-use Prim.Native.Nat.{ℕ, ◌<◌, ◌-◌, ◌≤◌}
+use Prim.Native.Nat.{ℕ, ◌<◌, ◌≤◌}
 use Rattle.write_plan.proofs.planning.+plan_from.Goals.{After-follows_row, After-plan_from-rest}
 use Rattle.write_plan.proofs.planning.+plan_from.Goals as goal
 

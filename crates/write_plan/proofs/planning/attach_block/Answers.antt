@@ -1,5 +1,5 @@
 use mathlib.Core.Path.{subst}
-use Prim.Native.Nat.{◌+◌, ◌*◌, ◌≤◌, ◌<◌}
+use Prim.Native.Nat.{◌*◌, ◌≤◌, ◌<◌}
 use native.Mathlib.Omega.{arith}
 use Rattle.rtp.specs.Editions.{current}
 use Rattle.rtp.specs.Sizes.{max_rows}
@@ -8,7 +8,6 @@ use Rattle.write_plan.specs.Room.{SmallPlan, Small}
 use Rattle.write_plan.proofs.PlanLaws.{block_frames, plan_frames}
 use borrow.Author.Tests.{le-leb, lt-leb}
 use Rattle.formats.specs.Formats.{max_gap}
-use borrow.Author.Rules.{rules}
 use Rattle.write_plan.proofs.planning.attach_block.Goals.{Else-plan-max_gap, In-Table, Then-plan-max_gap}
 use Rattle.write_plan.proofs.planning.attach_block.Goals as goal
 

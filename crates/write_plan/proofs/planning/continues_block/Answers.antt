@@ -1,5 +1,4 @@
 use borrow.Author.Tests.{eq-eqb, ne_eqb}
-use borrow.Author.Rules.{rules}
 use Rattle.write_plan.proofs.planning.continues_block.Goals as goal
 
 pub returns-then-tag_class : goal.returns-then-tag_class

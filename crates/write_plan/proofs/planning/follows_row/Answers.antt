@@ -1,5 +1,4 @@
 use borrow.Author.Tests.{eq-eqb, ne_eqb}
-use borrow.Author.Rules.{rules}
 use Rattle.write_plan.proofs.planning.follows_row.Goals as goal
 
 pub returns-then-c-eq0 : goal.returns-then-c-eq0

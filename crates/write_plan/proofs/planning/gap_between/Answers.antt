@@ -1,7 +1,6 @@
 use mathlib.Core.Path.{ap, ◌∙◌}
 use Prim.Native.Nat.{ℕ, ◌/◌}
 use Rattle.formats.specs.Formats.{step_of}
-use borrow.Author.Rules.{rules}
 use Rattle.write_plan.proofs.planning.gap_between.Goals as goal
 
 pub returns : goal.returns

@@ -1,6 +1,5 @@
 use native.Mathlib.Omega.{arith}
 use Rattle.formats.proofs.FormatLaws.{step_fine}
-use borrow.Author.Rules.{rules}
 use Rattle.write_plan.proofs.planning.in_steps.Goals as goal
 
 pub nonzero_div-result : goal.nonzero_div-result

@@ -1,5 +1,4 @@
 use borrow.Author.Tests.{eq-eqb, ne_eqb}
-use borrow.Author.Rules.{rules}
 use Rattle.write_plan.proofs.planning.joins_run.Goals as goal
 
 pub returns-then-row-length : goal.returns-then-row-length

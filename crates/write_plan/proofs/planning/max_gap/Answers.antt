@@ -1,5 +1,4 @@
 use Rattle.formats.specs.Formats.{max_gap}
-use borrow.Author.Rules.{rules}
 use Rattle.write_plan.proofs.planning.max_gap.Goals as goal
 
 pub returns-then-format_of : goal.returns-then-format_of

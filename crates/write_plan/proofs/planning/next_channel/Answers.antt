@@ -1,6 +1,5 @@
 use Rattle.write_plan.specs.Plans.{next_channel}
 use borrow.Author.Tests.{eq-eqb, ne_eqb}
-use borrow.Author.Rules.{rules}
 use Rattle.write_plan.proofs.planning.next_channel.Goals as goal
 
 pub returns-then-c-channels : goal.returns-then-c-channels

@@ -3,7 +3,6 @@ use native.Mathlib.Omega.{arith}
 use Rattle.formats.specs.Formats.{format_of}
 use Rattle.formats.specs.declared.facts.Format.{Format}
 use Rattle.formats.proofs.FormatLaws.{header_small}
-use borrow.Author.Rules.{rules}
 use Rattle.write_plan.proofs.planning.payload_size.Goals.{After-format_of-header}
 use Rattle.write_plan.proofs.planning.payload_size.Goals as goal
 

@@ -18,7 +18,6 @@ use Rattle.write_plan.proofs.ListLaws.{length_rows}
 use Rattle.write_plan.proofs.PlanLaws.{fitting_plan, no_channels_plan, list_none, list_many, list_answer_lem, small_plan, small_weaker, plan_frames}
 use Rattle.write_plan.proofs.BlockLaws.{never_empty}
 use Rattle.write_plan.proofs.NumberLaws.{list_has}
-use borrow.Author.Rules.{rules}
 use Rattle.write_plan.proofs.planning.plan_list.Goals.{After-plan_from}
 use Rattle.write_plan.proofs.planning.plan_list.Goals as goal
 

@@ -3,7 +3,6 @@ use Prim.Native.Nat.{◌-◌}
 use native.Mathlib.Omega.{arith}
 use Rattle.write_plan.specs.Entries.{first_part}
 use Rattle.write_plan.proofs.EntriesLaws.{size_half, run_one, run_two}
-use borrow.Author.Rules.{rules}
 use Rattle.write_plan.proofs.planning.run_size.Goals as goal
 
 pub returns-then-blocks-le-MAX_BLOCKS : goal.returns-then-blocks-le-MAX_BLOCKS

@@ -1,4 +1,3 @@
-use borrow.Author.Rules.{rules}
 use Rattle.write_plan.proofs.planning.starts_block.Goals as goal
 
 pub returns-then-has_code : goal.returns-then-has_code

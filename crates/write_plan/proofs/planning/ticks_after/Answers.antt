@@ -1,5 +1,4 @@
 use Rattle.write_plan.specs.Plans.{ticks_after}
-use borrow.Author.Rules.{rules}
 use Rattle.write_plan.proofs.planning.ticks_after.Goals as goal
 
 pub returns : goal.returns

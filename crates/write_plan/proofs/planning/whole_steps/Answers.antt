@@ -1,6 +1,5 @@
 use native.Mathlib.Omega.{arith}
 use Rattle.formats.proofs.FormatLaws.{step_fine}
-use borrow.Author.Rules.{rules}
 use Rattle.write_plan.proofs.planning.whole_steps.Goals as goal
 
 pub nonzero_rem-result : goal.nonzero_rem-result

@@ -1,7 +1,6 @@
 use mathlib.Core.Path.{◌∙◌}
 use borrow.Author.Tests.{lt-ltb, le-ltb}
 use Rattle.write_sizes.specs.Asking.{max_request, askable}
-use borrow.Author.Rules.{rules}
 use Rattle.write_sizes.proofs.asking.in_range.Goals as goal
 
 pub returns-then-mode_request-gt-MAX_REQUEST : goal.returns-then-mode_request-gt-MAX_REQUEST

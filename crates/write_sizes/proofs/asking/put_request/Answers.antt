@@ -4,7 +4,6 @@ use lib.ListN.{length}
 use Rattle.formats.specs.Formats.{format_of}
 use Rattle.formats.specs.declared.facts.Format.{Format}
 use Rattle.write_sizes.proofs.RequestLaws.{lay_none, lay_short, lay_one}
-use borrow.Author.Rules.{rules}
 use Rattle.write_sizes.proofs.asking.put_request.Goals.{After-format_of-header}
 use Rattle.write_sizes.proofs.asking.put_request.Goals as goal
 

@@ -6,7 +6,6 @@ use Rattle.write_plan.specs.Lists.{rows_in}
 use Rattle.write_plan.specs.Plans.{plan}
 use Rattle.write_plan.proofs.NumberLaws.{list_is}
 use Rattle.write_sizes.proofs.MeasureLaws.{Answered, answered, unanswered, measured_out, measured_cut, measured_none, measured_all}
-use borrow.Author.Rules.{rules}
 use Rattle.write_sizes.proofs.measuring.measure_payload.Goals.{In-Fits, Then-in_range}
 use Rattle.write_sizes.proofs.measuring.measure_payload.Goals as goal
 
