@@ -1,4 +1,4 @@
--- The lines of a log in words, without the byte that ends a line. A frame's line is console_text: Lines.frameText.
+-- The lines of a log in words, without the byte that ends a line. A frame's line is console_text: Lines.frame_text.
 use Rattle.std.specs.Prelude.{ℕ, ◌≡◌, List, [], ◌++◌, cond, ltb, eqb, length, take}
 use Rattle.rtp.specs.Ranges.{no_redundancy}
 use Rattle.rtp.specs.declared.settings.Settings.{Settings}

@@ -18,6 +18,7 @@ pub struct Reception {
 }
 
 // Probation at most 2, and the sum at most 2^35 - 8.
+#[tactic(auto, unfolding(crate::specs::WellFormed::well_formed))]
 pub fn well_formed(reception: Reception) -> bool
     ensures { result ≡ well_formed reception }
 {

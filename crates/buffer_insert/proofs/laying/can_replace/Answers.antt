@@ -1,5 +1,4 @@
 use borrow.Author.Tests.{lt-ltb, le-ltb}
-use borrow.Author.Rules.{rules}
 use Rattle.buffer_insert.specs.Laying.{can_replace}
 use Rattle.buffer_insert.proofs.laying.can_replace.Goals as goal
 

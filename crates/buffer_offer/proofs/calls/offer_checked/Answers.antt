@@ -71,7 +71,7 @@ slice_bounds-offer_rows-end c =
 
 pub slice_bounds-offer_rows-end-in-Read : goal.slice_bounds-offer_rows-end-in-Read
 slice_bounds-offer_rows-end-in-Read c =
-    sym (length-take-le (row_width * c.in-Read.head.rows) c.read.new.1.1.0 (omega (arith, fit_at (goal.at.slice_bounds-offer_rows-end-in-Read c).In-Read, c.read.auto.1.1.0)))
+    sym (length-take-le (row_width * c.in-Read.head.rows) c.read.new.rows.1.0 (omega (arith, fit_at (goal.at.slice_bounds-offer_rows-end-in-Read c).In-Read, c.read.auto.rows.1.0)))
 
 pub offer_rows-requires : goal.offer_rows-requires
 offer_rows-requires c =
@@ -96,7 +96,7 @@ returns-in-Refused c =
 
 pub shape_of-rows-in-Read : goal.shape_of-rows-in-Read
 shape_of-rows-in-Read c =
-    c.read.auto.1.1.0
+    c.read.auto.rows.1.0
 
 pub returns-in-Read : goal.returns-in-Read
 returns-in-Read c =

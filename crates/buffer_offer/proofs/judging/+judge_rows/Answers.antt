@@ -14,15 +14,9 @@ use Rattle.buffer_offer.proofs.RowStepLaws.{rows_over, rows_joined}
 use borrow.Author.Rules.{rules}
 use Rattle.buffer_offer.proofs.judging.+judge_rows.Goals as goal
 
-abbrev buffer_at : (t : ℕ) → At judge-rows-lts.Start t → Buffer
-buffer_at t s = let a = s.args in assembled a.times.now a.tags.now a.lengths.now a.slots.now a.sum.occupied a.fixed
-
-abbrev rows_at : (t : ℕ) → At judge-rows-lts.Start t → List ℕ
-rows_at t s = s.args.rows.now
-
 pub returns-then-rows-lt-ROW_WIDTH : goal.returns-then-rows-lt-ROW_WIDTH
 returns-then-rows-lt-ROW_WIDTH t c p =
-    rows_over current (buffer_at t c) c.args.packet.now c.args.sum.tally c.args.store.now (rows_in (rows_at t c)) p (rows_none (rows_at t c) c.if-rows-lt-ROW_WIDTH.true)
+    rows_over current ((let a = c.args in assembled a.times.now a.tags.now a.lengths.now a.slots.now a.sum.occupied a.fixed)) c.args.packet.now c.args.sum.tally c.args.store.now (rows_in ((c.args.rows.now))) p (rows_none ((c.args.rows.now)) c.if-rows-lt-ROW_WIDTH.true)
 
 pub judge_row-next-requires : goal.judge_row-next-requires
 judge_row-next-requires t c =
@@ -30,10 +24,10 @@ judge_row-next-requires t c =
 
 pub judge_rows-requires : goal.judge_rows-requires
 judge_rows-requires t c =
-    omega (arith, c.requires, c.if-rows-lt-ROW_WIDTH.false, part_length (rows_at t c) (rows_at t c) row_width refl)
+    omega (arith, c.requires, c.if-rows-lt-ROW_WIDTH.false, part_length ((c.args.rows.now)) ((c.args.rows.now)) row_width refl)
 
 pub returns : goal.returns
 returns t c p =
     let g = c.judge_row-next.ensures p in
-    rows_joined current (buffer_at t c) c.args.packet.now c.args.sum.tally c.args.store.now (rows_at t c) c.if-rows-lt-ROW_WIDTH.false _ _ _
+    rows_joined current ((let a = c.args in assembled a.times.now a.tags.now a.lengths.now a.slots.now a.sum.occupied a.fixed)) c.args.packet.now c.args.sum.tally c.args.store.now ((c.args.rows.now)) c.if-rows-lt-ROW_WIDTH.false _ _ _
     (g.all _ _ _ (c.judge_rows.ensures g.others))

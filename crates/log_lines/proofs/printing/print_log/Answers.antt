@@ -7,12 +7,12 @@ use Rattle.log_lines.proofs.printing.print_log.Goals as goal
 
 pub returns-then-print_settings : goal.returns-then-print_settings
 returns-then-print_settings c =
-    let o = c.«open» in
+    let o = c.open-opened in
     let e = counts_open c.args.log.now o.result.cursor o.result.answer true o.ensures (ap is_opened c.in-Opened.is) in
     subst (AllPrinted c.print_from.result) e c.print_from.ensures
 
 pub returns-in-Refused : goal.returns-in-Refused
 returns-in-Refused c =
-    let o = c.«open» in
+    let o = c.open-opened in
     let e = counts_open c.args.log.now o.result.cursor o.result.answer false o.ensures (ap is_opened c.in-Refused.is) in
     subst (AllPrinted c.print_fault.result) e c.print_fault.ensures

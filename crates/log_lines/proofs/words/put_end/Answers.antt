@@ -6,12 +6,10 @@ use Rattle.log_lines.specs.LineTexts.{end_text}
 use borrow.Author.Rules.{rules}
 use Rattle.log_lines.proofs.words.put_end.Goals as goal
 
-pub returns : goal.returns
+pub returns-clause-line_after : goal.returns-clause-line_after
 unfolding end_text
-returns c =
+returns-clause-line_after c =
     let a = c.args in
-    let p = c.put-end in (
-      c.put_count.ensures.0,
-      c.put_count.ensures.1
-          ∙ gathered_more a.line.now p.new.0 a.at p.result (ascii "end, ") (counted a.count (ascii " frame") (ascii " frames")) p.ensures.1,
-    )
+    let p = c.put-end in
+      c.put_count.ensures.line_after
+          ∙ gathered_more a.line.now p.new.line a.at p.result (ascii "end, ") (counted a.count (ascii " frame") (ascii " frames")) p.ensures.line_after

@@ -11,15 +11,15 @@ use Rattle.log_lines.proofs.LineLaws.{begun, fault_low, fault_high}
 use borrow.Author.Rules.{rules}
 use Rattle.log_lines.proofs.words.put_fault.Goals as goal
 
-pub returns-then-number-lt-OF_A_FIELD : goal.returns-then-number-lt-OF_A_FIELD
-returns-then-number-lt-OF_A_FIELD c =
+pub returns-then-number-lt-OF_A_FIELD-clause-begun : goal.returns-then-number-lt-OF_A_FIELD-clause-begun
+returns-then-number-lt-OF_A_FIELD-clause-begun c =
     let a = c.args in
     let n = c.refusal_number-number in
     let low : number a.fault.refusal < 17 = omega (arith, n.ensures, c.if-number-lt-OF_A_FIELD.true) in
-    (c.put_refusal.ensures.0, subst (λ (t : List ℕ). Begun a.line.now a.at t c.put_refusal.new.0 c.put_refusal.result) (fault_low (number a.fault.refusal) a.fault.offset low) c.put_refusal.ensures.1)
+    subst (λ (t : List ℕ). Begun a.line.now a.at t c.put_refusal.new.line c.put_refusal.result) (fault_low (number a.fault.refusal) a.fault.offset low) c.put_refusal.ensures.begun
 
-pub returns : goal.returns
-returns c =
+pub returns-clause-begun : goal.returns-clause-begun
+returns-clause-begun c =
     let a = c.args in
     let l = a.line.now in
     let n = c.refusal_number-number in
@@ -29,9 +29,9 @@ returns c =
     let s = c.put-end in
     let t : List ℕ = ascii "refusal " ++ decimal n.result in
     let u : List ℕ = ascii " at byte " ++ decimal o in
-    let placed = q.ensures.1 ∙ gathered_more l p.new.0 a.at p.result t u p.ensures.1 in
-    let held = s.ensures.1
-    ∙ gathered_more l q.new.0 a.at q.result (t ++ u) (ascii ": ") placed
+    let placed = q.ensures.line_after ∙ gathered_more l p.new.line a.at p.result t u p.ensures.line_after in
+    let held = s.ensures.line_after
+    ∙ gathered_more l q.new.line a.at q.result (t ++ u) (ascii ": ") placed
     ∙ ap (gathered l a.at) (fault_high n.result o (omega (arith, c.if-number-lt-OF_A_FIELD.false)))
     ∙ ap (λ (k : ℕ). gathered l a.at (fault_text k o)) n.ensures in
-    (c.put_reason.ensures.0, begun l s.new.0 c.put_reason.new.0 a.at s.result c.put_reason.result (fault_text (number a.fault.refusal) o) s.ensures.0 held c.put_reason.ensures.1)
+    begun l s.new.line c.put_reason.new.line a.at s.result c.put_reason.result (fault_text (number a.fault.refusal) o) s.ensures.prefix_len held c.put_reason.ensures.continued

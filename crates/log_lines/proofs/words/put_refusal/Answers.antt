@@ -10,17 +10,17 @@ use Rattle.log_lines.proofs.LineLaws.{begun, three}
 use borrow.Author.Rules.{rules}
 use Rattle.log_lines.proofs.words.put_refusal.Goals as goal
 
-pub returns : goal.returns
+pub returns-clause-begun : goal.returns-clause-begun
 unfolding refusal_text
-returns c =
+returns-clause-begun c =
     let a = c.args in
     let l = a.line.now in
     let n = c.refusal_number-number in
     let p = c.put_number-end in
     let q = c.put-end in
     let t : List ℕ = ascii "refusal " ++ decimal n.result in
-    let held = q.ensures.1
-    ∙ gathered_more l p.new.0 a.at p.result t (ascii ": ") p.ensures.1
+    let held = q.ensures.line_after
+    ∙ gathered_more l p.new.line a.at p.result t (ascii ": ") p.ensures.line_after
     ∙ ap (gathered l a.at) (three (ascii "refusal ") (decimal n.result) (ascii ": "))
     ∙ ap (λ (k : ℕ). gathered l a.at (refusal_text k)) n.ensures in
-    (c.put_reason.ensures.0, begun l q.new.0 c.put_reason.new.0 a.at q.result c.put_reason.result (refusal_text (number a.why)) q.ensures.0 held c.put_reason.ensures.1)
+    begun l q.new.line c.put_reason.new.line a.at q.result c.put_reason.result (refusal_text (number a.why)) q.ensures.prefix_len held c.put_reason.ensures.continued

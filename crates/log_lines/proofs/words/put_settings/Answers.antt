@@ -9,9 +9,9 @@ use Rattle.log_lines.proofs.LineLaws.{four}
 use borrow.Author.Rules.{rules}
 use Rattle.log_lines.proofs.words.put_settings.Goals as goal
 
-pub returns : goal.returns
+pub returns-clause-line_after : goal.returns-clause-line_after
 unfolding settings_text
-returns c =
+returns-clause-line_after c =
     let a = c.args in
     let l = a.line.now in
     let st = a.settings in
@@ -23,7 +23,7 @@ returns c =
     let t2 : List ℕ = counted st.channels (ascii " channel, payload type ") (ascii " channels, payload type ") in
     let t3 : List ℕ = decimal st.payload_type in
     let t4 : List ℕ = redundancy_text st.redundancy_type in
-    let e2 = p2.ensures.1 ∙ gathered_more l p1.new.0 a.at p1.result t1 t2 p1.ensures.1 in
-    let e3 = p3.ensures.1 ∙ gathered_more l p2.new.0 a.at p2.result (t1 ++ t2) t3 e2 in
-    let e4 = p4.ensures.1 ∙ gathered_more l p3.new.0 a.at p3.result ((t1 ++ t2) ++ t3) t4 e3 in
-    (p4.ensures.0, e4 ∙ ap (gathered l a.at) (four t1 t2 t3 t4))
+    let e2 = p2.ensures.line_after ∙ gathered_more l p1.new.line a.at p1.result t1 t2 p1.ensures.line_after in
+    let e3 = p3.ensures.line_after ∙ gathered_more l p2.new.line a.at p2.result (t1 ++ t2) t3 e2 in
+    let e4 = p4.ensures.line_after ∙ gathered_more l p3.new.line a.at p3.result ((t1 ++ t2) ++ t3) t4 e3 in
+    e4 ∙ ap (gathered l a.at) (four t1 t2 t3 t4)

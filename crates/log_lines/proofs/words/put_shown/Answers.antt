@@ -6,9 +6,9 @@ use Rattle.log_lines.specs.LineTexts.{shown_text}
 use borrow.Author.Rules.{rules}
 use Rattle.log_lines.proofs.words.put_shown.Goals as goal
 
-pub returns : goal.returns
+pub returns-clause-line_after : goal.returns-clause-line_after
 unfolding shown_text
-returns c =
+returns-clause-line_after c =
     let a = c.args in
     let f = a.frame in
-    (c.put_frame.ensures.0, c.put_frame.ensures.1 ∙ ap (λ (bs : List ℕ). gathered a.line.now a.at (frame_text f.time f.channel f.class bs)) c.part_at-bytes.ensures)
+    c.put_frame.ensures.line_after ∙ ap (λ (bs : List ℕ). gathered a.line.now a.at (frame_text f.time f.channel f.class bs)) c.part_at-bytes.ensures

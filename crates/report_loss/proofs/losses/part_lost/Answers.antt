@@ -1,6 +1,6 @@
 use Rattle.std.proofs.Common.{sym}
-use Rattle.report_loss.proofs.SignedLaws.{back, same}
-use Rattle.report_loss.proofs.ReportLaws.{above_zero, none_lost, none_due, most_lost_lem, part_lost}
+use Rattle.report_loss.proofs.SignedLaws.{same}
+use Rattle.report_loss.proofs.ReportLaws.{none_lost, none_due, most_lost_lem, part_lost}
 use Rattle.report_loss.proofs.losses.part_lost.Goals as goal
 
 pub returns-then-lost-le0 : goal.returns-then-lost-le0
@@ -10,10 +10,6 @@ returns-then-lost-le0 c =
 pub returns-then-due-le0 : goal.returns-then-due-le0
 returns-then-due-le0 c =
     sym (none_due c.args.lost c.args.due (rw (same c.args.lost c.ranges.lost) at c.if-lost-le0.false) (rw (same c.args.due c.ranges.due) at c.if-due-le0.true))
-
-pub nonzero_div-part : goal.nonzero_div-part
-nonzero_div-part c =
-    rw c.size-2.ensures (above_zero (back c.args.due) c.if-due-le0.false)
 
 pub returns-then-part : goal.returns-then-part
 returns-then-part c =

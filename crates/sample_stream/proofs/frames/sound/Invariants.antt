@@ -1,8 +1,5 @@
-use Rattle.std.proofs.Common.{◌-◌, rules}
+use Rattle.std.proofs.Common.{◌-◌}
 use Rattle.sample_stream.proofs.frames.sound.Given as goal
-
-abbrev pub invariant-loop-i : goal.invariant-loop-i
-invariant-loop-i l = Unit
 
 abbrev pub decreases-loop-i : goal.decreases-loop-i
 decreases-loop-i l = 960 - l.i
