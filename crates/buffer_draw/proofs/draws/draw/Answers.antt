@@ -5,15 +5,10 @@ use Rattle.rtp.specs.Editions.{current}
 use Rattle.buffer_draw.specs.declared.draws.Drawn.{Drawn}
 use Rattle.buffer_draw.specs.Calls.{DrawOutcome, draw_numbers}
 use Rattle.buffer_draw.proofs.CallLaws.{draw_out}
-use borrow.Author.Rules.{rules}
 use Rattle.buffer_draw.proofs.draws.draw.Goals as goal
 
 outcome : List ℕ → Drawn → DrawOutcome
 outcome area r = record { answer = draw_numbers r.answer; buffer = r.buffer; area = area }
-
-pub draw_checked-requires : goal.draw_checked-requires
-draw_checked-requires c =
-    sym c.in_range.ensures ∙ c.if-in_range.true
 
 pub returns : goal.returns
 unfolding outcome
