@@ -1,10 +1,7 @@
-use mathlib.Core.Path.{◌≡◌, ap, subst, ◌∙◌}
-use Prim.Native.Nat.{suc, ◌+◌, ◌-◌, ◌≤◌}
+use mathlib.Core.Path.{ap, subst, ◌∙◌}
 use native.Mathlib.Omega.{arith}
-use lib.ListN.{length}
-use borrow.Author.Rules.{rules}
-use Rattle.log_lines.specs.FrameCounts.{frames_from, AllPrinted}
-use Rattle.log_lines.proofs.CountLaws.{left, is_frame, counts_start, counts_frame, counts_none, counts_out}
+use Rattle.log_lines.specs.FrameCounts.{AllPrinted}
+use Rattle.log_lines.proofs.CountLaws.{is_frame, counts_start, counts_frame, counts_none, counts_out}
 use Rattle.log_lines.proofs.printing.print_from.Goals as goal
 
 pub loop-frames-init : goal.loop-frames-init

@@ -1,10 +1,8 @@
-use mathlib.Core.Path.{◌≡◌, ap, subst, ◌∙◌}
+use mathlib.Core.Path.{◌≡◌}
 use Prim.Native.Nat.{suc, ◌+◌, ◌-◌, ◌≤◌}
-use native.Mathlib.Omega.{arith}
 use lib.ListN.{length}
-use borrow.Author.Rules.{rules}
-use Rattle.log_lines.specs.FrameCounts.{frames_from, AllPrinted}
-use Rattle.log_lines.proofs.CountLaws.{left, is_frame, counts_start, counts_frame, counts_none, counts_out}
+use Rattle.log_lines.specs.FrameCounts.{frames_from}
+use Rattle.log_lines.proofs.CountLaws.{left}
 use Rattle.log_lines.proofs.printing.print_from.Given as goal
 
 abbrev pub invariant-loop-frames : goal.invariant-loop-frames

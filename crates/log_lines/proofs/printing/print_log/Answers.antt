@@ -2,7 +2,6 @@ use mathlib.Core.Path.{ap, subst}
 use mathlib.Core.Bool.{true, false}
 use Rattle.log_lines.specs.FrameCounts.{AllPrinted}
 use Rattle.log_lines.proofs.CountLaws.{is_opened, counts_open}
-use borrow.Author.Rules.{rules}
 use Rattle.log_lines.proofs.printing.print_log.Goals as goal
 
 pub returns-then-print_settings : goal.returns-then-print_settings

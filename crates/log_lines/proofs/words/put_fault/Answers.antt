@@ -8,7 +8,6 @@ use Rattle.console_text.specs.Lines.{gathered, decimal}
 use Rattle.console_text.proofs.LineLaws.{gathered_more}
 use Rattle.log_lines.specs.LineTexts.{fault_text, Begun}
 use Rattle.log_lines.proofs.LineLaws.{begun, fault_low, fault_high}
-use borrow.Author.Rules.{rules}
 use Rattle.log_lines.proofs.words.put_fault.Goals as goal
 
 pub returns-then-number-lt-OF_A_FIELD-clause-begun : goal.returns-then-number-lt-OF_A_FIELD-clause-begun

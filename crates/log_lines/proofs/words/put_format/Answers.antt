@@ -4,7 +4,6 @@ use Prim.Native.Nat.{ℕ}
 use borrow.Author.Tests.{ne_eqb}
 use Rattle.console_text.specs.Lines.{gathered}
 use Rattle.log_lines.specs.LineTexts.{format_text}
-use borrow.Author.Rules.{rules}
 use Rattle.log_lines.proofs.words.put_format.Goals as goal
 
 pub returns-in-1-clause-line_after : goal.returns-in-1-clause-line_after

@@ -3,7 +3,6 @@ use Prim.Native.Nat.{ℕ}
 use borrow.Author.Tests.{ne_eqb}
 use Rattle.console_text.specs.Lines.{gathered}
 use Rattle.log_lines.specs.LineTexts.{redundancy_text}
-use borrow.Author.Rules.{rules}
 use Rattle.log_lines.proofs.words.put_redundancy.Goals as goal
 
 pub returns-then-redundancy-eq-NO_REDUNDANCY-clause-line_after : goal.returns-then-redundancy-eq-NO_REDUNDANCY-clause-line_after

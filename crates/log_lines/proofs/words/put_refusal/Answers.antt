@@ -7,7 +7,6 @@ use Rattle.console_text.specs.Lines.{gathered, decimal}
 use Rattle.console_text.proofs.LineLaws.{gathered_more}
 use Rattle.log_lines.specs.LineTexts.{refusal_text}
 use Rattle.log_lines.proofs.LineLaws.{begun, three}
-use borrow.Author.Rules.{rules}
 use Rattle.log_lines.proofs.words.put_refusal.Goals as goal
 
 pub returns-clause-begun : goal.returns-clause-begun

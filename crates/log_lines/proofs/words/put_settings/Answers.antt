@@ -6,7 +6,6 @@ use Rattle.console_text.specs.Lines.{gathered, decimal, counted}
 use Rattle.console_text.proofs.LineLaws.{gathered_more}
 use Rattle.log_lines.specs.LineTexts.{format_text, redundancy_text, settings_text}
 use Rattle.log_lines.proofs.LineLaws.{four}
-use borrow.Author.Rules.{rules}
 use Rattle.log_lines.proofs.words.put_settings.Goals as goal
 
 pub returns-clause-line_after : goal.returns-clause-line_after

@@ -3,7 +3,6 @@ use mathlib.Core.List.{List}
 use Prim.Native.Nat.{ℕ}
 use Rattle.console_text.specs.Lines.{gathered, frame_text}
 use Rattle.log_lines.specs.LineTexts.{shown_text}
-use borrow.Author.Rules.{rules}
 use Rattle.log_lines.proofs.words.put_shown.Goals as goal
 
 pub returns-clause-line_after : goal.returns-clause-line_after
