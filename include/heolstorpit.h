@@ -1,7 +1,7 @@
 /*
  * heolstorpit: RTP packets of G.719, GSM-HR, AMR and AMR-WB sound, read into frame rows, gathered and handed out in
  * time order, and written; reception reports on their sources; and logs of frames, written and read. The functions are proved
- * against their definitions; link crates/heolstorpit/out/libheolstorpit.a (made by `rt lib heolstorpit`, for x86-64 Linux).
+ * against their definitions; link crates/heolstorpit/out/libheolstorpit.a (made by `rt lib` in that crate's folder, for x86-64 Linux).
  *
  * WHO OWNS WHAT. The library has no memory of its own: no allocation, no global state, nothing kept after a call returns.
  * Packets, rows, bytes, store, logs and areas belong to the caller and are only used during the call. A buffer is a plain

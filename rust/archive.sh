@@ -14,7 +14,7 @@ features=$(printf '%s,' "${groups[@]}")
 if [ -z "${HEOLSTORPIT_LIB_DIR:-}" ]; then
     need rt 'the Rattle kit'
     mkdir -p ../target
-    (cd .. && rt lib heolstorpit) > ../target/built.log 2>&1 || {
+    (cd ../crates/heolstorpit && rt lib) > ../target/built.log 2>&1 || {
         tail -n 30 ../target/built.log
         exit 1
     }

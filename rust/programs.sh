@@ -6,7 +6,7 @@ set -euo pipefail
 cd "$(dirname "$0")/.."
 for program in receive show_log; do
     [ -x "crates/$program/out/$program" ] || {
-        echo "$0: needs crates/$program/out/$program (rt run $program)" >&2
+        echo "$0: needs crates/$program/out/$program (rt run in crates/$program)" >&2
         exit 1
     }
 done

@@ -1,5 +1,5 @@
 //! Links libheolstorpit: from the folder that HEOLSTORPIT_LIB_DIR names, or from crates/heolstorpit/out of the repository, where
-//! `rt lib heolstorpit` writes it. HEOLSTORPIT_LIB_KIND=dylib links a shared library instead.
+//! `rt lib` in crates/heolstorpit writes it. HEOLSTORPIT_LIB_KIND=dylib links a shared library instead.
 
 use std::env;
 use std::path::{Path, PathBuf};
@@ -15,7 +15,7 @@ fn main() {
     let file = folder.join(if kind == "static" { "libheolstorpit.a" } else { "libheolstorpit.so" });
     println!("cargo:rerun-if-changed={}", file.display());
     if !file.exists() {
-        println!("cargo:warning={} is missing: run `rt lib heolstorpit` first, or set HEOLSTORPIT_LIB_DIR", file.display());
+        println!("cargo:warning={} is missing: run `rt lib` in crates/heolstorpit first, or set HEOLSTORPIT_LIB_DIR", file.display());
     }
     println!("cargo:rustc-link-search=native={}", folder.display());
     println!("cargo:rustc-link-lib={kind}=heolstorpit");
