@@ -76,13 +76,13 @@ pub has_count : (s : ℕ) (es : List Entry) → HasSlot es s → 0 < count_in s 
 has_count s es h = subst (λ (x : ℕ). 0 < count_in x (slots_of es)) h.2 (count es h.1)
   where
     count : (es : List Entry) → Memᴰ h.0 es → 0 < count_in h.0.slot (slots_of es)
+    count [] x' = elim x' [ ]
     count (f ∷ es) (here q) = rw (ap (λ (x : Entry). x.slot) q) (omega (arith, count_here f.slot (slots_of es)))
     count (f ∷ es) (there m) = more (count es m) (ℕ_discrete h.0.slot f.slot)
       where
         more : 0 < count_in h.0.slot (slots_of es) → Dec (h.0.slot ≡ f.slot) → 0 < count_in h.0.slot (f.slot ∷ slots_of es)
         more p (yes e) = rw e (omega (arith, count_here f.slot (slots_of es)))
         more p (no n) = omega (arith, count_else h.0.slot f.slot (slots_of es) n)
-    count [] m = elim m [ ]
 
 -- The marks, exactly
 
