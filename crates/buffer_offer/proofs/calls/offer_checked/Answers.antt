@@ -16,7 +16,6 @@ use Rattle.buffer_offer.specs.declared.calls.Offered.{Offered}
 use Rattle.buffer_layout.specs.WellFormed.{well_formed}
 use Rattle.buffer_layout.specs.Arrays.{Machine}
 use Rattle.buffer_offer.specs.Calls.{OfferOutcome, offer_numbers}
-use Rattle.buffer_layout.proofs.CheckLaws.{passed, failed}
 use Rattle.buffer_offer.proofs.CallLaws.{offer_malformed, offer_rows, offer_store, offer_reads}
 use Rattle.buffer_layout.proofs.MachineLaws.{owned_machine}
 use Rattle.buffer_offer.proofs.OfferLaws.{refused_words, refused_offer_lem, words_fit, offer_asks, offer_gives}
@@ -29,7 +28,7 @@ outcome rows store r = record { answer = offer_numbers r.answer; buffer = r.buff
 
 fine-at : (c : Else-not-well_formed) → well_formed c.args.buffer ≡ true
 fine-at c =
-    passed c.well_formed-2.ensures c.if-not-well_formed.false
+    sym c.well_formed-2.ensures ∙ c.if-not-well_formed.false
 
 -- what was read
 read_at : (c : In-Read) → reading_numbers (Reading.Read c.in-Read.head) ≡ outcome_numbers (reading current c.args.buffer.settings (length c.args.rows.now) c.args.packet.now)
@@ -38,7 +37,7 @@ read_at c =
 
 fit_at : (c : In-Read) → row_width * c.in-Read.head.rows ≤ length c.args.rows.now
 fit_at c =
-    let fine-at : well_formed c.args.buffer ≡ true = passed c.well_formed-2.ensures c.if-not-well_formed.false in
+    let fine-at : well_formed c.args.buffer ≡ true = sym c.well_formed-2.ensures ∙ c.if-not-well_formed.false in
     let read_at : reading_numbers (Reading.Read c.in-Read.head) ≡ outcome_numbers (reading current c.args.buffer.settings (length c.args.rows.now) c.args.packet.now) = ap reading_numbers (sym c.in-Read.is) ∙ c.read.ensures.0 in
     let a = c.args in
     words_fit current a.buffer a.packet.now a.rows.now a.store.now c.requires (fine-at) c.if-rows-lt-ROW_AREA.false c.if-store-lt-STORE_SIZE.false
@@ -49,7 +48,7 @@ unfolding outcome
 returns-then-not-well_formed c =
     let a = c.args in
     ap (outcome a.rows.now a.store.now) c.refuse_offer.ensures
-    ∙ sym (offer_malformed current a.buffer a.packet.now a.rows.now a.store.now c.requires (failed c.well_formed-2.ensures c.if-not-well_formed.true))
+    ∙ sym (offer_malformed current a.buffer a.packet.now a.rows.now a.store.now c.requires (sym c.well_formed-2.ensures ∙ c.if-not-well_formed.true))
 
 pub returns-then-rows-lt-ROW_AREA : goal.returns-then-rows-lt-ROW_AREA
 unfolding outcome
@@ -71,7 +70,7 @@ slice_bounds-offer_rows-end c =
 
 pub slice_bounds-offer_rows-end-in-Read : goal.slice_bounds-offer_rows-end-in-Read
 slice_bounds-offer_rows-end-in-Read c =
-    sym (length-take-le (row_width * c.in-Read.head.rows) c.read.new.rows.1.0 (omega (arith, fit_at (goal.at.slice_bounds-offer_rows-end-in-Read c).In-Read, c.read.auto.rows.1.0)))
+    sym (length-take-le (row_width * c.in-Read.head.rows) c.read.new.rows (omega (arith, fit_at (goal.at.slice_bounds-offer_rows-end-in-Read c).In-Read, c.read.auto.rows)))
 
 pub offer_rows-requires : goal.offer_rows-requires
 offer_rows-requires c =
@@ -84,19 +83,17 @@ pub returns-in-Refused : goal.returns-in-Refused
 unfolding outcome
 returns-in-Refused c =
     let a = c.args in
-    let r = c.read in
-    let q = c.fault-1.given in
     let o = reading current a.buffer.settings (length a.rows.now) a.packet.now in
-    let e : reading_numbers (Reading.Refused q.0.0) ≡ outcome_numbers o = ap reading_numbers (sym q.1) ∙ r.ensures.0 in
-    let z : a.rows.now ≡ r.new.1.1.0 = sym (r.ensures.1 ∙ ap (λ (x : List ℕ). over x a.rows.now) (refused_words o q.0.0 e) ∙ over_none a.rows.now) in
-    ap (outcome r.new.1.1.0 a.store.now) c.refuse_offer-in-Refused.ensures
-    ∙ sym (ap (λ (x : List ℕ). outcome x a.store.now (record { answer = OfferAnswer.Refused q.0.0; buffer = a.buffer })) z)
-    ∙ refused_offer_lem a.buffer a.packet.now a.rows.now a.store.now o q.0.0 e
+    let e : reading_numbers (Reading.Refused c.in-Refused.fault) ≡ outcome_numbers o = ap reading_numbers (sym c.in-Refused.is) ∙ c.read.ensures.0 in
+    let z : a.rows.now ≡ c.read.new.rows = sym (c.read.ensures.1 ∙ ap (λ (x : List ℕ). over x a.rows.now) (refused_words o c.in-Refused.fault e) ∙ over_none a.rows.now) in
+    ap (outcome c.read.new.rows a.store.now) c.refuse_offer-in-Refused.ensures
+    ∙ sym (ap (λ (x : List ℕ). outcome x a.store.now (record { answer = OfferAnswer.Refused c.in-Refused.fault; buffer = a.buffer })) z)
+    ∙ refused_offer_lem a.buffer a.packet.now a.rows.now a.store.now o c.in-Refused.fault e
     ∙ sym (offer_reads current a.buffer a.packet.now a.rows.now a.store.now c.requires (fine-at (goal.at.returns-in-Refused c).Else-not-well_formed) c.if-rows-lt-ROW_AREA.false c.if-store-lt-STORE_SIZE.false)
 
 pub shape_of-rows-in-Read : goal.shape_of-rows-in-Read
 shape_of-rows-in-Read c =
-    c.read.auto.rows.1.0
+    c.read.auto.rows
 
 pub returns-in-Read : goal.returns-in-Read
 returns-in-Read c =

@@ -15,6 +15,7 @@ pub returns : goal.returns
 returns c =
     let a = c.args in
     let e = c.none_judged.ensures in
-    rows_offer ((λ occupied. let a = c.args in assembled a.buffer.times a.buffer.tags a.buffer.lengths a.buffer.slots occupied a.fixed)) a.buffer.occupied _ e _ a.packet.now (rows_in a.rows.now) _ a.store.now _
+    let buffer : List ℕ → Buffer = λ (occupied : List ℕ). assembled a.buffer.times a.buffer.tags a.buffer.lengths a.buffer.slots occupied a.fixed in
+    rows_offer buffer a.buffer.occupied _ e _ a.packet.now (rows_in a.rows.now) _ a.store.now _
     (c.judge_rows-judged.ensures
-    (subst (λ (j : Judged). RowsJudgeable current ((λ occupied. let a = c.args in assembled a.buffer.times a.buffer.tags a.buffer.lengths a.buffer.slots occupied a.fixed) j.occupied) a.packet.now (rows_in a.rows.now) j.tally a.store.now) (sym e) c.requires))
+    (subst (λ (j : Judged). RowsJudgeable current (buffer j.occupied) a.packet.now (rows_in a.rows.now) j.tally a.store.now) (sym e) c.requires))
