@@ -84,7 +84,6 @@ left : {A : Type 0} (x : A) (xs ys : List A) → Memᴰ x xs → Memᴰ x (xs ++
 left {A = A} x [] ys x'' = elim x'' [ ]
 left x (a ∷ xs) ys (here e) = here e
 left x (a ∷ xs) ys (there m) = there (left x xs ys m)
-left x [] ys m = elim m [ ]
 
 right : {A : Type 0} (x : A) (xs ys : List A) → Memᴰ x ys → Memᴰ x (xs ++ ys)
 right x [] ys m = m
@@ -97,7 +96,6 @@ copy_in_lem ed st [] p x x4 m = elim x4 [ ]
 copy_in_lem ed st (q ∷ ps) p x (here e) m =
     left x (read_received q (reading ed st (row_area ed) q)) (received_from ed st ps) (subst (λ (r : List ℕ). Memᴰ x (read_received r (reading ed st (row_area ed) r))) e m)
 copy_in_lem ed st (q ∷ ps) p x (there n) m = right x (read_received q (reading ed st (row_area ed) q)) (received_from ed st ps) (copy_in_lem ed st ps p x n m)
-copy_in_lem ed st [] p x k m = elim k [ ]
 
 -- packets that are all among others bring no other copies
 pub copies_among : (ed : Edition) (st : Settings) (ps qs : List (List ℕ)) → ((p : List ℕ) → Memᴰ p ps → Memᴰ p qs) → (x : Received) → Memᴰ x (received_from ed st ps) → Memᴰ x (received_from ed st qs)

@@ -83,7 +83,6 @@ has_count s es h = subst (λ (x : ℕ). 0 < count_in x (slots_of es)) h.2 (count
         more : 0 < count_in h.0.slot (slots_of es) → Dec (h.0.slot ≡ f.slot) → 0 < count_in h.0.slot (f.slot ∷ slots_of es)
         more p (yes e) = rw e (omega (arith, count_here f.slot (slots_of es)))
         more p (no n) = omega (arith, count_else h.0.slot f.slot (slots_of es) n)
-    count [] m = elim m [ ]
 
 -- The marks, exactly
 
