@@ -6,7 +6,6 @@ ghost use Rattle.c_answers.specs.Fields.{offer_fields, draw_fields};
 
 use buffer_draw::draws::DrawAnswer;
 use buffer_offer::calls::{NewAnswer, OfferAnswer};
-use rtp::refusal;
 
 // The refusal number or 0.
 pub fn new_number(answer: NewAnswer) -> u32
@@ -14,7 +13,7 @@ pub fn new_number(answer: NewAnswer) -> u32
 {
     match answer {
         NewAnswer::Accepted => 0,
-        NewAnswer::Refused(reason) => refusal::refusal_number(reason),
+        NewAnswer::Refused(reason) => u32::from(reason),
     }
 }
 
@@ -48,7 +47,7 @@ pub fn offer_fields(answer: OfferAnswer) -> OfferFields
         OfferAnswer::Refused(fault) => {
             let reason = fault.refusal;
             OfferFields {
-                refusal: refusal::refusal_number(reason),
+                refusal: u32::from(reason),
                 offset: fault.offset,
                 late: 0,
                 far: 0,
@@ -96,7 +95,7 @@ pub fn draw_fields(answer: DrawAnswer) -> DrawFields
             primary: 0,
         },
         DrawAnswer::Refused(reason) => DrawFields {
-            refusal: refusal::refusal_number(reason),
+            refusal: u32::from(reason),
             empty: 0,
             time: 0,
             channel: 0,

@@ -4,7 +4,6 @@ ghost use Rattle.read_packet.specs.Readings.{reading_numbers};
 ghost use Rattle.c_answers.specs.Fields.{reading_fields};
 
 use read_packet::reading::Reading;
-use rtp::refusal;
 
 // hsp_reading, the place of the fault not yet a word.
 #[derive(Clone, Copy)]
@@ -26,7 +25,7 @@ pub fn reading_fields(answer: Reading) -> ReadingFields
         Reading::Refused(fault) => {
             let reason = fault.refusal;
             ReadingFields {
-                refusal: refusal::refusal_number(reason),
+                refusal: u32::from(reason),
                 offset: fault.offset,
                 rows: 0,
                 marker: 0,

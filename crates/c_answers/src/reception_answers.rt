@@ -4,7 +4,6 @@ ghost use Rattle.report.specs.Calls.{packet_numbers, report_numbers};
 ghost use Rattle.c_answers.specs.Fields.{received_fields, reported_fields};
 
 use report::calls::{PacketAnswer, ReportAnswer};
-use rtp::refusal;
 
 // hsp_received.
 #[derive(Clone, Copy)]
@@ -26,7 +25,7 @@ pub fn received_fields(answer: PacketAnswer) -> ReceivedFields
             valid: 0,
         },
         PacketAnswer::Refused(reason) => ReceivedFields {
-            refusal: refusal::refusal_number(reason),
+            refusal: u32::from(reason),
             valid: 0,
         },
     }
@@ -54,7 +53,7 @@ pub fn reported_fields(answer: ReportAnswer) -> ReportedFields
             jitter: block.jitter,
         },
         ReportAnswer::Refused(reason) => ReportedFields {
-            refusal: refusal::refusal_number(reason),
+            refusal: u32::from(reason),
             fraction_lost: 0,
             cumulative_lost: 0,
             highest_sequence: 0,

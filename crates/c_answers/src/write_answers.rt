@@ -3,7 +3,6 @@ ghost use Rattle.std.specs.Prelude.{◌≡◌};
 ghost use Rattle.write_sizes.specs.Measures.{written_numbers};
 ghost use Rattle.c_answers.specs.Fields.{written_fields};
 
-use rtp::refusal;
 use write_sizes::measuring::Written;
 
 // hsp_written, the byte count not yet a word.
@@ -18,7 +17,7 @@ pub fn written_fields(answer: Written) -> WrittenFields
 {
     match answer {
         Written::Refused(reason) => WrittenFields {
-            refusal: refusal::refusal_number(reason),
+            refusal: u32::from(reason),
             length: 0,
         },
         Written::Bytes(count) => WrittenFields {

@@ -8,7 +8,6 @@ ghost use Rattle.c_log_answers.specs.Fields.{stepped_fields, placeless, log_writ
 use log_walk::opening::OpenAnswer;
 use log_walk::stepping::StepAnswer;
 use log_writer::field_bytes::LogWritten;
-use rtp::refusal;
 
 // The refusal number of hsp_log_opened, or 0.
 pub fn opened_number(answer: OpenAnswer) -> u32
@@ -16,7 +15,7 @@ pub fn opened_number(answer: OpenAnswer) -> u32
 {
     match answer {
         OpenAnswer::Opened(settings) => 0,
-        OpenAnswer::Refused(reason) => refusal::refusal_number(reason),
+        OpenAnswer::Refused(reason) => u32::from(reason),
     }
 }
 
@@ -57,7 +56,7 @@ pub fn stepped_fields(answer: StepAnswer) -> SteppedFields
         StepAnswer::Refused(fault) => {
             let reason = fault.refusal;
             SteppedFields {
-                refusal: refusal::refusal_number(reason),
+                refusal: u32::from(reason),
                 end: 0,
                 time: 0,
                 channel: 0,
@@ -81,7 +80,7 @@ pub fn log_written_fields(answer: LogWritten) -> LogWrittenFields
 {
     match answer {
         LogWritten::Refused(why) => LogWrittenFields {
-            refusal: refusal::refusal_number(why),
+            refusal: u32::from(why),
             length: 0,
         },
         LogWritten::Bytes(count) => LogWrittenFields {

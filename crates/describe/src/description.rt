@@ -6,7 +6,6 @@ use formats::facts;
 use read_packet::reading;
 use read_packet::reading::Reading;
 use read_payload::reading::NO_REQUEST;
-use rtp::refusal;
 use rtp::refusal::Fault;
 use rtp::settings::Settings;
 use rtp::sizes::ROW_AREA;
@@ -26,7 +25,7 @@ fn print_size(number: u64, size: usize) -> bool {
 // The refusal of a packet, with the place at fault where it has one.
 fn print_refusal(fault: Fault, bytes: &[u8]) -> bool {
     let why = fault.refusal;
-    let number = refusal::refusal_number(why);
+    let number = u32::from(why);
     let place = fault.offset;
     let mut line = lines::blank();
     let mut at = lines::put_number(&mut line, 0, b"  refusal ", number as u64);

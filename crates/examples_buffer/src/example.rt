@@ -6,7 +6,6 @@ use buffer_layout::buffer::{Buffer, SLOT_SIZE, STORE_SIZE};
 use buffer_offer::calls;
 use buffer_offer::calls::OfferAnswer;
 use row_tags::tagging::PRIMARY;
-use rtp::refusal;
 use rtp::refusal::Fault;
 use rtp::sizes::ROW_AREA;
 
@@ -60,7 +59,7 @@ fn print_tally(tally: Tally) {
 
 fn print_fault(fault: Fault) {
     let why = fault.refusal;
-    print(b" refusal ", refusal::refusal_number(why));
+    print(b" refusal ", u32::from(why));
     io::write_all(1, b" offset ");
     io::print_decimal(1, fault.offset as u64);
     io::write_all(1, b"\n");
@@ -134,7 +133,7 @@ pub(crate) fn draw_number(buffer: Buffer, store: &[u8; STORE_SIZE], base: u32) -
     let drawn = draws::draw(buffer, store, &mut area);
     let answer = drawn.answer;
     match answer {
-        DrawAnswer::Refused(why) => print(b" refusal ", refusal::refusal_number(why)),
+        DrawAnswer::Refused(why) => print(b" refusal ", u32::from(why)),
         DrawAnswer::Empty => {
             io::write_all(1, b" empty");
         }
@@ -173,7 +172,7 @@ pub(crate) fn draw(buffer: Buffer, store: &[u8; STORE_SIZE]) -> Buffer {
     let drawn = draws::draw(buffer, store, &mut area);
     let answer = drawn.answer;
     match answer {
-        DrawAnswer::Refused(why) => print(b" refusal ", refusal::refusal_number(why)),
+        DrawAnswer::Refused(why) => print(b" refusal ", u32::from(why)),
         DrawAnswer::Empty => {
             io::write_all(1, b" empty");
         }

@@ -5,7 +5,6 @@ use examples_text::values::ROOM;
 use read_packet::reading;
 use read_packet::reading::{Packet, Reading};
 use row_tags::tagging;
-use rtp::refusal;
 use rtp::settings::{AMR, Settings};
 use rtp::sizes::{MAX_ROWS, ROW_AREA, ROW_WIDTH};
 
@@ -69,7 +68,7 @@ fn print_reading(format: u8, answer: Reading, rows: &[u32; ROW_AREA]) {
     match answer {
         Reading::Refused(fault) => {
             let why = fault.refusal;
-            print(b"refusal ", refusal::refusal_number(why));
+            print(b"refusal ", u32::from(why));
             print_offset(fault.offset);
         }
         Reading::Read(packet) => {

@@ -3,7 +3,6 @@ use report::calls;
 use report::calls::{PacketAnswer, ReportAnswer, ReportBlock};
 use report::record::Reception;
 use report_loss::signed;
-use rtp::refusal;
 
 fn print(text: &[u8], value: u32) {
     io::write_all(1, text);
@@ -34,7 +33,7 @@ fn print_answer(answer: PacketAnswer) {
             io::write_all(1, b": not valid\n");
         }
         PacketAnswer::Refused(why) => {
-            print(b": refusal ", refusal::refusal_number(why));
+            print(b": refusal ", u32::from(why));
             io::write_all(1, b"\n");
         }
     }
@@ -98,7 +97,7 @@ pub(crate) fn tell(source: Reception) -> Reception {
     let answer = told.answer;
     match answer {
         ReportAnswer::Block(block) => print_block(block),
-        ReportAnswer::Refused(why) => print(b"report: refusal ", refusal::refusal_number(why)),
+        ReportAnswer::Refused(why) => print(b"report: refusal ", u32::from(why)),
     }
     io::write_all(1, b"\n");
     told.reception

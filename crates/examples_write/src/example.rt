@@ -2,7 +2,6 @@
 use read_packet::reading;
 use read_packet::reading::{Packet, Reading};
 use row_tags::tagging;
-use rtp::refusal;
 use rtp::settings::{AMR, Settings};
 use rtp::sizes::{MAX_PACKET, MAX_ROWS, ROW_AREA};
 use write_packet::packets;
@@ -58,7 +57,7 @@ fn print_bytes(bytes: &[u8], n: usize) {
 fn show(written: Written, bytes: &[u8]) -> usize {
     match written {
         Written::Refused(why) => {
-            print(b"refusal ", refusal::refusal_number(why));
+            print(b"refusal ", u32::from(why));
             io::write_all(1, b"\n");
             0
         }
@@ -137,7 +136,7 @@ fn read_back(settings: Settings, packet: &[u8]) {
     match reading::read(settings, packet, &mut rows) {
         Reading::Refused(fault) => {
             let why = fault.refusal;
-            print(b"read back: refusal ", refusal::refusal_number(why));
+            print(b"read back: refusal ", u32::from(why));
             io::write_all(1, b"\n");
         }
         Reading::Read(head) => {

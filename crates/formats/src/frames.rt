@@ -1,6 +1,6 @@
 // Frame tables: class and length of the frames of each format, and its step.
 ghost use Rattle.std.specs.Prelude.{◌≡◌, ◌<◌, ◌≤◌};
-ghost use Rattle.formats.specs.Frames.{step_of, damaged, g719_length, length_in, type_of, damage_of, frame_of, coded_numbers};
+ghost use Rattle.formats.specs.Frames.{step_of, damaged, good_class, g719_length, length_in, type_of, damage_of, frame_of, coded_numbers};
 ghost use Rattle.formats.specs.Room.{InTable};
 
 use crate::facts::FrameTable;
@@ -32,17 +32,11 @@ const G719_LENGTHS: [u16; 32] = [
 // The bytes of a GSM-HR frame.
 pub const GSM_HR_FRAME: usize = 14;
 
-#[derive(Clone, Copy)]
+// What a code in a table of contents stands for.
+#[derive(Clone, Copy, Debug, PartialEq, Eq)]
 pub struct Frame {
     pub class: usize,
     pub length: usize,
-}
-
-// What a code in a table of contents stands for.
-#[derive(Clone, Copy)]
-pub enum Coded {
-    Frame(Frame),
-    Reserved,
 }
 
 fn g719_length(code: usize) -> usize
@@ -103,35 +97,34 @@ fn damage_of(graded: bool, code: usize) -> usize
     0
 }
 
-// The frame that a code of a format stands for.
-pub fn frame_of(format: u8, code: usize) -> Coded
+// The class of a good frame of a type that has bytes, where `sid` is the type that is a SID.
+fn good_class(sid: usize, kind: usize) -> usize
+    ensures { (result ≡ good_class sid kind) × (result ≤ 2) }
+{
+    if kind == sid { SID } else { SOUND }
+}
+
+// The frame that a code of a format stands for; none where the code is reserved.
+pub fn frame_of(format: u8, code: usize) -> Option<Frame>
     ensures { coded_numbers result ≡ coded_numbers (frame_of format code) }
 {
     let facts = facts::format_of(format);
     if facts.codes <= code {
-        return Coded::Reserved;
+        return None;
     }
-    let table = facts.table;
     let kind = type_of(facts.graded, code);
-    let length = length_in(table, kind);
+    let length = length_in(facts.table, kind);
     if length == RESERVED {
-        return Coded::Reserved;
+        return None;
     }
     if length == 0 {
-        return Coded::Frame(Frame {
+        return Some(Frame {
             class: NO_DATA,
-            length: 0,
-        });
-    }
-    let damage = damage_of(facts.graded, code);
-    if kind == facts.sid {
-        return Coded::Frame(Frame {
-            class: damage + SID,
             length,
         });
     }
-    Coded::Frame(Frame {
-        class: damage + SOUND,
+    Some(Frame {
+        class: damage_of(facts.graded, code) + good_class(facts.sid, kind),
         length,
     })
 }

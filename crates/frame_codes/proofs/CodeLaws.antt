@@ -1,5 +1,7 @@
 -- Laws of frame codes: a code that is found stands for its frame, and where a code does, one is found.
 use mathlib.Core.Path.{◌≡◌, refl, sym, subst, ◌∙◌}
+use Rattle.std.specs.Prelude.{None, Option, Some}
+use Rattle.formats.specs.declared.frames.Frame.{Frame}
 use mathlib.Core.Bool.{Bool, true, false, cond}
 use Prim.Native.Nat.{ℕ, zero, suc, ◌+◌, ◌/◌, ◌%◌, ◌≤◌, ◌<◌}
 use native.Mathlib.Omega.{arith}
@@ -9,23 +11,22 @@ use Rattle.rtp.specs.Sizes.{max_frame}
 use Rattle.rtp.proofs.TestLaws.{by-test, not-both, both}
 use Rattle.formats.specs.declared.facts.Format.{Format}
 use Rattle.formats.specs.declared.facts.FrameTable.{FrameTable}
-use Rattle.formats.specs.declared.frames.Coded.{Coded}
 use Rattle.formats.specs.Formats.{no_code, g719_format, gsm_format, format_of}
 use Rattle.formats.specs.Frames.{no_data, sound, sid, g719_length, gsm_length, length_in, frame, frame_in, frame_of}
 use Rattle.frame_codes.specs.Codes.{is_frame, code_below, highest_code, code_for, table_code}
 use Rattle.formats.proofs.TableRule.{all_below, at}
 use Rattle.formats.proofs.FormatLaws.{each, code_placed, Small, keeps, keeps_at, small_frame, small_is, small_all}
 
-frame_is : (class n : ℕ) (c : Coded) → is_frame class n c ≡ true → c ≡ frame class n
-frame_is class n Coded.Reserved h = not-both false h refl
-frame_is class n (Coded.Frame f) h =
+frame_is : (class n : ℕ) (c : Option Frame) → is_frame class n c ≡ true → c ≡ frame class n
+frame_is class n None h = not-both false h refl
+frame_is class n (Some f) h =
     by-test (eqb f.class class)
     (λ a. by-test (eqb f.length n)
-    (λ b. let p = eqb-true _ _ a in let q = eqb-true _ _ b in λ j. Coded.Frame (record { class = p j; length = q j }))
+    (λ b. let p = eqb-true _ _ a in let q = eqb-true _ _ b in λ j. Some (record { class = p j; length = q j }))
     (λ b. not-both false (rw (a, b) at h) refl))
     (λ a. not-both false (rw a at h) refl)
 
-is_frame_lem : (class n : ℕ) (c : Coded) → c ≡ frame class n → is_frame class n c ≡ true
+is_frame_lem : (class n : ℕ) (c : Option Frame) → c ≡ frame class n → is_frame class n c ≡ true
 is_frame_lem class n c h = rw h (rw (eq-eqb class class refl, eq-eqb n n refl))
 
 -- The search

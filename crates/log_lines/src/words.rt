@@ -10,7 +10,6 @@ use console_text::lines;
 use console_text::lines::LINE;
 use log_reader::readers;
 use log_walk::frames::Shown;
-use rtp::refusal;
 use rtp::refusal::{Fault, Refusal};
 use rtp::settings::{NO_REDUNDANCY, Settings};
 
@@ -84,7 +83,7 @@ pub(crate) fn put_refusal(line: &mut [u8; LINE], at: usize, why: Refusal) -> usi
     ensures prefix_len { IsPrefixLen result line.new }
     ensures begun { Begun line.old at (refusal_text (number_of why)) line.new result }
 {
-    let number = refusal::refusal_number(why);
+    let number = u32::from(why);
     let mut end = lines::put_number(line, at, b"refusal ", number as u64);
     end = lines::put(line, end, b": ");
     refusals::put_reason(line, end, number)
@@ -96,7 +95,7 @@ pub(crate) fn put_fault(line: &mut [u8; LINE], at: usize, fault: Fault) -> usize
     ensures begun { Begun line.old at (fault_text (number_of fault.refusal) fault.offset) line.new result }
 {
     let why = fault.refusal;
-    let number = refusal::refusal_number(why);
+    let number = u32::from(why);
     if number < OF_A_FIELD {
         return put_refusal(line, at, why);
     }

@@ -1,5 +1,7 @@
 -- Document 02, P2: the place of a fault lies in the packet and after its fixed header, and other answers have none.
 use mathlib.Core.Path.{◌≡◌, refl, subst}
+use Rattle.std.specs.Prelude.{None, Option, Some}
+use Rattle.formats.specs.declared.frames.Frame.{Frame}
 use mathlib.Core.List.{List, [], ◌∷◌}
 use mathlib.Core.Bool.{Bool}
 use Prim.Native.Nat.{ℕ, zero, suc, ◌+◌, ◌-◌, ◌*◌, ◌/◌, ◌%◌, ◌≤◌, ◌<◌}
@@ -23,7 +25,6 @@ use Rattle.read_headers.specs.declared.redundancy.Redundant.{Redundant}
 use Rattle.read_headers.specs.declared.redundancy.BlockHeader.{BlockHeader}
 use Rattle.rtp.proofs.TestLaws.{by-test}
 use Rattle.read_headers.proofs.HeaderLaws.{within}
-use Rattle.formats.specs.declared.frames.Coded.{Coded}
 use Rattle.formats.specs.Frames.{frame_of}
 use Rattle.read_contents.specs.declared.entries.EntryRead.{EntryRead}
 use Rattle.read_contents.specs.Contents.{min_entry, code_in, blocks_in, entry_size, coded_entry, entry_of, Group, Contents, refused as unread, groups, meaning, prepend, contents_step, contents_by, contents, pass_first, size_in, frames_in}
@@ -47,9 +48,9 @@ abbrev TablePlaced : Contents → Type 0
 TablePlaced (unread f) = Placed (number f.refusal)
 TablePlaced (groups gs) = Unit {0}
 
-coded_placed : (m : Bool) (blocks size : ℕ) (c : Coded) → EntryPlaced (coded_entry m blocks size c)
-coded_placed m blocks size Coded.Reserved = (omega arith, omega arith)
-coded_placed m blocks size (Coded.Frame f) = by-test (eqb blocks 0) (λ a. rw a (omega arith, omega arith)) (λ a. rw a tt)
+coded_placed : (m : Bool) (blocks size : ℕ) (c : Option Frame) → EntryPlaced (coded_entry m blocks size c)
+coded_placed m blocks size None = (omega arith, omega arith)
+coded_placed m blocks size (Some f) = by-test (eqb blocks 0) (λ a. rw a (omega arith, omega arith)) (λ a. rw a tt)
 
 entry_placed : (format : ℕ) (s : List ℕ) → EntryPlaced (entry_of format s)
 unfolding entry_of

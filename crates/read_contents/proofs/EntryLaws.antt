@@ -1,5 +1,7 @@
 -- Laws of one table entry.
 use mathlib.Core.Path.{◌≡◌, refl, subst, ◌∙◌}
+use Rattle.std.specs.Prelude.{None, Option, Some}
+use Rattle.formats.specs.declared.frames.Frame.{Frame}
 use mathlib.Core.List.{List}
 use mathlib.Core.Bool.{Bool, true, false, cond}
 use Prim.Native.Nat.{ℕ, ◌+◌, ◌/◌, ◌%◌, ◌≤◌, ◌<◌}
@@ -14,7 +16,6 @@ use Rattle.rtp.specs.Sizes.{max_frame}
 use Rattle.rtp.specs.declared.refusal.Refusal.{Refusal}
 use Rattle.rtp.proofs.TestLaws.{by-test}
 use Rattle.rtp.proofs.ByteLaws.{Bytes}
-use Rattle.formats.specs.declared.frames.Coded.{Coded}
 use Rattle.read_contents.specs.declared.entries.Entry.{Entry}
 use Rattle.read_contents.specs.declared.entries.EntryRead.{EntryRead}
 use Rattle.formats.specs.Formats.{format_of}
@@ -68,9 +69,9 @@ few_blocks : (format : ℕ) (s : List ℕ) → Bytes s → blocks_in format s < 
 few_blocks format s bs = by-test (format_of format).counted (λ a. rw a (bs 1)) (λ a. rw a (omega arith))
 
 coded_fair : (format code : ℕ) (s : List ℕ) (m : Bool) (e : Entry) → code < (format_of format).codes → entry_size format (blocks_in format s) ≤ length s
-    → (c : Coded) → frame_of format code ≡ c → coded_entry m (blocks_in format s) (entry_size format (blocks_in format s)) c ≡ EntryRead.Entry e → Fair format s e
-coded_fair format code s m e l w Coded.Reserved q h = let z : ◌≡◌ {A = ℕ} 0 1 = cc in absurd (omega arith)
-coded_fair format code s m e l w (Coded.Frame f) q h =
+    → (c : Option Frame) → frame_of format code ≡ c → coded_entry m (blocks_in format s) (entry_size format (blocks_in format s)) c ≡ EntryRead.Entry e → Fair format s e
+coded_fair format code s m e l w None q h = let z : ◌≡◌ {A = ℕ} 0 1 = cc in absurd (omega arith)
+coded_fair format code s m e l w (Some f) q h =
     let p = past (eqb (blocks_in format s) 0) _ _ e h in
     let k = small_frame_lem format code f l q in
     subst (λ (x : Entry). Fair format s x) (same_entry _ e p.1) (record {

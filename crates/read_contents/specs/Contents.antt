@@ -1,5 +1,6 @@
 -- Document 01, "G.719 tables of contents" and "GSM-HR tables": entries and tables, over the formats.
-use Rattle.std.specs.Prelude.{ℕ, zero, suc, ◌+◌, ◌*◌, ◌/◌, ◌%◌, List, [], ◌∷◌, Bool, false, cond, length, drop, ltb, leb, eqb}
+use Rattle.std.specs.Prelude.{ℕ, zero, suc, ◌+◌, ◌*◌, ◌/◌, ◌%◌, List, [], ◌∷◌, Bool, false, cond, length, drop, ltb, leb, eqb, None, Option, Some}
+use Rattle.formats.specs.declared.frames.Frame.{Frame}
 use Rattle.rtp.specs.Editions.{Edition}
 use Rattle.rtp.specs.Sizes.{max_rows}
 use Rattle.rtp.specs.Numbers.{byte_at}
@@ -7,7 +8,6 @@ use Rattle.rtp.specs.Refusals.{number}
 use Rattle.rtp.specs.Faults.{fault, shifted}
 use Rattle.rtp.specs.declared.refusal.Fault.{Fault}
 use Rattle.rtp.specs.declared.refusal.Refusal.TheVariants.{ContentsTruncated, ReservedCode, NoFrameBlocks, TooManyRows}
-use Rattle.formats.specs.declared.frames.Coded.{Coded}
 use Rattle.read_contents.specs.declared.entries.Entry.{Entry}
 use Rattle.read_contents.specs.declared.entries.EntryRead.{EntryRead}
 use Rattle.read_contents.specs.declared.entries.ContentsRead.{ContentsRead}
@@ -36,9 +36,9 @@ unfoldable pub entry_size : ℕ → ℕ → ℕ
 entry_size format blocks = min_entry format + gaps_size format blocks
 
 -- an entry of so many frame-blocks and bytes whose code stands for a frame, or is reserved
-abbrev pub coded_entry : Bool → ℕ → ℕ → Coded → EntryRead
-coded_entry more blocks size Coded.Reserved = EntryRead.Refused ReservedCode
-coded_entry more blocks size (Coded.Frame f) =
+abbrev pub coded_entry : Bool → ℕ → ℕ → Option Frame → EntryRead
+coded_entry more blocks size None = EntryRead.Refused ReservedCode
+coded_entry more blocks size (Some f) =
     cond (eqb blocks 0) (EntryRead.Refused NoFrameBlocks)
     (EntryRead.Entry (record { more = more; class = f.class; length = f.length; blocks = blocks; size = size }))
 

@@ -1,5 +1,7 @@
 -- What every row of a payload is like.
 use mathlib.Core.Path.{◌≡◌, refl, sym, subst}
+use Rattle.std.specs.Prelude.{None, Option, Some}
+use Rattle.formats.specs.declared.frames.Frame.{Frame}
 use mathlib.Core.List.{List, [], ◌∷◌, ◌++◌}
 use mathlib.Core.Bool.{Bool}
 use Prim.Native.Nat.{ℕ, zero, suc, ◌+◌, ◌*◌, ◌^◌, ◌≤◌, ◌<◌}
@@ -12,7 +14,6 @@ use Rattle.rtp.specs.Editions.{Edition}
 use Rattle.rtp.specs.Sizes.{max_rows}
 use Rattle.rtp.specs.Numbers.{byte_at}
 use Rattle.rtp.proofs.TestLaws.{by-test}
-use Rattle.formats.specs.declared.frames.Coded.{Coded}
 use Rattle.read_contents.specs.declared.entries.EntryRead.{EntryRead}
 use Rattle.read_contents.specs.declared.entries.ContentsRead.{ContentsRead}
 use Rattle.formats.specs.Formats.{format_of}
@@ -59,9 +60,9 @@ abbrev EntryCoded : ℕ → EntryRead → Type 0
 EntryCoded format (EntryRead.Refused r) = Unit {0}
 EntryCoded format (EntryRead.Entry e) = code_for format e.class e.length < no_code
 
-frame_coded : (format code blocks size : ℕ) (m : Bool) (c : Coded) → code < (format_of format).codes → frame_of format code ≡ c → EntryCoded format (coded_entry m blocks size c)
-frame_coded format code blocks size m Coded.Reserved l q = tt
-frame_coded format code blocks size m (Coded.Frame f) l q = by-test (eqb blocks 0) (λ a. rw a tt) (λ a. rw a (code_some format f.class f.length code l q))
+frame_coded : (format code blocks size : ℕ) (m : Bool) (c : Option Frame) → code < (format_of format).codes → frame_of format code ≡ c → EntryCoded format (coded_entry m blocks size c)
+frame_coded format code blocks size m None l q = tt
+frame_coded format code blocks size m (Some f) l q = by-test (eqb blocks 0) (λ a. rw a tt) (λ a. rw a (code_some format f.class f.length code l q))
 
 entry_coded : (format : ℕ) (s : List ℕ) → EntryCoded format (entry_of format s)
 unfolding entry_of

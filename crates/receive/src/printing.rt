@@ -14,7 +14,6 @@ use report::calls::{ReportAnswer, ReportBlock};
 use report::record::Reception;
 use report_loss::signed;
 use row_tags::tagging::PRIMARY;
-use rtp::refusal;
 use rtp::refusal::{Fault, Refusal};
 
 // Progress is said after each so many packets.
@@ -85,7 +84,7 @@ fn put_offset(line: &mut [u8; LINE], at: usize, offset: usize) -> usize {
 // A line: the number of a packet that was refused, the refusal's, the place at fault, and the reason.
 pub(crate) fn print_fault(fd: i32, packet: u64, fault: Fault) -> bool {
     let why = fault.refusal;
-    let number = refusal::refusal_number(why);
+    let number = u32::from(why);
     let mut line = lines::blank();
     let mut at = lines::put_number(&mut line, 0, b"packet ", packet);
     at = lines::put_number(&mut line, at, b": refusal ", number as u64);
@@ -235,7 +234,7 @@ pub(crate) fn warn_source(number: u64, source: u32, first: u32) {
 
 // Says that a field of the log is left out, and why.
 pub(crate) fn say_left_out(why: Refusal) {
-    let number = refusal::refusal_number(why);
+    let number = u32::from(why);
     let mut line = lines::blank();
     let mut at = lines::put_number(
         &mut line,

@@ -2,7 +2,6 @@
 use buffer_insert::tally::Tally;
 use buffer_offer::calls::OfferAnswer;
 use row_tags::tagging::PRIMARY;
-use rtp::refusal;
 use rtp::refusal::Refusal;
 
 // Refusal numbers are below this.
@@ -60,7 +59,7 @@ fn add_tally(totals: Totals, tally: Tally) -> Totals {
 fn add_refusal(totals: Totals, why: Refusal) -> Totals {
     let mut next = totals;
     next.refused = plus(totals.refused, 1);
-    let number = refusal::refusal_number(why) as usize;
+    let number = u32::from(why) as usize;
     if number < REFUSALS {
         next.refusals[number] = plus(totals.refusals[number], 1);
     }

@@ -1,5 +1,7 @@
 -- Laws of a table of contents that was read: its groups are runs, one after another, also with the first entry's DIS1 passed over.
 use mathlib.Core.Path.{◌≡◌, refl, ap, sym, ◌∙◌, subst}
+use Rattle.std.specs.Prelude.{None, Option, Some}
+use Rattle.formats.specs.declared.frames.Frame.{Frame}
 use mathlib.Core.List.{List, [], ◌∷◌}
 use mathlib.Core.Bool.{Bool}
 use Prim.Native.Nat.{ℕ, zero, suc, ◌+◌, ◌*◌, ◌/◌, ◌%◌, ◌≤◌, ◌<◌}
@@ -12,7 +14,6 @@ use Rattle.rtp.specs.Numbers.{byte_at}
 use Rattle.rtp.proofs.TestLaws.{by-test}
 use Rattle.rtp.proofs.ByteLaws.{Bytes, bytes_drop}
 use Rattle.formats.specs.Formats.{format_of, max_gap}
-use Rattle.formats.specs.declared.frames.Coded.{Coded}
 use Rattle.read_contents.specs.declared.entries.Entry.{Entry}
 use Rattle.read_contents.specs.declared.entries.EntryRead.{EntryRead}
 use Rattle.formats.specs.Frames.{frame_of}
@@ -50,10 +51,10 @@ record Told (format : ℕ) (s : List ℕ) (e : Entry) : Type 0 where
   code : code_for format e.class e.length < no_code
   blocks : e.blocks ≡ blocks_in format s
 
-told_coded : (format k : ℕ) (s : List ℕ) (m : Bool) (size : ℕ) (e : Entry) (c : Coded) → k < (format_of format).codes → frame_of format k ≡ c
+told_coded : (format k : ℕ) (s : List ℕ) (m : Bool) (size : ℕ) (e : Entry) (c : Option Frame) → k < (format_of format).codes → frame_of format k ≡ c
     → coded_entry m (blocks_in format s) size c ≡ EntryRead.Entry e → Told format s e
-told_coded format k s m size e Coded.Reserved l q h = let z : ◌≡◌ {A = ℕ} 0 1 = cc in absurd (omega arith)
-told_coded format k s m size e (Coded.Frame f) l q h =
+told_coded format k s m size e None l q h = let z : ◌≡◌ {A = ℕ} 0 1 = cc in absurd (omega arith)
+told_coded format k s m size e (Some f) l q h =
     let p = past (eqb (blocks_in format s) 0) _ _ e h in
     subst (Told format s) (same_entry _ e p.1) (record { code = code_some format f.class f.length k l q; blocks = refl })
 

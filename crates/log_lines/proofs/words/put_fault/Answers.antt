@@ -13,7 +13,7 @@ use Rattle.log_lines.proofs.words.put_fault.Goals as goal
 pub returns-then-number-lt-OF_A_FIELD-clause-begun : goal.returns-then-number-lt-OF_A_FIELD-clause-begun
 returns-then-number-lt-OF_A_FIELD-clause-begun c =
     let a = c.args in
-    let n = c.refusal_number-number in
+    let n = c.from-number in
     let low : number a.fault.refusal < 17 = omega (arith, n.ensures, c.if-number-lt-OF_A_FIELD.true) in
     subst (λ (t : List ℕ). Begun a.line.now a.at t c.put_refusal.new.line c.put_refusal.result) (fault_low (number a.fault.refusal) a.fault.offset low) c.put_refusal.ensures.begun
 
@@ -21,7 +21,7 @@ pub returns-clause-begun : goal.returns-clause-begun
 returns-clause-begun c =
     let a = c.args in
     let l = a.line.now in
-    let n = c.refusal_number-number in
+    let n = c.from-number in
     let o = a.fault.offset in
     let p = c.put_number-end in
     let q = c.put_number-end-2 in

@@ -14,7 +14,7 @@ unfolding refusal_text
 returns-clause-begun c =
     let a = c.args in
     let l = a.line.now in
-    let n = c.refusal_number-number in
+    let n = c.from-number in
     let p = c.put_number-end in
     let q = c.put-end in
     let t : List ℕ = ascii "refusal " ++ decimal n.result in
