@@ -1,5 +1,6 @@
 -- Laws of an offer whose packet was read, or not.
 use mathlib.Core.Path.{◌≡◌, refl, ap, ap₂, sym, ◌∙◌, subst}
+use Rattle.std.specs.Prelude.{Ok}
 use mathlib.Core.List.{List, [], ◌∷◌}
 use mathlib.Core.Bool.{true}
 use Prim.Native.Nat.{ℕ, ◌*◌, ◌≤◌}
@@ -20,7 +21,6 @@ use Rattle.read_rows.specs.Rows.{Row, words, rows_in}
 use Rattle.read_rows.proofs.RowLaws.{length_words, TagsFit, rows_words}
 use Rattle.read_payload.proofs.RowFactLaws.{RowFine, AllRows}
 use Rattle.read_packet.specs.declared.reading.Packet.{Packet}
-use Rattle.read_packet.specs.declared.reading.Reading.{Reading}
 use Rattle.read_packet.specs.Readings.{Outcome, refused, read_as, reading, Numbers, refused_numbers, reading_numbers, outcome_numbers, outcome_words}
 use Rattle.read_packet.proofs.RowFactLaws.{rows_fine}
 use Rattle.buffer_copies.specs.Sizes.{store_size}
@@ -65,7 +65,7 @@ pub record IsRead (o : Outcome) (n : ℕ) : Type 0 where
   pub same : o ≡ read_as head rows request
   pub count : n ≡ length rows
 
-pub is_read : (o : Outcome) (p : Packet) → reading_numbers (Reading.Read p) ≡ outcome_numbers o → IsRead o p.rows
+pub is_read : (o : Outcome) (p : Packet) → reading_numbers (Ok p) ≡ outcome_numbers o → IsRead o p.rows
 unfolding outcome_numbers
 is_read (refused q) p e = let z : 0 ≡ number q.refusal = ap (λ (n : Numbers). n.refusal) e in absurd (omega (arith, number_positive q.refusal))
 is_read (read_as h rs request) p e = record { head = h; rows = rs; request = request; same = refl; count = ap (λ (n : Numbers). n.rows) e }
@@ -91,7 +91,7 @@ tags_fit format ch n (r ∷ rs) few f = (
 )
 
 module _ (ed : Edition) (b : Buffer) (packet rows store : List ℕ) (h : in_range ed b.settings ≡ true) (w : well_formed b ≡ true) (area : row_area ed ≤ length rows) (room : store_size ≤ length store)
-    (p : Packet) (e : reading_numbers (Reading.Read p) ≡ outcome_numbers (reading ed b.settings (length rows) packet))
+    (p : Packet) (e : reading_numbers (Ok p) ≡ outcome_numbers (reading ed b.settings (length rows) packet))
     (rows' : List ℕ) (q : rows' ≡ over (outcome_words (reading ed b.settings (length rows) packet)) rows) where
   abbrev is : IsRead (reading ed b.settings (length rows) packet) p.rows
   is = is_read (reading ed b.settings (length rows) packet) p e

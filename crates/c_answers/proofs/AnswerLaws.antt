@@ -1,13 +1,12 @@
 -- C's fields have the numbers of the library's answer, case by case.
 use mathlib.Core.Path.{◌≡◌}
+use Rattle.std.specs.Prelude.{Err, Ok, Result}
 use Prim.Native.Nat.{ℕ}
 use Rattle.rtp.specs.Refusals.{number}
 use Rattle.rtp.specs.declared.refusal.Refusal.{Refusal}
 use Rattle.rtp.specs.declared.refusal.Fault.{Fault}
-use Rattle.read_packet.specs.declared.reading.Reading.{Reading}
 use Rattle.read_packet.specs.declared.reading.Packet.{Packet}
 use Rattle.read_packet.specs.Readings.{Numbers, reading_numbers}
-use Rattle.write_sizes.specs.declared.measuring.Written.{Written}
 use Rattle.write_sizes.specs.Measures.{Numbers as WrittenNumbers, written_numbers}
 use Rattle.buffer_insert.specs.declared.tally.Tally.{Tally}
 use Rattle.buffer_offer.specs.declared.calls.NewAnswer.{NewAnswer}
@@ -19,20 +18,20 @@ use Rattle.buffer_draw.specs.Calls.{DrawNumbers, draw_numbers}
 
 -- Reading
 
-pub refused_numbers_lem : (x : Reading) (f : Fault) (n : ℕ) → x ≡ Reading.Refused f → n ≡ number f.refusal
+pub refused_numbers_lem : (x : Result Packet Fault) (f : Fault) (n : ℕ) → x ≡ Err f → n ≡ number f.refusal
     → ◌≡◌ {A = Numbers} (record { refusal = n; offset = f.offset; rows = 0; marker = 0; sequence = 0; timestamp = 0; source = 0; mode_request = 0 }) (reading_numbers x)
 refused_numbers_lem x f n h k = rw (h, k)
 
-pub read_numbers : (x : Reading) (p : Packet) → x ≡ Reading.Read p
+pub read_numbers : (x : Result Packet Fault) (p : Packet) → x ≡ Ok p
     → ◌≡◌ {A = Numbers} (record { refusal = 0; offset = 0; rows = p.rows; marker = p.marker; sequence = p.sequence; timestamp = p.timestamp; source = p.source; mode_request = p.mode_request }) (reading_numbers x)
 read_numbers x p h = rw h
 
 -- Writing
 
-pub unwritten_numbers : (x : Written) (r : Refusal) (n : ℕ) → x ≡ Written.Refused r → n ≡ number r → ◌≡◌ {A = WrittenNumbers} (record { refusal = n; count = 0 }) (written_numbers x)
+pub unwritten_numbers : (x : Result ℕ Refusal) (r : Refusal) (n : ℕ) → x ≡ Err r → n ≡ number r → ◌≡◌ {A = WrittenNumbers} (record { refusal = n; count = 0 }) (written_numbers x)
 unwritten_numbers x r n h k = rw (h, k)
 
-pub written_numbers_lem : (x : Written) (n : ℕ) → x ≡ Written.Bytes n → ◌≡◌ {A = WrittenNumbers} (record { refusal = 0; count = n }) (written_numbers x)
+pub written_numbers_lem : (x : Result ℕ Refusal) (n : ℕ) → x ≡ Ok n → ◌≡◌ {A = WrittenNumbers} (record { refusal = 0; count = n }) (written_numbers x)
 written_numbers_lem x n h = rw h
 
 -- The buffer

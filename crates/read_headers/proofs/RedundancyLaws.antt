@@ -1,5 +1,7 @@
 -- Laws of the redundancy block headers.
 use mathlib.Core.Path.{◌≡◌, refl, subst}
+use Rattle.std.specs.Prelude.{Err, Ok, Result}
+use Rattle.rtp.specs.declared.refusal.Fault.{Fault}
 use mathlib.Core.List.{List}
 use mathlib.Core.Bool.{Bool, true, false, cond}
 use Prim.Native.Nat.{ℕ, zero, suc, ◌+◌, ◌-◌, ◌*◌, ◌≤◌, ◌<◌}
@@ -11,7 +13,6 @@ use Rattle.rtp.specs.declared.refusal.Refusal.{Refusal}
 use Rattle.read_headers.specs.declared.redundancy.Redundant.{Redundant}
 use Rattle.read_headers.specs.declared.redundancy.BlockHeader.{BlockHeader}
 use Rattle.read_headers.specs.declared.redundancy.HeaderSizes.{HeaderSizes}
-use Rattle.read_headers.specs.declared.redundancy.HeadersRead.{HeadersRead}
 use Rattle.rtp.specs.Numbers.{byte_at}
 use Rattle.rtp.specs.Faults.{fault, shifted}
 use Rattle.read_headers.specs.Redundancy.{block_header, Headers, refused, headers_of, prepend, headers_step, headers_by, headers, headers_size, redundant_size, headers_answer}
@@ -75,9 +76,9 @@ headers_step_lem s =
 
 -- The answer by the first header
 
-abbrev pub ahead : Redundant → HeadersRead → HeadersRead
-ahead e (HeadersRead.Refused f) = HeadersRead.Refused (shifted 4 f)
-ahead e (HeadersRead.Headers z) = HeadersRead.Headers (record { size = 4 + z.size; redundant = e.length + z.redundant })
+abbrev pub ahead : Redundant → Result HeaderSizes Fault → Result HeaderSizes Fault
+ahead e (Err f) = Err (shifted 4 f)
+ahead e (Ok z) = Ok (record { size = 4 + z.size; redundant = e.length + z.redundant })
 
 prepend_answer : (e : Redundant) (h : Headers) → headers_answer (prepend e h) ≡ ahead e (headers_answer h)
 unfolding headers_answer headers_size redundant_size
@@ -85,11 +86,11 @@ prepend_answer e (refused r) = refl
 prepend_answer e (headers_of bs t) = refl
 
 module _ (s : List ℕ) where
-  pub at_refused : (r : Refusal) → block_header s ≡ BlockHeader.Refused r → headers_answer (headers s) ≡ HeadersRead.Refused (fault r)
+  pub at_refused : (r : Refusal) → block_header s ≡ BlockHeader.Refused r → headers_answer (headers s) ≡ Err (fault r)
   unfolding headers_answer
   at_refused r h = rw (headers_step_lem, h)
 
-  pub at_primary : (t : ℕ) → block_header s ≡ BlockHeader.Primary t → headers_answer (headers s) ≡ HeadersRead.Headers (record { size = 1; redundant = 0 })
+  pub at_primary : (t : ℕ) → block_header s ≡ BlockHeader.Primary t → headers_answer (headers s) ≡ Ok (record { size = 1; redundant = 0 })
   unfolding headers_answer headers_size redundant_size
   at_primary t h = rw (headers_step_lem, h)
 
@@ -102,13 +103,13 @@ pub record Small (n : ℕ) (z : HeaderSizes) : Type 0 where
   pub within : z.size ≤ n
   pub short : 4 * z.redundant ≤ 1024 * z.size
 
-abbrev pub Within : ℕ → HeadersRead → Type 0
-Within n (HeadersRead.Headers z) = Small n z
-Within n (HeadersRead.Refused f) = Unit {0}
+abbrev pub Within : ℕ → Result HeaderSizes Fault → Type 0
+Within n (Ok z) = Small n z
+Within n (Err f) = Unit {0}
 
-within_more : (n : ℕ) (e : Redundant) (h : HeadersRead) → 4 ≤ n → e.length < 1024 → Within (n - 4) h → Within n (ahead e h)
-within_more n e (HeadersRead.Refused p) f l w = tt
-within_more n e (HeadersRead.Headers z) f l w = record { some = omega arith; within = omega arith; short = omega arith }
+within_more : (n : ℕ) (e : Redundant) (h : Result HeaderSizes Fault) → 4 ≤ n → e.length < 1024 → Within (n - 4) h → Within n (ahead e h)
+within_more n e (Err p) f l w = tt
+within_more n e (Ok z) f l w = record { some = omega arith; within = omega arith; short = omega arith }
 
 within_step : (f : ℕ) (s : List ℕ) → length s < suc f → Bytes s
     → ((t : List ℕ) → length t < f → Bytes t → Within (length t) (headers_answer (headers t)))
@@ -130,13 +131,13 @@ pub within : (s : List ℕ) → Bytes s → Within (length s) (headers_answer (h
 within s bs = within_by (suc (length s)) s (omega arith) bs
 
 -- The headers, or the place at fault, lie inside n bytes
-abbrev pub InFront : ℕ → HeadersRead → Type 0
-InFront n (HeadersRead.Headers z) = z.size ≤ n
-InFront n (HeadersRead.Refused f) = f.offset ≤ n
+abbrev pub InFront : ℕ → Result HeaderSizes Fault → Type 0
+InFront n (Ok z) = z.size ≤ n
+InFront n (Err f) = f.offset ≤ n
 
-front_more : (n : ℕ) (e : Redundant) (h : HeadersRead) → 4 ≤ n → InFront (n - 4) h → InFront n (ahead e h)
-front_more n e (HeadersRead.Refused p) f w = omega arith
-front_more n e (HeadersRead.Headers z) f w = omega arith
+front_more : (n : ℕ) (e : Redundant) (h : Result HeaderSizes Fault) → 4 ≤ n → InFront (n - 4) h → InFront n (ahead e h)
+front_more n e (Err p) f w = omega arith
+front_more n e (Ok z) f w = omega arith
 
 front_step : (f : ℕ) (s : List ℕ) → length s < suc f → ((t : List ℕ) → length t < f → InFront (length t) (headers_answer (headers t)))
     → (b : BlockHeader) → block_header s ≡ b → InFront (length s) (headers_answer (headers s))

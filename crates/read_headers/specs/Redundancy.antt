@@ -1,10 +1,10 @@
 -- Document 01, "Redundancy": block headers.
-use Rattle.std.specs.Prelude.{ℕ, zero, suc, ◌+◌, ◌*◌, ◌/◌, ◌%◌, List, [], ◌∷◌, cond, length, drop, ltb, eqb}
+use Rattle.std.specs.Prelude.{ℕ, zero, suc, ◌+◌, ◌*◌, ◌/◌, ◌%◌, List, [], ◌∷◌, cond, length, drop, ltb, eqb, Err, Ok, Result}
+use Rattle.read_headers.specs.declared.redundancy.HeaderSizes.{HeaderSizes}
 use Rattle.rtp.specs.declared.refusal.Fault.{Fault}
 use Rattle.rtp.specs.declared.refusal.Refusal.TheVariants.{PacketLength, ContentsTruncated}
 use Rattle.read_headers.specs.declared.redundancy.Redundant.{Redundant}
 use Rattle.read_headers.specs.declared.redundancy.BlockHeader.{BlockHeader}
-use Rattle.read_headers.specs.declared.redundancy.HeadersRead.{HeadersRead}
 use Rattle.rtp.specs.Sizes.{max_packet}
 use Rattle.rtp.specs.Numbers.{byte_at}
 use Rattle.rtp.specs.Refusals.{number}
@@ -82,9 +82,9 @@ pub record HeadersNumbers : Type 0 where
   pub redundant : ℕ
 
 -- of the code's answer, case by case
-abbrev pub headers_read_numbers : HeadersRead → HeadersNumbers
-headers_read_numbers (HeadersRead.Refused f) = record { refusal = number f.refusal; offset = f.offset; size = 0; redundant = 0 }
-headers_read_numbers (HeadersRead.Headers z) = record { refusal = 0; offset = 0; size = z.size; redundant = z.redundant }
+abbrev pub headers_read_numbers : Result HeaderSizes Fault → HeadersNumbers
+headers_read_numbers (Err f) = record { refusal = number f.refusal; offset = f.offset; size = 0; redundant = 0 }
+headers_read_numbers (Ok z) = record { refusal = 0; offset = 0; size = z.size; redundant = z.redundant }
 
 -- of the headers
 unfoldable pub headers_numbers : Headers → HeadersNumbers
@@ -92,6 +92,6 @@ headers_numbers (refused f) = record { refusal = number f.refusal; offset = f.of
 headers_numbers (headers_of bs t) = record { refusal = 0; offset = 0; size = headers_size bs; redundant = redundant_size bs }
 
 -- the code's answer that has them
-unfoldable pub headers_answer : Headers → HeadersRead
-headers_answer (refused f) = HeadersRead.Refused f
-headers_answer (headers_of bs t) = HeadersRead.Headers (record { size = headers_size bs; redundant = redundant_size bs })
+unfoldable pub headers_answer : Headers → Result HeaderSizes Fault
+headers_answer (refused f) = Err f
+headers_answer (headers_of bs t) = Ok (record { size = headers_size bs; redundant = redundant_size bs })

@@ -1,5 +1,6 @@
 -- Laws of the mode request: of a block, by the first block header, and of a packet.
 use mathlib.Core.Path.{◌≡◌, refl, ap, sym, ◌∙◌, subst}
+use Rattle.std.specs.Prelude.{Err, Ok, Result}
 use mathlib.Core.List.{List, [], ◌∷◌}
 use Prim.Native.Nat.{ℕ, ◌+◌}
 use native.Mathlib.Omega.{arith}
@@ -14,7 +15,6 @@ use Rattle.rtp.specs.declared.refusal.Fault.{Fault}
 use Rattle.read_headers.specs.declared.redundancy.Redundant.{Redundant}
 use Rattle.read_headers.specs.declared.redundancy.BlockHeader.{BlockHeader}
 use Rattle.read_headers.specs.declared.redundancy.HeaderSizes.{HeaderSizes}
-use Rattle.read_headers.specs.declared.redundancy.HeadersRead.{HeadersRead}
 use Rattle.rtp.proofs.TestLaws.{by-test}
 use Rattle.read_headers.proofs.RedundancyLaws.{headers_step_lem, Small, Within, within}
 use Rattle.rtp.proofs.ByteLaws.{Bytes}
@@ -69,33 +69,33 @@ module _ (st : Settings) (found : ℕ) (h d : List ℕ) where
 
 -- A redundancy payload, from what reading its block headers answered
 
-same_sizes : (a b : HeaderSizes) → HeadersRead.Headers a ≡ HeadersRead.Headers b → a ≡ b
+same_sizes : (a b : HeaderSizes) → Ok a ≡ Ok b → a ≡ b
 same_sizes a b h = cc
 
-split_none : (st : Settings) (s : List ℕ) (r : Fault) (x : Headers) → headers_answer x ≡ HeadersRead.Refused r → split_request st s x ≡ no_request
+split_none : (st : Settings) (s : List ℕ) (r : Fault) (x : Headers) → headers_answer x ≡ Err r → split_request st s x ≡ no_request
 unfolding headers_answer
 split_none st s r (refused f) h = refl
 split_none st s r (headers_of bs type) h = let o : ◌≡◌ {A = ℕ} 0 1 = cc in absurd (omega arith)
 
-split_some : (st : Settings) (s : List ℕ) (z : HeaderSizes) (x : Headers) → headers_answer x ≡ HeadersRead.Headers z → split_request st s x ≡ headed_request st no_request (drop z.size s) x
+split_some : (st : Settings) (s : List ℕ) (z : HeaderSizes) (x : Headers) → headers_answer x ≡ Ok z → split_request st s x ≡ headed_request st no_request (drop z.size s) x
 unfolding headers_answer
 split_some st s z (refused r) h = let o : ◌≡◌ {A = ℕ} 0 1 = cc in absurd (omega arith)
 split_some st s z (headers_of bs type) h =
     ap (λ (y : HeaderSizes). blocks_request st no_request (cut bs type 0 (drop y.size s))) (same_sizes _ z h)
 
 module _ (st : Settings) (s : List ℕ) where
-  pub redundant_none : (r : Fault) → headers_answer (redundancy_headers s) ≡ HeadersRead.Refused r → redundant_request st s ≡ no_request
+  pub redundant_none : (r : Fault) → headers_answer (redundancy_headers s) ≡ Err r → redundant_request st s ≡ no_request
   unfolding redundant_request
   redundant_none r h = split_none st s r (redundancy_headers s) h
 
-  module _ (z : HeaderSizes) (h : headers_answer (redundancy_headers s) ≡ HeadersRead.Headers z) where
+  module _ (z : HeaderSizes) (h : headers_answer (redundancy_headers s) ≡ Ok z) where
     in_packet : redundancy_headers s ≡ headers s
     unfolding redundancy_headers headers_answer
     in_packet = by-test (ltb max_packet (length s))
         (λ a. let y = rw a at h in let o : ◌≡◌ {A = ℕ} 0 1 = cc in absurd (omega arith)) (λ a. rw a)
 
     pub redundant_small : Bytes s → Small (length s) z
-    redundant_small bs = subst (λ (x : HeadersRead). Within (length s) x) (ap headers_answer (sym in_packet) ∙ h) (within s bs)
+    redundant_small bs = subst (λ (x : Result HeaderSizes Fault). Within (length s) x) (ap headers_answer (sym in_packet) ∙ h) (within s bs)
 
     pub redundant_from : redundant_request st s ≡ request_from st no_request s (drop z.size s)
     unfolding redundant_request request_from

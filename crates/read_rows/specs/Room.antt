@@ -1,7 +1,8 @@
 -- What functions ask of their callers inside this crate: room in an area, and numbers that fit its words.
-use Rattle.std.specs.Prelude.{ℕ, ◌+◌, ◌*◌, ◌^◌, ◌<◌, ◌≤◌, List, []}
+use Rattle.std.specs.Prelude.{ℕ, ◌+◌, ◌*◌, ◌^◌, ◌<◌, ◌≤◌, List, [], Err, Ok, Result}
+use Rattle.read_contents.specs.declared.entries.Sizes.{Sizes}
+use Rattle.rtp.specs.declared.refusal.Fault.{Fault}
 use Rattle.rtp.specs.Sizes.{row_width}
-use Rattle.read_contents.specs.declared.entries.ContentsRead.{ContentsRead}
 use Rattle.formats.specs.Frames.{step_of}
 use Rattle.rtp.specs.Time.{difference}
 use Rattle.read_contents.specs.Contents.{gap_at, Contents, refused, groups}
@@ -27,9 +28,9 @@ pub record GroupRoom (k count ch kind start size area : ℕ) : Type 0 where
   pub frames_fit : start + count * ch * size < 2 ^ 32
   pub few : k + count < 256
 
-abbrev pub TableRoom : ℕ → ℕ → ℕ → ContentsRead → Type 0
-TableRoom ch start area (ContentsRead.Refused r) = ⊥
-TableRoom ch start area (ContentsRead.Contents t) = (row_width * t.rows ≤ area) × (start + t.frames < 2 ^ 32) × (ch ≤ 256)
+abbrev pub TableRoom : ℕ → ℕ → ℕ → Result Sizes Fault → Type 0
+TableRoom ch start area (Err r) = ⊥
+TableRoom ch start area (Ok t) = (row_width * t.rows ≤ area) × (start + t.frames < 2 ^ 32) × (ch ≤ 256)
 
 -- the words of a table whose frames start at `start`, heard with this mark: none of a refusal
 unfoldable pub contents_words : ℕ → ℕ → ℕ → ℕ → ℕ → Contents → List ℕ

@@ -1,5 +1,7 @@
 -- Laws of plans as the code holds them.
 use mathlib.Core.Path.{◌≡◌, refl, ap, sym, ◌∙◌}
+use Rattle.std.specs.Prelude.{None, Option, Some}
+use Rattle.write_plan.specs.declared.planning.Sizes.{Sizes}
 use mathlib.Core.List.{List, [], ◌∷◌}
 use mathlib.Core.Bool.{true, false, cond}
 use Prim.Native.Nat.{ℕ, suc, ◌+◌, ◌*◌, ◌/◌, ◌≤◌, ◌<◌}
@@ -16,7 +18,6 @@ use Rattle.read_contents.specs.Contents.{Group, Contents, refused, groups, size_
 use Rattle.read_rows.specs.Rows.{Row}
 use Rattle.write_plan.specs.declared.planning.Plan.{Plan}
 use Rattle.write_plan.specs.declared.planning.Planned.{Planned}
-use Rattle.write_plan.specs.declared.planning.ListPlan.{ListPlan}
 use Rattle.formats.specs.Formats.{format_of, step_of, max_gap}
 use Rattle.frame_codes.specs.Codes.{no_code, code_for}
 use Rattle.formats.proofs.FormatLaws.{header_small}
@@ -156,13 +157,13 @@ module _ (format ch c : ℕ) (p : Row) (ws : List ℕ) where
 -- The plan of a whole list
 
 -- `fitting` by the numbers of the first run
-abbrev pub fitting_plan : ℕ → Planned → ListPlan
-fitting_plan format Planned.Unwritable = ListPlan.Unwritable
-fitting_plan format Planned.Empty = ListPlan.Fits (record { table = 0; payload = (format_of format).header + 0 + 0 })
+abbrev pub fitting_plan : ℕ → Planned → Option Sizes
+fitting_plan format Planned.Unwritable = None
+fitting_plan format Planned.Empty = Some (record { table = 0; payload = (format_of format).header + 0 + 0 })
 fitting_plan format (Planned.Table p) =
     let table = p.run + p.others in
-    cond (ltb max_payload ((format_of format).header + table + p.frames)) ListPlan.Unwritable
-    (ListPlan.Fits (record { table = table; payload = (format_of format).header + table + p.frames }))
+    cond (ltb max_payload ((format_of format).header + table + p.frames)) None
+    (Some (record { table = table; payload = (format_of format).header + table + p.frames }))
 
 answer_fitting : (format ch : ℕ) (x : Contents) → list_answer format ch (fitting format ch (in_entries x)) ≡ fitting_plan format (plan_answer format ch x)
 unfolding plan_answer list_answer
@@ -189,7 +190,7 @@ first_channel format p r rs =
     (λ a. rw a (answer_attach format 0 r _ (plan_from format 0 1 r rs) ∙ ap (attach_plan format 0 r _) (no_channels format 1 r rs (λ x. omega arith))))
     (λ a. rw a (unfold plan_answer in refl))
 
-pub no_channels_plan : (ed : Edition) (format ch : ℕ) (rs : List Row) → ch ≡ 0 → list_answer format ch (plan ed format ch rs) ≡ ListPlan.Unwritable
+pub no_channels_plan : (ed : Edition) (format ch : ℕ) (rs : List Row) → ch ≡ 0 → list_answer format ch (plan ed format ch rs) ≡ None
 unfolding plan
 no_channels_plan ed format ch [] z = unfold list_answer in refl
 no_channels_plan ed format ch (r ∷ rs) z =
@@ -198,12 +199,12 @@ no_channels_plan ed format ch (r ∷ rs) z =
     (λ a. rw (z, a) (answer_fitting format 0 (plan_from format 0 0 (step_before format r) (r ∷ rs)) ∙ ap (fitting_plan format) (first_channel format (step_before format r) r rs)))
 
 module _ (ed : Edition) (format ch : ℕ) (ws : List ℕ) where
-  pub list_none : length ws < row_width → list_answer format ch (plan ed format ch (rows_in ws)) ≡ ListPlan.Unwritable
+  pub list_none : length ws < row_width → list_answer format ch (plan ed format ch (rows_in ws)) ≡ None
   unfolding plan list_answer
   list_none h = rw (rows_none ws h)
 
   module _ (h : row_width ≤ length ws) where
-    pub list_many : max_rows ed < length ws / row_width → list_answer format ch (plan ed format ch (rows_in ws)) ≡ ListPlan.Unwritable
+    pub list_many : max_rows ed < length ws / row_width → list_answer format ch (plan ed format ch (rows_in ws)) ≡ None
     unfolding plan list_answer
     list_many m = rw (rows_more ws h, lt-ltb (max_rows ed) (length (row_as (words_at ws 0) ∷ rows_in (drop row_width ws))) (omega (arith, length_rows ws, ap (λ (l : List Row). length l) (rows_more ws h))))
 

@@ -1,5 +1,6 @@
 -- Rows and plans as the code holds them, and what the functions that plan ask of one another inside this crate.
-use Rattle.std.specs.Prelude.{ℕ, ◌+◌, ◌-◌, ◌*◌, ◌≤◌, ◌<◌, ◌≡◌, List, [], ◌∷◌, cond, length, get_or, leb}
+use Rattle.std.specs.Prelude.{ℕ, ◌+◌, ◌-◌, ◌*◌, ◌≤◌, ◌<◌, ◌≡◌, List, [], ◌∷◌, cond, length, get_or, leb, None, Option, Some}
+use Rattle.write_plan.specs.declared.planning.Sizes.{Sizes}
 use Rattle.rtp.specs.Editions.{Edition}
 use Rattle.rtp.specs.Sizes.{max_rows, max_frame}
 use Rattle.rtp.specs.Refusals.{number}
@@ -10,7 +11,6 @@ use Rattle.read_rows.specs.Rows.{Row}
 use Rattle.write_plan.specs.declared.lists.RowWords.{RowWords}
 use Rattle.write_plan.specs.declared.planning.Plan.{Plan}
 use Rattle.write_plan.specs.declared.planning.Planned.{Planned}
-use Rattle.write_plan.specs.declared.planning.ListPlan.{ListPlan}
 use Rattle.write_plan.specs.Lists.{row_of}
 use Rattle.write_plan.specs.Entries.{max_blocks, first_part, entries_of}
 use Rattle.write_plan.specs.Plans.{head_gap, joins_run, payload_size}
@@ -100,9 +100,9 @@ pub record ListNumbers : Type 0 where
   pub payload : ℕ
 
 -- of the code's answer, case by case
-abbrev pub list_plan_numbers : ListPlan → ListNumbers
-list_plan_numbers ListPlan.Unwritable = record { refusal = number Unwritable; table = 0; payload = 0 }
-list_plan_numbers (ListPlan.Fits s) = record { refusal = 0; table = s.table; payload = s.payload }
+abbrev pub list_plan_numbers : Option Sizes → ListNumbers
+list_plan_numbers None = record { refusal = number Unwritable; table = 0; payload = 0 }
+list_plan_numbers (Some s) = record { refusal = 0; table = s.table; payload = s.payload }
 
 -- of the plan, which is refused for no other reason
 unfoldable pub list_numbers : ℕ → ℕ → Contents → ListNumbers
@@ -110,9 +110,9 @@ list_numbers format ch (refused q) = record { refusal = number Unwritable; table
 list_numbers format ch (groups gs) = record { refusal = 0; table = size_in format gs; payload = payload_size format ch gs }
 
 -- the code's answer that has them
-unfoldable pub list_answer : ℕ → ℕ → Contents → ListPlan
-list_answer format ch (refused q) = ListPlan.Unwritable
-list_answer format ch (groups gs) = ListPlan.Fits (record { table = size_in format gs; payload = payload_size format ch gs })
+unfoldable pub list_answer : ℕ → ℕ → Contents → Option Sizes
+list_answer format ch (refused q) = None
+list_answer format ch (groups gs) = Some (record { table = size_in format gs; payload = payload_size format ch gs })
 
 -- the bytes of a list's frames
 unfoldable pub lengths_in : List Row → ℕ

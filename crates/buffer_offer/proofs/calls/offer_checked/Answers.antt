@@ -1,4 +1,5 @@
 use Rattle.rtp.specs.Editions.{current}
+use Rattle.std.specs.Prelude.{Err, Ok}
 use Rattle.buffer_offer.specs.declared.calls.OfferAnswer.{OfferAnswer}
 use mathlib.Core.Path.{◌≡◌, sym, ◌∙◌, ap}
 use mathlib.Core.List.{List}
@@ -11,7 +12,6 @@ use Rattle.rtp.specs.Sizes.{row_width}
 use Rattle.rtp.specs.Areas.{over}
 use Rattle.rtp.proofs.AreaLaws.{over_none}
 use Rattle.read_packet.specs.Readings.{reading, reading_numbers, outcome_numbers}
-use Rattle.read_packet.specs.declared.reading.Reading.{Reading}
 use Rattle.buffer_offer.specs.declared.calls.Offered.{Offered}
 use Rattle.buffer_layout.specs.WellFormed.{well_formed}
 use Rattle.buffer_layout.specs.Arrays.{Machine}
@@ -31,14 +31,14 @@ fine-at c =
     sym c.well_formed-2.ensures ∙ c.if-not-well_formed.false
 
 -- what was read
-read_at : (c : In-Read) → reading_numbers (Reading.Read c.in-Read.head) ≡ outcome_numbers (reading current c.args.buffer.settings (length c.args.rows.now) c.args.packet.now)
+read_at : (c : In-Read) → reading_numbers (Ok c.in-Read.head) ≡ outcome_numbers (reading current c.args.buffer.settings (length c.args.rows.now) c.args.packet.now)
 read_at c =
     ap reading_numbers (sym c.in-Read.is) ∙ c.read.ensures.0
 
 fit_at : (c : In-Read) → row_width * c.in-Read.head.rows ≤ length c.args.rows.now
 fit_at c =
     let fine-at : well_formed c.args.buffer ≡ true = sym c.well_formed-2.ensures ∙ c.if-not-well_formed.false in
-    let read_at : reading_numbers (Reading.Read c.in-Read.head) ≡ outcome_numbers (reading current c.args.buffer.settings (length c.args.rows.now) c.args.packet.now) = ap reading_numbers (sym c.in-Read.is) ∙ c.read.ensures.0 in
+    let read_at : reading_numbers (Ok c.in-Read.head) ≡ outcome_numbers (reading current c.args.buffer.settings (length c.args.rows.now) c.args.packet.now) = ap reading_numbers (sym c.in-Read.is) ∙ c.read.ensures.0 in
     let a = c.args in
     words_fit current a.buffer a.packet.now a.rows.now a.store.now c.requires (fine-at) c.if-rows-lt-ROW_AREA.false c.if-store-lt-STORE_SIZE.false
     c.in-Read.head (read_at) _ c.read.ensures.1
@@ -84,7 +84,7 @@ unfolding outcome
 returns-in-Refused c =
     let a = c.args in
     let o = reading current a.buffer.settings (length a.rows.now) a.packet.now in
-    let e : reading_numbers (Reading.Refused c.in-Refused.fault) ≡ outcome_numbers o = ap reading_numbers (sym c.in-Refused.is) ∙ c.read.ensures.0 in
+    let e : reading_numbers (Err c.in-Refused.fault) ≡ outcome_numbers o = ap reading_numbers (sym c.in-Refused.is) ∙ c.read.ensures.0 in
     let z : a.rows.now ≡ c.read.new.rows = sym (c.read.ensures.1 ∙ ap (λ (x : List ℕ). over x a.rows.now) (refused_words o c.in-Refused.fault e) ∙ over_none a.rows.now) in
     ap (outcome c.read.new.rows a.store.now) c.refuse_offer-in-Refused.ensures
     ∙ sym (ap (λ (x : List ℕ). outcome x a.store.now (record { answer = OfferAnswer.Refused c.in-Refused.fault; buffer = a.buffer })) z)

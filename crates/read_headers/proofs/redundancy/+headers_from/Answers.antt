@@ -1,9 +1,11 @@
 use lib.ListN.{length, take, drop, length-drop}
+use Rattle.std.specs.Prelude.{Result}
+use Rattle.rtp.specs.declared.refusal.Fault.{Fault}
+use Rattle.read_headers.specs.declared.redundancy.HeaderSizes.{HeaderSizes}
 use mathlib.Core.List.{List}
 use mathlib.Core.Path.{◌≡◌, ap, subst, sym, ◌∙◌}
 use native.Mathlib.Omega.{arith}
 use Rattle.read_headers.specs.declared.redundancy.BlockHeader.{BlockHeader}
-use Rattle.read_headers.specs.declared.redundancy.HeadersRead.{HeadersRead}
 use Rattle.read_headers.specs.Redundancy.{block_header, headers, headers_answer}
 use Rattle.rtp.proofs.AreaLaws.{part_to_end}
 use Rattle.rtp.proofs.ByteLaws.{bytes_drop}
@@ -31,7 +33,7 @@ small_at t c =
     let rest_at : c.headers_from.result ≡ headers_answer (headers (drop 4 c.args.s.now)) = c.headers_from.ensures
     ∙ ap (λ (l : List ℕ). headers_answer (headers l)) (part_to_end 4 c.args.s.now) in
     let s = c.args.s.now in
-    subst (λ (r : HeadersRead). Within (length (drop 4 s)) r) (sym (rest_at) ∙ c.in-Headers.is)
+    subst (λ (r : Result HeaderSizes Fault). Within (length (drop 4 s)) r) (sym (rest_at) ∙ c.in-Headers.is)
     (within (drop 4 s) (bytes_drop 4 s (λ i. (c.shared_slice_known-1.given i).fits)))
 
 -- the place at fault
@@ -40,7 +42,7 @@ place_at_lem t c =
     let rest_at : c.headers_from.result ≡ headers_answer (headers (drop 4 c.args.s.now)) = c.headers_from.ensures
     ∙ ap (λ (l : List ℕ). headers_answer (headers l)) (part_to_end 4 c.args.s.now) in
     let s = drop 4 c.args.s.now in
-    subst (λ (r : HeadersRead). InFront (length s) r) (sym (rest_at) ∙ c.in-Refused-headers_from.is) (front s)
+    subst (λ (r : Result HeaderSizes Fault). InFront (length s) r) (sym (rest_at) ∙ c.in-Refused-headers_from.is) (front s)
 
 pub slice_bounds-headers_from-count : goal.slice_bounds-headers_from-count
 slice_bounds-headers_from-count t c =

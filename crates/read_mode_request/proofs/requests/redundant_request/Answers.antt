@@ -1,8 +1,8 @@
 use lib.ListN.{length}
+use Rattle.std.specs.Prelude.{Ok}
 use mathlib.Core.Path.{◌≡◌, sym, ◌∙◌}
 use native.Mathlib.Omega.{arith}
 use Rattle.read_headers.specs.Redundancy.{redundancy_headers, headers_answer}
-use Rattle.read_headers.specs.declared.redundancy.HeadersRead.{HeadersRead}
 use Rattle.rtp.proofs.AreaLaws.{part_to_end}
 use Rattle.read_headers.proofs.NumberLaws.{headers_is}
 use Rattle.read_headers.proofs.RedundancyLaws.{Small}
@@ -11,13 +11,13 @@ use Rattle.read_mode_request.proofs.requests.redundant_request.Goals.{In-Headers
 use Rattle.read_mode_request.proofs.requests.redundant_request.Goals as goal
 
 -- the sizes of the block headers that were read
-sizes-at : (c : In-Headers) → headers_answer (redundancy_headers c.args.s.now) ≡ HeadersRead.Headers c.in-Headers.sizes
+sizes-at : (c : In-Headers) → headers_answer (redundancy_headers c.args.s.now) ≡ Ok c.in-Headers.sizes
 sizes-at c =
     sym (headers_is _ _ c.read_headers.ensures) ∙ c.in-Headers.is
 
 small_at : (c : In-Headers) → Small (length c.args.s.now) c.in-Headers.sizes
 small_at c =
-    let sizes-at : headers_answer (redundancy_headers c.args.s.now) ≡ HeadersRead.Headers c.in-Headers.sizes = sym (headers_is _ _ c.read_headers.ensures) ∙ c.in-Headers.is in
+    let sizes-at : headers_answer (redundancy_headers c.args.s.now) ≡ Ok c.in-Headers.sizes = sym (headers_is _ _ c.read_headers.ensures) ∙ c.in-Headers.is in
     let a = c.args in redundant_small a.settings a.s.now _ (sizes-at) (λ i. (c.shared_slice_known-1.given i).fits)
 
 pub slice_bounds-blocks_request-count : goal.slice_bounds-blocks_request-count

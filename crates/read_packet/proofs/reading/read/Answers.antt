@@ -1,4 +1,5 @@
 use lib.ListN.{length}
+use Rattle.std.specs.Prelude.{Ok}
 use mathlib.Core.Bool.{true}
 use mathlib.Core.Path.{◌≡◌, ap, sym, ◌∙◌}
 use Prim.Native.Nat.{ℕ}
@@ -7,7 +8,6 @@ use Rattle.rtp.specs.Editions.{current}
 use Rattle.read_headers.proofs.HeaderLaws.{within}
 use Rattle.rtp.specs.Ranges.{in_range}
 use Rattle.read_headers.specs.Header.{header}
-use Rattle.read_headers.specs.declared.header.HeaderRead.{HeaderRead}
 use Rattle.read_mode_request.specs.Requests.{typed_request}
 use Rattle.read_packet.specs.Readings.{payload_in, typed_rows, outcome_of, reading}
 use Rattle.read_packet.proofs.ReadingLaws.{reading_out, reading_short, reading_refused, reading_headed, comes_refused, comes_typed}
@@ -20,7 +20,7 @@ range_at c =
     sym c.in_range.ensures ∙ c.if-in_range.true
 
 -- the header that was read
-head_at : (c : In-Header) → header c.args.packet.now ≡ HeaderRead.Header c.in-Header.head
+head_at : (c : In-Header) → header c.args.packet.now ≡ Ok c.in-Header.head
 head_at c =
     sym (same_header _ _ c.read_header.ensures) ∙ c.in-Header.is
 
@@ -28,7 +28,7 @@ whole-at : (c : In-Header) → let a = c.args in let h = c.in-Header.head in
     reading current a.settings (length a.rows.now) a.packet.now ≡ outcome_of h (typed_request a.settings h.payload_type (payload_in a.packet.now h)) (typed_rows current a.settings h (payload_in a.packet.now h))
 whole-at c =
     let range_at : in_range current c.args.settings ≡ true = sym c.in_range.ensures ∙ c.if-in_range.true in
-    let head_at : header c.args.packet.now ≡ HeaderRead.Header c.in-Header.head = sym (same_header _ _ c.read_header.ensures) ∙ c.in-Header.is in
+    let head_at : header c.args.packet.now ≡ Ok c.in-Header.head = sym (same_header _ _ c.read_header.ensures) ∙ c.in-Header.is in
     let a = c.args in reading_headed current a.settings (length a.rows.now) a.packet.now (range_at) c.if-rows-lt-ROW_AREA.false _ (head_at)
 
 pub returns-then-rows-lt-ROW_AREA : goal.returns-then-rows-lt-ROW_AREA

@@ -1,4 +1,5 @@
 use Rattle.rtp.specs.Editions.{current}
+use Rattle.std.specs.Prelude.{Err, Ok}
 use Rattle.rtp.proofs.AreaLaws.{part_to_end}
 use lib.ListN.{length, take, drop, length-drop}
 use mathlib.Core.Path.{◌≡◌, sym, ◌∙◌, ap}
@@ -10,7 +11,6 @@ use Rattle.formats.specs.Formats.{format_of}
 use Rattle.formats.specs.declared.facts.Format.{Format}
 use Rattle.read_payload.specs.Payloads.{body, payload_rows, rows_answer, asked_rows}
 use Rattle.read_contents.specs.Contents.{contents, sizes_answer}
-use Rattle.read_contents.specs.declared.entries.ContentsRead.{ContentsRead}
 use Rattle.read_contents.proofs.ContentsLaws.{Small}
 use Rattle.read_payload.proofs.PayloadLaws.{pay_refused, pay_headless, pay_part, pay_rows, pay_place, pay_small, asked_out, asked_long, asked_in, answer_none}
 use Rattle.read_contents.proofs.NumberLaws.{contents_is}
@@ -36,12 +36,12 @@ there-at c =
     let header_at : c.format_of-header.result.header ≡ (format_of c.args.asked.format).header = ap (λ (f : Format). f.header) c.format_of-header.ensures in
     omega (arith, header_at, c.if-s-header.false)
 
-fault-at : (c : In-Refused) → let a = c.args in sizes_answer a.asked.format a.asked.channels (contents current a.asked.format a.asked.channels a.done (body a.asked.format a.s.now)) ≡ ContentsRead.Refused c.in-Refused.fault
+fault-at : (c : In-Refused) → let a = c.args in sizes_answer a.asked.format a.asked.channels (contents current a.asked.format a.asked.channels a.done (body a.asked.format a.s.now)) ≡ Err c.in-Refused.fault
 fault-at c =
     let body_at : let a = c.args in let n = c.format_of-header.result.header in take (length a.s.now - n) (drop n a.s.now) ≡ body a.asked.format a.s.now = let a = c.args in part_to_end c.format_of-header.result.header a.s.now ∙ ap (λ (f : Format). drop f.header a.s.now) c.format_of-header.ensures in
     sym (contents_is _ _ _ _ (rw (body_at) at c.read_contents.ensures)) ∙ c.in-Refused.is
 
-table_at : (c : In-Contents) → let a = c.args in sizes_answer a.asked.format a.asked.channels (contents current a.asked.format a.asked.channels a.done (body a.asked.format a.s.now)) ≡ ContentsRead.Contents c.in-Contents.sizes
+table_at : (c : In-Contents) → let a = c.args in sizes_answer a.asked.format a.asked.channels (contents current a.asked.format a.asked.channels a.done (body a.asked.format a.s.now)) ≡ Ok c.in-Contents.sizes
 table_at c =
     let body_at : let a = c.args in let n = c.format_of-header.result.header in take (length a.s.now - n) (drop n a.s.now) ≡ body a.asked.format a.s.now = let a = c.args in part_to_end c.format_of-header.result.header a.s.now ∙ ap (λ (f : Format). drop f.header a.s.now) c.format_of-header.ensures in
     sym (contents_is _ _ _ _ (rw (body_at) at c.read_contents.ensures)) ∙ c.in-Contents.is
@@ -49,7 +49,7 @@ table_at c =
 small_at : (c : In-Contents) → let a = c.args in Small current a.done (length (body a.asked.format a.s.now)) c.in-Contents.sizes
 small_at c =
     let body_at : let a = c.args in let n = c.format_of-header.result.header in take (length a.s.now - n) (drop n a.s.now) ≡ body a.asked.format a.s.now = let a = c.args in part_to_end c.format_of-header.result.header a.s.now ∙ ap (λ (f : Format). drop f.header a.s.now) c.format_of-header.ensures in
-    let table_at : let a = c.args in sizes_answer a.asked.format a.asked.channels (contents current a.asked.format a.asked.channels a.done (body a.asked.format a.s.now)) ≡ ContentsRead.Contents c.in-Contents.sizes = sym (contents_is _ _ _ _ (rw (body_at) at c.read_contents.ensures)) ∙ c.in-Contents.is in
+    let table_at : let a = c.args in sizes_answer a.asked.format a.asked.channels (contents current a.asked.format a.asked.channels a.done (body a.asked.format a.s.now)) ≡ Ok c.in-Contents.sizes = sym (contents_is _ _ _ _ (rw (body_at) at c.read_contents.ensures)) ∙ c.in-Contents.is in
     let a = c.args in pay_small current redundant_mark a.asked.format a.asked.channels a.done 0 0 a.s.now c.in-Contents.sizes (table_at)
 
 pub returns-then-s-gt-MAX_PACKET : goal.returns-then-s-gt-MAX_PACKET

@@ -1,4 +1,6 @@
 use Rattle.rtp.specs.Editions.{current}
+use Rattle.std.specs.Prelude.{Err, Ok, Result}
+use Rattle.read_contents.specs.declared.entries.Sizes.{Sizes}
 use Rattle.rtp.proofs.AreaLaws.{part_to_end}
 use lib.ListN.{length, take, drop, length-drop}
 use mathlib.Core.Path.{◌≡◌, sym, ◌∙◌, ap, subst}
@@ -9,20 +11,18 @@ use Rattle.rtp.specs.Areas.{over}
 use Rattle.rtp.specs.declared.refusal.Fault.{Fault}
 use Rattle.formats.specs.Formats.{format_of}
 use Rattle.formats.specs.declared.facts.Format.{Format}
-use Rattle.read_contents.specs.declared.entries.ContentsRead.{ContentsRead}
 use Rattle.read_contents.specs.Contents.{contents, pass_first, sizes_answer}
 use Rattle.read_contents.proofs.ContentsLaws.{Within}
 use Rattle.read_contents.proofs.NumberLaws.{contents_is}
 use Rattle.read_rows.specs.Tables.{exact, fitting, fitting_words}
 use Rattle.read_rows.proofs.FittingLaws.{fitting_in}
 use Rattle.read_payload.specs.Payloads.{body, Rows, no_rows, payload_rows, rows_answer, payload_numbers, rows_numbers, rows_words, asked_rows}
-use Rattle.read_payload.specs.declared.reading.PayloadRead.{PayloadRead}
 use Rattle.read_payload.proofs.PayloadLaws.{pay_headless, put_words, put_within, put_refused, put_rows, asked_out, asked_short, asked_long, asked_in, answer_none, words_none}
 use Rattle.read_payload.proofs.NumberLaws.{rows_has}
 use Rattle.read_payload.proofs.reading.read_payload.Goals.{After-put_table, Else-at-s-gt-MAX_PACKET, Else-s-header, In-Contents, In-Refused}
 use Rattle.read_payload.proofs.reading.read_payload.Goals as goal
 
-both_none : (x : Rows) (r : Fault) (l : List ℕ) → x ≡ no_rows r → (payload_numbers (PayloadRead.Refused r) ≡ rows_numbers x) × (l ≡ over (rows_words x) l)
+both_none : (x : Rows) (r : Fault) (l : List ℕ) → x ≡ no_rows r → (payload_numbers (Err r) ≡ rows_numbers x) × (l ≡ over (rows_words x) l)
 both_none x r l h = (rows_has _ x (answer_none x r h), words_none x r l h)
 
 -- the settings are in range, there is room, and the payload lies in a packet
@@ -92,10 +92,10 @@ fault-in c =
     let answer_at : let a = c.args in
     c.put_table.result ≡ sizes_answer a.asked.format a.asked.channels (exact a.asked.format a.asked.channels (length (body a.asked.format a.s.now)) (pass_first (contents current a.asked.format a.asked.channels a.done (body a.asked.format a.s.now)))) = let a = c.args in contents_is _ _ _ _ c.put_table.ensures.0 ∙ ap (sizes_answer a.asked.format a.asked.channels) (fits-at) in
     let within-at : let a = c.args in Within current a.done (length (body a.asked.format a.s.now)) c.put_table.result = let a = c.args in rw (answer_at) (put_within current a.mark a.asked.format a.asked.channels a.done a.time a.at a.s.now) in
-    let a = c.args in subst (λ (r : ContentsRead). Within current a.done (length (body a.asked.format a.s.now)) r) c.in-Refused.is (within-at)
+    let a = c.args in subst (λ (r : Result Sizes Fault). Within current a.done (length (body a.asked.format a.s.now)) r) c.in-Refused.is (within-at)
 
 -- the rows are few
-rows_in : (c : In-Contents) → let a = c.args in Within current a.done (length (body a.asked.format a.s.now)) (ContentsRead.Contents c.in-Contents.sizes)
+rows_in : (c : In-Contents) → let a = c.args in Within current a.done (length (body a.asked.format a.s.now)) (Ok c.in-Contents.sizes)
 rows_in c =
     let body_at : let a = c.args in let n = c.format_of-header.result.header in take (length a.s.now - n) (drop n a.s.now) ≡ body a.asked.format a.s.now = let a = c.args in part_to_end c.format_of-header.result.header a.s.now ∙ ap (λ (f : Format). drop f.header a.s.now) c.format_of-header.ensures in
     let length_at : let a = c.args in c.format_of-header.result.header + length (body a.asked.format a.s.now) ≡ length a.s.now = let a = c.args in rw (length-drop, sym c.format_of-header.ensures) (omega (arith, c.if-s-header.false)) in
@@ -108,7 +108,7 @@ rows_in c =
     let answer_at : let a = c.args in
     c.put_table.result ≡ sizes_answer a.asked.format a.asked.channels (exact a.asked.format a.asked.channels (length (body a.asked.format a.s.now)) (pass_first (contents current a.asked.format a.asked.channels a.done (body a.asked.format a.s.now)))) = let a = c.args in contents_is _ _ _ _ c.put_table.ensures.0 ∙ ap (sizes_answer a.asked.format a.asked.channels) (fits-at) in
     let within-at : let a = c.args in Within current a.done (length (body a.asked.format a.s.now)) c.put_table.result = let a = c.args in rw (answer_at) (put_within current a.mark a.asked.format a.asked.channels a.done a.time a.at a.s.now) in
-    let a = c.args in subst (λ (r : ContentsRead). Within current a.done (length (body a.asked.format a.s.now)) r) c.in-Contents.is (within-at)
+    let a = c.args in subst (λ (r : Result Sizes Fault). Within current a.done (length (body a.asked.format a.s.now)) r) c.in-Contents.is (within-at)
 
 pub returns-then-done-area-lt-ROW_AREA : goal.returns-then-done-area-lt-ROW_AREA
 returns-then-done-area-lt-ROW_AREA c =

@@ -1,4 +1,6 @@
 use Rattle.rtp.specs.Editions.{current}
+use Rattle.std.specs.Prelude.{Ok, Result}
+use Rattle.rtp.specs.declared.refusal.Fault.{Fault}
 use Rattle.row_tags.specs.Tags.{redundant_mark}
 use lib.ListN.{length, take, drop, length-take, length-drop}
 use mathlib.Core.Path.{◌≡◌, ap, subst, sym, ◌∙◌}
@@ -9,7 +11,6 @@ use Rattle.read_headers.specs.declared.redundancy.BlockHeader.{BlockHeader}
 use Rattle.rtp.proofs.AreaLaws.{part_to_end}
 use Rattle.read_headers.proofs.RedundancyLaws.{fair, shorter}
 use Rattle.read_payload.specs.Payloads.{rows_answer}
-use Rattle.read_payload.specs.declared.reading.PayloadRead.{PayloadRead}
 use Rattle.read_payload.proofs.PayloadLaws.{answer_none}
 use Rattle.read_redundancy.specs.Room.{asked_block, blocks_from}
 use Rattle.read_redundancy.proofs.AnswerLaws.{add_answer, then_answer, Few, further, Inside}
@@ -33,7 +34,7 @@ few-at : (t : ℕ) (c : In-Rows t) → c.args.done + c.in-Rows.here ≤ max_rows
 few-at t c =
     let read_at : block_header c.args.headers.now ≡ BlockHeader.Redundant c.in-Redundant.block = sym (same_block _ _ c.read_block_header.ensures) ∙ c.in-Redundant.is in
     let here_at : let a = c.args in let e = c.in-Redundant.block in
-    rows_answer (asked_block current redundant_mark a.settings a.done (row_area current) 0 e.payload_type 0 0 (take e.length a.s.now)) ≡ PayloadRead.Rows c.in-Rows.here = sym c.check_block-in-Redundant.ensures ∙ c.in-Rows.is in
+    rows_answer (asked_block current redundant_mark a.settings a.done (row_area current) 0 e.payload_type 0 0 (take e.length a.s.now)) ≡ Ok c.in-Rows.here = sym c.check_block-in-Redundant.ensures ∙ c.in-Rows.is in
     let a = c.args in first_few current a.settings a.done (row_area current) 0 0 a.headers.now a.s.now c.requires (omega arith) _ (read_at) 0 _ (here_at)
 
 -- what follows, as the call of itself read it
@@ -48,22 +49,22 @@ whole-at : (t : ℕ) (c : After-check_blocks t) → let a = c.args in let e = c.
 whole-at t c =
     let read_at : block_header c.args.headers.now ≡ BlockHeader.Redundant c.in-Redundant.block = sym (same_block _ _ c.read_block_header.ensures) ∙ c.in-Redundant.is in
     let here_at : let a = c.args in let e = c.in-Redundant.block in
-    rows_answer (asked_block current redundant_mark a.settings a.done (row_area current) 0 e.payload_type 0 0 (take e.length a.s.now)) ≡ PayloadRead.Rows c.in-Rows.here = sym c.check_block-in-Redundant.ensures ∙ c.in-Rows.is in
+    rows_answer (asked_block current redundant_mark a.settings a.done (row_area current) 0 e.payload_type 0 0 (take e.length a.s.now)) ≡ Ok c.in-Rows.here = sym c.check_block-in-Redundant.ensures ∙ c.in-Rows.is in
     let rest_at : let a = c.args in let e = c.in-Redundant.block in
     c.check_blocks.result ≡ rows_answer (blocks_from current a.settings (a.done + c.in-Rows.here) 0 0 (drop 4 a.headers.now) (drop e.length a.s.now)) = let a = c.args in
     c.check_blocks.ensures ∙ rw (part_to_end 4 a.headers.now, part_to_end c.in-Redundant.block.length a.s.now) in
     let a = c.args in
     let e = c.in-Redundant.block in
     checked current a.settings a.done a.headers.now a.s.now c.requires e (read_at)
-    ∙ ap (λ (p : PayloadRead). then_answer p (λ n. further e.length (rows_answer (blocks_from current a.settings (a.done + n) 0 0 (drop 4 a.headers.now) (drop e.length a.s.now))))) (here_at)
-    ∙ ap (λ (p : PayloadRead). add_answer c.in-Rows.here (further e.length p)) (sym (rest_at))
+    ∙ ap (λ (p : Result ℕ Fault). then_answer p (λ n. further e.length (rows_answer (blocks_from current a.settings (a.done + n) 0 0 (drop 4 a.headers.now) (drop e.length a.s.now))))) (here_at)
+    ∙ ap (λ (p : Result ℕ Fault). add_answer c.in-Rows.here (further e.length p)) (sym (rest_at))
 
 -- a place at fault in it
 place_at_lem : (t : ℕ) (c : In-Refused-check_blocks t) → c.in-Refused-check_blocks.fault.offset ≤ length (drop c.in-Redundant.block.length c.args.s.now)
 place_at_lem t c =
     let read_at : block_header c.args.headers.now ≡ BlockHeader.Redundant c.in-Redundant.block = sym (same_block _ _ c.read_block_header.ensures) ∙ c.in-Redundant.is in
     let here_at : let a = c.args in let e = c.in-Redundant.block in
-    rows_answer (asked_block current redundant_mark a.settings a.done (row_area current) 0 e.payload_type 0 0 (take e.length a.s.now)) ≡ PayloadRead.Rows c.in-Rows.here = sym c.check_block-in-Redundant.ensures ∙ c.in-Rows.is in
+    rows_answer (asked_block current redundant_mark a.settings a.done (row_area current) 0 e.payload_type 0 0 (take e.length a.s.now)) ≡ Ok c.in-Rows.here = sym c.check_block-in-Redundant.ensures ∙ c.in-Rows.is in
     let few-at : c.args.done + c.in-Rows.here ≤ max_rows current = let a = c.args in first_few current a.settings a.done (row_area current) 0 0 a.headers.now a.s.now c.requires (omega arith) _ (read_at) 0 _ (here_at) in
     let rest_at : let a = c.args in let e = c.in-Redundant.block in
     c.check_blocks.result ≡ rows_answer (blocks_from current a.settings (a.done + c.in-Rows.here) 0 0 (drop 4 a.headers.now) (drop e.length a.s.now)) = let a = c.args in
@@ -74,7 +75,7 @@ place_at_lem t c =
     let rest = asked_rest current a.settings a.done (row_area current) 0 0 a.headers.now a.s.now c.requires (omega arith) e (read_at) n 0 (few-at) (omega arith) in
     omega (
       arith,
-      subst (λ (p : PayloadRead). Inside (0 + length (drop e.length a.s.now)) p) (sym (rest_at) ∙ c.in-Refused-check_blocks.is)
+      subst (λ (p : Result ℕ Fault). Inside (0 + length (drop e.length a.s.now)) p) (sym (rest_at) ∙ c.in-Refused-check_blocks.is)
           (from_inside current a.settings (a.done + n) 0 0 (drop 4 a.headers.now) (drop e.length a.s.now) rest.headed),
     )
 
@@ -122,7 +123,7 @@ overflow_add-result-in-Rows-check_blocks t c =
     let e = c.in-Redundant.block in
     let n = c.in-Rows.here in
     let f = from_few current a.settings (a.done + n) 0 0 (drop 4 a.headers.now) (drop e.length a.s.now) (few-at t (goal.at.overflow_add-result-in-Rows-check_blocks t c).In-Rows) in
-    omega (arith, subst (λ (p : PayloadRead). Few current (a.done + n) p) (sym (rest_at t (goal.at.overflow_add-result-in-Rows-check_blocks t c).After-check_blocks) ∙ c.in-Rows-check_blocks.is) f)
+    omega (arith, subst (λ (p : Result ℕ Fault). Few current (a.done + n) p) (sym (rest_at t (goal.at.overflow_add-result-in-Rows-check_blocks t c).After-check_blocks) ∙ c.in-Rows-check_blocks.is) f)
 
 pub returns-in-Refused : goal.returns-in-Refused
 returns-in-Refused t c =
@@ -137,12 +138,12 @@ returns-in-Refused-check_block t c =
     let a = c.args in
     let e = c.in-Redundant.block in
     sym (checked current a.settings a.done a.headers.now a.s.now c.requires e (read_at t (goal.at.returns-in-Refused-check_block t c).In-Redundant)
-    ∙ ap (λ (p : PayloadRead). then_answer p (λ n. further e.length (rows_answer (blocks_from current a.settings (a.done + n) 0 0 (drop 4 a.headers.now) (drop e.length a.s.now))))) (sym c.check_block-in-Redundant.ensures ∙ c.in-Refused-check_block.is))
+    ∙ ap (λ (p : Result ℕ Fault). then_answer p (λ n. further e.length (rows_answer (blocks_from current a.settings (a.done + n) 0 0 (drop 4 a.headers.now) (drop e.length a.s.now))))) (sym c.check_block-in-Redundant.ensures ∙ c.in-Refused-check_block.is))
 
 pub returns-in-Refused-check_blocks : goal.returns-in-Refused-check_blocks
 returns-in-Refused-check_blocks t c =
-    sym (whole-at t (goal.at.returns-in-Refused-check_blocks t c).After-check_blocks ∙ ap (λ (p : PayloadRead). add_answer c.in-Rows.here (further c.in-Redundant.block.length p)) c.in-Refused-check_blocks.is)
+    sym (whole-at t (goal.at.returns-in-Refused-check_blocks t c).After-check_blocks ∙ ap (λ (p : Result ℕ Fault). add_answer c.in-Rows.here (further c.in-Redundant.block.length p)) c.in-Refused-check_blocks.is)
 
 pub returns-in-Rows-check_blocks : goal.returns-in-Rows-check_blocks
 returns-in-Rows-check_blocks t c =
-    sym (whole-at t (goal.at.returns-in-Rows-check_blocks t c).After-check_blocks ∙ ap (λ (p : PayloadRead). add_answer c.in-Rows.here (further c.in-Redundant.block.length p)) c.in-Rows-check_blocks.is)
+    sym (whole-at t (goal.at.returns-in-Rows-check_blocks t c).After-check_blocks ∙ ap (λ (p : Result ℕ Fault). add_answer c.in-Rows.here (further c.in-Redundant.block.length p)) c.in-Rows-check_blocks.is)

@@ -1,4 +1,5 @@
 use Rattle.rtp.specs.Editions.{current}
+use Rattle.std.specs.Prelude.{Ok}
 use Rattle.row_tags.specs.Tags.{redundant_mark}
 use lib.ListN.{length, take, drop, length-take}
 use mathlib.Core.Path.{◌≡◌, ap, sym, ◌∙◌}
@@ -10,7 +11,6 @@ use Rattle.read_headers.specs.declared.redundancy.BlockHeader.{BlockHeader}
 use Rattle.rtp.proofs.AreaLaws.{part_length, part_to_end}
 use Rattle.read_headers.proofs.RedundancyLaws.{fair, shorter}
 use Rattle.read_payload.specs.Payloads.{Rows, rows_answer, rows_words}
-use Rattle.read_payload.specs.declared.reading.PayloadRead.{PayloadRead}
 use Rattle.read_payload.proofs.PayloadLaws.{words_none}
 use Rattle.read_redundancy.specs.Room.{asked_block}
 use Rattle.read_redundancy.proofs.BlockLaws.{from_refused, block_in, first_few, first_taken, asked_primary, room_rest, put_rest}
@@ -37,7 +37,7 @@ inside-at t c =
 
 -- the rows of its block
 here_at : (t : ℕ) (c : In-Rows t) → let a = c.args in let e = c.in-Redundant.block in
-    rows_answer (asked_block current redundant_mark a.settings a.done (length a.rows.now) a.time e.payload_type e.offset a.at (take e.length a.s.now)) ≡ PayloadRead.Rows c.in-Rows.here
+    rows_answer (asked_block current redundant_mark a.settings a.done (length a.rows.now) a.time e.payload_type e.offset a.at (take e.length a.s.now)) ≡ Ok c.in-Rows.here
 here_at t c =
     sym c.put_block-in-Redundant.ensures.0 ∙ c.in-Rows.is
 
@@ -45,7 +45,7 @@ few-at : (t : ℕ) (c : In-Rows t) → c.args.done + c.in-Rows.here ≤ max_rows
 few-at t c =
     let read_at : block_header c.args.headers.now ≡ BlockHeader.Redundant c.in-Redundant.block = sym (same_block _ _ c.read_block_header.ensures) ∙ c.in-Redundant.is in
     let here_at : let a = c.args in let e = c.in-Redundant.block in
-    rows_answer (asked_block current redundant_mark a.settings a.done (length a.rows.now) a.time e.payload_type e.offset a.at (take e.length a.s.now)) ≡ PayloadRead.Rows c.in-Rows.here = sym c.put_block-in-Redundant.ensures.0 ∙ c.in-Rows.is in
+    rows_answer (asked_block current redundant_mark a.settings a.done (length a.rows.now) a.time e.payload_type e.offset a.at (take e.length a.s.now)) ≡ Ok c.in-Rows.here = sym c.put_block-in-Redundant.ensures.0 ∙ c.in-Rows.is in
     let a = c.args in first_few current a.settings a.done (length a.rows.now) a.time a.at a.headers.now a.s.now c.requires.asked c.requires.area_fits _ (read_at) _ _ (here_at)
 
 kept_at : (t : ℕ) (c : After-put_block-in-Redundant t) → length ((c.put_block-in-Redundant.new.rows)) ≡ length c.args.rows.now
@@ -56,7 +56,7 @@ width-at : (t : ℕ) (c : In-Rows t) → row_width * c.in-Rows.here ≤ length (
 width-at t c =
     let read_at : block_header c.args.headers.now ≡ BlockHeader.Redundant c.in-Redundant.block = sym (same_block _ _ c.read_block_header.ensures) ∙ c.in-Redundant.is in
     let here_at : let a = c.args in let e = c.in-Redundant.block in
-    rows_answer (asked_block current redundant_mark a.settings a.done (length a.rows.now) a.time e.payload_type e.offset a.at (take e.length a.s.now)) ≡ PayloadRead.Rows c.in-Rows.here = sym c.put_block-in-Redundant.ensures.0 ∙ c.in-Rows.is in
+    rows_answer (asked_block current redundant_mark a.settings a.done (length a.rows.now) a.time e.payload_type e.offset a.at (take e.length a.s.now)) ≡ Ok c.in-Rows.here = sym c.put_block-in-Redundant.ensures.0 ∙ c.in-Rows.is in
     let few-at : c.args.done + c.in-Rows.here ≤ max_rows current = let a = c.args in first_few current a.settings a.done (length a.rows.now) a.time a.at a.headers.now a.s.now c.requires.asked c.requires.area_fits _ (read_at) _ _ (here_at) in
     let kept_at : length ((c.put_block-in-Redundant.new.rows)) ≡ length c.args.rows.now = c.put_block-in-Redundant.auto.rows in
     omega (arith, few-at, c.requires.area_fits, kept_at)

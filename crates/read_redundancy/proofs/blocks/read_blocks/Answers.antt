@@ -1,14 +1,15 @@
 use lib.ListN.{length, drop, length-drop}
+use Rattle.std.specs.Prelude.{Err, Ok, Result}
+use Rattle.rtp.specs.declared.refusal.Fault.{Fault}
+use Rattle.std.specs.Prelude.{ℕ}
 use mathlib.Core.Path.{◌≡◌, ap, sym, subst, ◌∙◌}
 use Prim.Native.Nat.{◌+◌, ◌≤◌}
 use native.Mathlib.Omega.{arith}
 use Rattle.rtp.specs.Editions.{current}
 use Rattle.rtp.specs.Areas.{over}
 use Rattle.read_headers.specs.Redundancy.{redundancy_headers, headers_answer}
-use Rattle.read_headers.specs.declared.redundancy.HeadersRead.{HeadersRead}
 use Rattle.rtp.proofs.AreaLaws.{part_to_end}
 use Rattle.read_headers.proofs.RedundancyLaws.{Small}
-use Rattle.read_payload.specs.declared.reading.PayloadRead.{PayloadRead}
 use Rattle.read_payload.specs.Payloads.{Rows, rows_answer, rows_words}
 use Rattle.read_redundancy.specs.Blocks.{redundant_rows}
 use Rattle.read_redundancy.specs.Room.{blocks_from}
@@ -20,23 +21,23 @@ use Rattle.read_redundancy.proofs.blocks.read_blocks.Goals.{After-check_blocks, 
 use Rattle.read_redundancy.proofs.blocks.read_blocks.Goals as goal
 
 -- the place at fault in the block headers
-fault-at : (c : In-Refused) → headers_answer (redundancy_headers c.args.s.now) ≡ HeadersRead.Refused c.in-Refused.fault
+fault-at : (c : In-Refused) → headers_answer (redundancy_headers c.args.s.now) ≡ Err c.in-Refused.fault
 fault-at c =
     sym (headers_is _ _ c.read_headers.ensures) ∙ c.in-Refused.is
 
 place_at_lem : (c : In-Refused) → c.in-Refused.fault.offset ≤ length c.args.s.now
 place_at_lem c =
-    let fault-at : headers_answer (redundancy_headers c.args.s.now) ≡ HeadersRead.Refused c.in-Refused.fault = sym (headers_is _ _ c.read_headers.ensures) ∙ c.in-Refused.is in
+    let fault-at : headers_answer (redundancy_headers c.args.s.now) ≡ Err c.in-Refused.fault = sym (headers_is _ _ c.read_headers.ensures) ∙ c.in-Refused.is in
     let a = c.args in split_place current a.settings a.timestamp a.at a.s.now c.requires.2 _ (fault-at)
 
 -- the sizes of the block headers that were read
-sizes-at : (c : In-Headers) → headers_answer (redundancy_headers c.args.s.now) ≡ HeadersRead.Headers c.in-Headers.sizes
+sizes-at : (c : In-Headers) → headers_answer (redundancy_headers c.args.s.now) ≡ Ok c.in-Headers.sizes
 sizes-at c =
     sym (headers_is _ _ c.read_headers.ensures) ∙ c.in-Headers.is
 
 small_at : (c : In-Headers) → Small (length c.args.s.now) c.in-Headers.sizes
 small_at c =
-    let sizes-at : headers_answer (redundancy_headers c.args.s.now) ≡ HeadersRead.Headers c.in-Headers.sizes = sym (headers_is _ _ c.read_headers.ensures) ∙ c.in-Headers.is in
+    let sizes-at : headers_answer (redundancy_headers c.args.s.now) ≡ Ok c.in-Headers.sizes = sym (headers_is _ _ c.read_headers.ensures) ∙ c.in-Headers.is in
     let a = c.args in split_small current a.settings a.timestamp a.at a.s.now c.requires.2 _ (sizes-at) (λ i. (c.shared_slice_known-1.given i).fits)
 
 -- the answer, as the call of check_blocks found it
@@ -48,7 +49,7 @@ checked-at c =
 answer_at : (c : After-check_blocks) → let a = c.args in
     rows_answer (redundant_rows current a.settings a.timestamp a.at a.s.now) ≡ further (a.at + c.in-Headers.sizes.size) c.check_blocks.result
 answer_at c =
-    let sizes-at : headers_answer (redundancy_headers c.args.s.now) ≡ HeadersRead.Headers c.in-Headers.sizes = sym (headers_is _ _ c.read_headers.ensures) ∙ c.in-Headers.is in
+    let sizes-at : headers_answer (redundancy_headers c.args.s.now) ≡ Ok c.in-Headers.sizes = sym (headers_is _ _ c.read_headers.ensures) ∙ c.in-Headers.is in
     let checked-at : let a = c.args in
     c.check_blocks.result ≡ rows_answer (blocks_from current a.settings 0 0 0 a.s.now (drop c.in-Headers.sizes.size a.s.now)) = c.check_blocks.ensures ∙ rw (part_to_end c.in-Headers.sizes.size c.args.s.now) in
     let a = c.args in split_answer current a.settings a.timestamp a.at a.s.now c.requires.2 _ (sizes-at) c.if-s-size.false ∙ ap (further (a.at + c.in-Headers.sizes.size)) (sym (checked-at))
@@ -56,7 +57,7 @@ answer_at c =
 -- a place at fault in the blocks
 block-place-at : (c : In-Refused-check_blocks) → c.in-Refused-check_blocks.fault.offset ≤ length (drop c.in-Headers.sizes.size c.args.s.now)
 block-place-at c =
-    let sizes-at : headers_answer (redundancy_headers c.args.s.now) ≡ HeadersRead.Headers c.in-Headers.sizes = sym (headers_is _ _ c.read_headers.ensures) ∙ c.in-Headers.is in
+    let sizes-at : headers_answer (redundancy_headers c.args.s.now) ≡ Ok c.in-Headers.sizes = sym (headers_is _ _ c.read_headers.ensures) ∙ c.in-Headers.is in
     let small_at : Small (length c.args.s.now) c.in-Headers.sizes = let a = c.args in split_small current a.settings a.timestamp a.at a.s.now c.requires.2 _ (sizes-at) (λ i. (c.shared_slice_known-1.given i).fits) in
     let checked-at : let a = c.args in
     c.check_blocks.result ≡ rows_answer (blocks_from current a.settings 0 0 0 a.s.now (drop c.in-Headers.sizes.size a.s.now)) = c.check_blocks.ensures ∙ rw (part_to_end c.in-Headers.sizes.size c.args.s.now) in
@@ -65,7 +66,7 @@ block-place-at c =
     let asked = split_asked current a.settings a.timestamp a.at a.s.now c.requires.2 z (sizes-at) c.if-s-size.false c.requires.0 (small_at).within 0 (omega arith) in
     omega (
       arith,
-      subst (λ (p : PayloadRead). Inside (0 + length (drop z.size a.s.now)) p) (sym (checked-at) ∙ c.in-Refused-check_blocks.is)
+      subst (λ (p : Result ℕ Fault). Inside (0 + length (drop z.size a.s.now)) p) (sym (checked-at) ∙ c.in-Refused-check_blocks.is)
           (from_inside current a.settings 0 0 0 a.s.now (drop z.size a.s.now) asked.headed),
     )
 

@@ -1,9 +1,9 @@
 use Rattle.rtp.specs.Editions.{current}
+use Rattle.std.specs.Prelude.{Ok}
 use Rattle.formats.specs.Frames.{max_class}
 use Rattle.std.proofs.Common.{◌≡◌, ℕ, ◌+◌, ◌-◌, ◌*◌, ◌<◌, ◌≤◌, true, length, take, drop, sym, ap, ◌∙◌, arith}
 use Rattle.rtp.specs.Sizes.{row_width, max_rows}
 use Rattle.rtp.proofs.AreaLaws.{part_length, part_to_end}
-use Rattle.read_contents.specs.declared.entries.EntryRead.{EntryRead}
 use Rattle.read_contents.specs.Contents.{entry_of, contents, sizes_answer}
 use Rattle.read_rows.specs.Room.{GroupRoom, TableRoom}
 use Rattle.read_contents.proofs.EntryLaws.{fair}
@@ -14,32 +14,32 @@ use Rattle.read_rows.proofs.rows.+put_contents.Goals.{In-Entry}
 use Rattle.read_rows.proofs.rows.+put_contents.Goals as goal
 
 -- the entry that was read, and the room that is there
-read_at : (t : ℕ) (c : In-Entry t) → entry_of c.args.format c.args.s.now ≡ EntryRead.Entry c.in-Entry.entry
+read_at : (t : ℕ) (c : In-Entry t) → entry_of c.args.format c.args.s.now ≡ Ok c.in-Entry.entry
 read_at t c =
     sym (same_entry _ _ c.read_entry.ensures ∙ ap (entry_of c.args.format) (part_to_end 0 c.args.s.now)) ∙ c.in-Entry.is
 
 few-at : (t : ℕ) (c : In-Entry t) → let a = c.args in a.done + c.in-Entry.entry.blocks * a.channels ≤ max_rows current
 few-at t c =
-    let read_at : entry_of c.args.format c.args.s.now ≡ EntryRead.Entry c.in-Entry.entry = sym (same_entry _ _ c.read_entry.ensures ∙ ap (entry_of c.args.format) (part_to_end 0 c.args.s.now)) ∙ c.in-Entry.is in
+    let read_at : entry_of c.args.format c.args.s.now ≡ Ok c.in-Entry.entry = sym (same_entry _ _ c.read_entry.ensures ∙ ap (entry_of c.args.format) (part_to_end 0 c.args.s.now)) ∙ c.in-Entry.is in
     let a = c.args in room_few current a.format a.channels a.done a.start (length a.rows.now) a.s.now _ (read_at) c.requires
 
 room_at : (t : ℕ) (c : In-Entry t) → let a = c.args in let e = c.in-Entry.entry in
     GroupRoom 0 e.blocks a.channels (256 * a.mark + e.class) a.start e.length (length a.rows.now)
 room_at t c =
-    let read_at : entry_of c.args.format c.args.s.now ≡ EntryRead.Entry c.in-Entry.entry = sym (same_entry _ _ c.read_entry.ensures ∙ ap (entry_of c.args.format) (part_to_end 0 c.args.s.now)) ∙ c.in-Entry.is in
+    let read_at : entry_of c.args.format c.args.s.now ≡ Ok c.in-Entry.entry = sym (same_entry _ _ c.read_entry.ensures ∙ ap (entry_of c.args.format) (part_to_end 0 c.args.s.now)) ∙ c.in-Entry.is in
     let a = c.args in room_group current a.format a.channels a.done a.start (length a.rows.now) a.s.now _ (read_at) c.requires a.mark (omega (arith, c.ranges.mark)) (λ i. (c.shared_slice_known-1.given i).fits)
 
 rest_at : (t : ℕ) (c : In-Entry t) → c.in-Entry.entry.more ≡ true → let a = c.args in let e = c.in-Entry.entry in
     TableRoom a.channels (a.start + e.blocks * a.channels * e.length) (length a.rows.now - row_width * (e.blocks * a.channels))
     (sizes_answer a.format a.channels (contents current a.format a.channels (a.done + e.blocks * a.channels) (drop e.size a.s.now)))
 rest_at t c m =
-    let read_at : entry_of c.args.format c.args.s.now ≡ EntryRead.Entry c.in-Entry.entry = sym (same_entry _ _ c.read_entry.ensures ∙ ap (entry_of c.args.format) (part_to_end 0 c.args.s.now)) ∙ c.in-Entry.is in
+    let read_at : entry_of c.args.format c.args.s.now ≡ Ok c.in-Entry.entry = sym (same_entry _ _ c.read_entry.ensures ∙ ap (entry_of c.args.format) (part_to_end 0 c.args.s.now)) ∙ c.in-Entry.is in
     let a = c.args in room_rest current a.format a.channels a.done a.start (length a.rows.now) a.s.now _ (read_at) c.requires m
 
 -- the entry's class is one of the paper's
 class-at : (t : ℕ) (c : In-Entry t) → c.in-Entry.entry.class ≤ max_class
 class-at t c =
-    let read_at : entry_of c.args.format c.args.s.now ≡ EntryRead.Entry c.in-Entry.entry = sym (same_entry _ _ c.read_entry.ensures ∙ ap (entry_of c.args.format) (part_to_end 0 c.args.s.now)) ∙ c.in-Entry.is in
+    let read_at : entry_of c.args.format c.args.s.now ≡ Ok c.in-Entry.entry = sym (same_entry _ _ c.read_entry.ensures ∙ ap (entry_of c.args.format) (part_to_end 0 c.args.s.now)) ∙ c.in-Entry.is in
     (fair _ _ _ (read_at)).classes
 
 pub overflow_mul-kind : goal.overflow_mul-kind

@@ -1,8 +1,8 @@
 use Rattle.std.proofs.Common.{◌≡◌, ◌+◌, ◌*◌, ◌≤◌, length, sym, ◌∙◌, arith}
+use Rattle.std.specs.Prelude.{Err, Ok}
 use Rattle.rtp.specs.Editions.{current}
 use Rattle.rtp.specs.Sizes.{max_packet, row_width, row_area}
 use Rattle.rtp.proofs.AreaLaws.{part_to_end}
-use Rattle.read_contents.specs.declared.entries.ContentsRead.{ContentsRead}
 use Rattle.read_contents.specs.Contents.{contents, sizes_answer}
 use Rattle.read_contents.proofs.ContentsLaws.{Small}
 use Rattle.read_contents.proofs.NumberLaws.{contents_is}
@@ -20,11 +20,11 @@ inside-at c =
     omega (arith, c.if-at-s-gt-MAX_PACKET.false)
 
 -- what reading the table answered
-fault-at : (c : In-Refused) → let a = c.args in sizes_answer a.format a.channels (contents current a.format a.channels a.done a.s.now) ≡ ContentsRead.Refused c.in-Refused.fault
+fault-at : (c : In-Refused) → let a = c.args in sizes_answer a.format a.channels (contents current a.format a.channels a.done a.s.now) ≡ Err c.in-Refused.fault
 fault-at c =
     sym (contents_is _ _ _ _ (rw (part_to_end 0 c.args.s.now) at c.read_contents.ensures)) ∙ c.in-Refused.is
 
-table_at : (c : In-Contents) → let a = c.args in sizes_answer a.format a.channels (contents current a.format a.channels a.done a.s.now) ≡ ContentsRead.Contents c.in-Contents.sizes
+table_at : (c : In-Contents) → let a = c.args in sizes_answer a.format a.channels (contents current a.format a.channels a.done a.s.now) ≡ Ok c.in-Contents.sizes
 table_at c =
     sym (contents_is _ _ _ _ (rw (part_to_end 0 c.args.s.now) at c.read_contents.ensures)) ∙ c.in-Contents.is
 
@@ -32,7 +32,7 @@ small_at : (c : In-Contents) → let a = c.args in Small current a.done (length 
 small_at c =
     let area_at : let a = c.args in row_area current ≤ row_width * a.done + length a.area.now = omega (arith, c.if-done-area-lt-ROW_AREA.false) in
     let inside-at : let a = c.args in a.at + length a.s.now ≤ max_packet = omega (arith, c.if-at-s-gt-MAX_PACKET.false) in
-    let table_at : let a = c.args in sizes_answer a.format a.channels (contents current a.format a.channels a.done a.s.now) ≡ ContentsRead.Contents c.in-Contents.sizes = sym (contents_is _ _ _ _ (rw (part_to_end 0 c.args.s.now) at c.read_contents.ensures)) ∙ c.in-Contents.is in
+    let table_at : let a = c.args in sizes_answer a.format a.channels (contents current a.format a.channels a.done a.s.now) ≡ Ok c.in-Contents.sizes = sym (contents_is _ _ _ _ (rw (part_to_end 0 c.args.s.now) at c.read_contents.ensures)) ∙ c.in-Contents.is in
     let a = c.args in fitting_small current a.format a.channels a.done (length a.area.now) a.at a.s.now (area_at) (inside-at) _ (table_at)
 
 pub returns-then-done-area-lt-ROW_AREA : goal.returns-then-done-area-lt-ROW_AREA

@@ -1,4 +1,5 @@
 use mathlib.Core.Path.{◌≡◌, ap, subst, sym, ◌∙◌}
+use Rattle.std.specs.Prelude.{None, Some}
 use Prim.Native.Nat.{ℕ, ◌+◌, ◌*◌, ◌≤◌}
 use lib.ListN.{length}
 use native.Mathlib.Omega.{arith}
@@ -9,7 +10,6 @@ use Rattle.rtp.specs.Time.{difference}
 use Rattle.formats.specs.Formats.{format_of}
 use Rattle.write_plan.specs.declared.lists.RowWords.{RowWords}
 use Rattle.write_plan.specs.declared.planning.Planned.{Planned}
-use Rattle.write_plan.specs.declared.planning.ListPlan.{ListPlan}
 use Rattle.write_plan.specs.Lists.{rows_in}
 use Rattle.write_plan.specs.Plans.{max_payload, plan_from, plan, step_before}
 use Rattle.write_plan.specs.declared.planning.Plan.{Plan}
@@ -80,7 +80,7 @@ pub returns-then-payload-gt-MAX_PAYLOAD : goal.returns-then-payload-gt-MAX_PAYLO
 returns-then-payload-gt-MAX_PAYLOAD c =
     let f = c.args.format in
     let p = c.in-Table.plan in
-    list_has _ _ ListPlan.Unwritable _
+    list_has _ _ None _
     (sym (answer_at (goal.at.returns-then-payload-gt-MAX_PAYLOAD c).After-plan_from ∙ ap (fitting_plan f) c.in-Table.is
     ∙ rw (lt-ltb max_payload ((format_of f).header + (p.run + p.others) + p.frames) (omega (arith, c.if-payload-gt-MAX_PAYLOAD.true, c.payload_size-payload.ensures)))))
 
@@ -88,7 +88,7 @@ pub returns-else-payload-gt-MAX_PAYLOAD : goal.returns-else-payload-gt-MAX_PAYLO
 returns-else-payload-gt-MAX_PAYLOAD c =
     let f = c.args.format in
     let p = c.in-Table.plan in
-    list_has _ _ (ListPlan.Fits (record { table = p.run + p.others; payload = c.payload_size-payload.result })) _
+    list_has _ _ (Some (record { table = p.run + p.others; payload = c.payload_size-payload.result })) _
     (sym (answer_at (goal.at.returns-else-payload-gt-MAX_PAYLOAD c).After-plan_from ∙ ap (fitting_plan f) c.in-Table.is
     ∙ rw (le-ltb max_payload ((format_of f).header + (p.run + p.others) + p.frames) (omega (arith, c.if-payload-gt-MAX_PAYLOAD.false, c.payload_size-payload.ensures)), c.payload_size-payload.ensures)))
 
