@@ -139,10 +139,10 @@ abbrev HeadersPlaced : Headers → Type 0
 HeadersPlaced (unheaded f) = Placed (number f.refusal)
 HeadersPlaced (headers_of bs type) = Unit {0}
 
-abbrev HeaderPlaced : BlockHeader → Type 0
-HeaderPlaced (BlockHeader.Refused r) = Placed (number r)
-HeaderPlaced (BlockHeader.Primary t) = Unit {0}
-HeaderPlaced (BlockHeader.Redundant b) = Unit {0}
+abbrev HeaderPlaced : Result BlockHeader Refusal → Type 0
+HeaderPlaced (Err r) = Placed (number r)
+HeaderPlaced (Ok (BlockHeader.Primary t)) = Unit {0}
+HeaderPlaced (Ok (BlockHeader.Redundant b)) = Unit {0}
 
 header_placed : (s : List ℕ) → HeaderPlaced (block_header s)
 unfolding block_header
@@ -155,10 +155,10 @@ headers_more : (b : Redundant) (x : Headers) → HeadersPlaced x → HeadersPlac
 headers_more b (unheaded f) h = h
 headers_more b (headers_of bs type) h = tt
 
-headers_step_lem : (s : List ℕ) (next : List ℕ → Headers) → ((t : List ℕ) → HeadersPlaced (next t)) → (b : BlockHeader) → HeaderPlaced b → HeadersPlaced (headers_step s next b)
-headers_step_lem s next ih (BlockHeader.Refused r) h = h
-headers_step_lem s next ih (BlockHeader.Primary t) h = tt
-headers_step_lem s next ih (BlockHeader.Redundant b) h = headers_more b (next (drop 4 s)) (ih (drop 4 s))
+headers_step_lem : (s : List ℕ) (next : List ℕ → Headers) → ((t : List ℕ) → HeadersPlaced (next t)) → (b : Result BlockHeader Refusal) → HeaderPlaced b → HeadersPlaced (headers_step s next b)
+headers_step_lem s next ih (Err r) h = h
+headers_step_lem s next ih (Ok (BlockHeader.Primary t)) h = tt
+headers_step_lem s next ih (Ok (BlockHeader.Redundant b)) h = headers_more b (next (drop 4 s)) (ih (drop 4 s))
 
 headers_by_lem : (f : ℕ) (s : List ℕ) → HeadersPlaced (headers_by f s)
 unfolding headers_by

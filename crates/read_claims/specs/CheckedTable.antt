@@ -1,5 +1,5 @@
 -- Document 01, "Checked table", lines 1 to 7: one claim over the definitions that the contracts cite.
-use Rattle.std.specs.Prelude.{ℕ, ◌/◌, ◌%◌, ◌^◌, ◌≡◌, List, [], ◌∷◌, ◌++◌, length, replicate, Err}
+use Rattle.std.specs.Prelude.{ℕ, ◌/◌, ◌%◌, ◌^◌, ◌≡◌, List, [], ◌∷◌, ◌++◌, length, replicate, Err, Ok}
 use Rattle.rtp.specs.Editions.{current}
 use Rattle.rtp.specs.Sizes.{row_area}
 use Rattle.rtp.specs.Ranges.{g719, g719_interleaved, gsm_hr}
@@ -94,7 +94,7 @@ pub record CheckedTable : Type 0 where
   -- 5. Kind 1 at time 4294966336, two frame-blocks: 4294966336, then 0.
   pub wrapped_rows : packet_rows g719 1 plain_type 4294966336 two_blocks ≡ rows_of (row 4294966336 sound 0 14 80 ∷ row 0 sound 0 94 80 ∷ [])
   -- 6. Block header E1 0F 00 52, then 61: type 97, offset 960, length 82; at packet time 0 the redundant time is 4294966336.
-  pub block_header_lem : block_header block_headers ≡ BlockHeader.Redundant redundant_block
+  pub block_header_lem : block_header block_headers ≡ Ok (BlockHeader.Redundant redundant_block)
   pub block_headers_lem : redundancy_headers block_headers ≡ headers_of (redundant_block ∷ []) 97
   pub redundant_time : difference 0 960 ≡ 4294966336
   pub redundant_rows_lem : packet_rows g719 1 redundancy_type 0 (block_headers ++ one_block ++ one_block) ≡ rows_of (with_mark redundant_mark (row 4294966336 sound 0 19 80) ∷ row 0 sound 0 101 80 ∷ [])

@@ -20,7 +20,7 @@ past_bound : (b : Bool) (r : Refusal) (x : Result ℕ Refusal) (n : ℕ) → con
 past_bound true r x n h = let z : ◌≡◌ {A = ℕ} 0 1 = cc in absurd (omega arith)
 past_bound false r x n h = (refl, h)
 
-same_at : (m n : ℕ) → Ok m ≡ Ok n → m ≡ n
+same_at : (m n : ℕ) → ◌≡◌ {A = Result ℕ Refusal} (Ok m) (Ok n) → m ≡ n
 same_at m n h = cc
 
 pub start_within : (s : List ℕ) (n : ℕ) → payload_start s ≡ Ok n → (min_packet ≤ n) × (n ≤ length s)
@@ -59,7 +59,7 @@ past_header : (b : Bool) (r : Refusal) (x : Result Header Refusal) (h : Header) 
 past_header true r x h e = let z : ◌≡◌ {A = ℕ} 0 1 = cc in absurd (omega arith)
 past_header false r x h e = (refl, e)
 
-same_header : (a b : Header) → Ok a ≡ Ok b → a ≡ b
+same_header : (a b : Header) → ◌≡◌ {A = Result Header Refusal} (Ok a) (Ok b) → a ≡ b
 same_header a b e = cc
 
 ended : (s : List ℕ) (start : ℕ) (h : Header) → min_packet ≤ length s → length s ≤ max_packet → min_packet ≤ start → start ≤ length s

@@ -18,17 +18,17 @@ same_header (Err p) (Ok h) e = not-zero p (ap (λ (n : HeaderNumbers). n.refusal
 same_header (Ok h) (Err q) e = not-zero q (sym (ap (λ (n : HeaderNumbers). n.refusal) e))
 same_header (Ok h) (Ok k) e = ap (λ (n : HeaderNumbers). Ok n.fields) e
 
-pub same_block : (a b : BlockHeader) → block_numbers a ≡ block_numbers b → a ≡ b
-same_block (BlockHeader.Refused p) (BlockHeader.Refused q) e = ap BlockHeader.Refused (same_number p q (ap (λ (n : BlockNumbers). n.refusal) e))
-same_block (BlockHeader.Refused p) (BlockHeader.Primary t) e = not-zero p (ap (λ (n : BlockNumbers). n.refusal) e)
-same_block (BlockHeader.Refused p) (BlockHeader.Redundant b) e = not-zero p (ap (λ (n : BlockNumbers). n.refusal) e)
-same_block (BlockHeader.Primary t) (BlockHeader.Refused q) e = not-zero q (sym (ap (λ (n : BlockNumbers). n.refusal) e))
-same_block (BlockHeader.Primary t) (BlockHeader.Primary u) e = ap (λ (n : BlockNumbers). BlockHeader.Primary n.payload_type) e
-same_block (BlockHeader.Primary t) (BlockHeader.Redundant b) e = let z : ◌≡◌ {A = ℕ} 0 1 = ap (λ (n : BlockNumbers). n.follows) e in absurd (omega arith)
-same_block (BlockHeader.Redundant b) (BlockHeader.Refused q) e = not-zero q (sym (ap (λ (n : BlockNumbers). n.refusal) e))
-same_block (BlockHeader.Redundant b) (BlockHeader.Primary t) e = let z : ◌≡◌ {A = ℕ} 1 0 = ap (λ (n : BlockNumbers). n.follows) e in absurd (omega arith)
-same_block (BlockHeader.Redundant b) (BlockHeader.Redundant d) e =
-    ap (λ (n : BlockNumbers). BlockHeader.Redundant (record { payload_type = n.payload_type; offset = n.offset; length = n.length })) e
+pub same_block : (a b : Result BlockHeader Refusal) → block_numbers a ≡ block_numbers b → a ≡ b
+same_block (Err p) (Err q) e = ap Err (same_number p q (ap (λ (n : BlockNumbers). n.refusal) e))
+same_block (Err p) (Ok (BlockHeader.Primary t)) e = not-zero p (ap (λ (n : BlockNumbers). n.refusal) e)
+same_block (Err p) (Ok (BlockHeader.Redundant b)) e = not-zero p (ap (λ (n : BlockNumbers). n.refusal) e)
+same_block (Ok (BlockHeader.Primary t)) (Err q) e = not-zero q (sym (ap (λ (n : BlockNumbers). n.refusal) e))
+same_block (Ok (BlockHeader.Primary t)) (Ok (BlockHeader.Primary u)) e = ap (λ (n : BlockNumbers). Ok (BlockHeader.Primary n.payload_type)) e
+same_block (Ok (BlockHeader.Primary t)) (Ok (BlockHeader.Redundant b)) e = let z : ◌≡◌ {A = ℕ} 0 1 = ap (λ (n : BlockNumbers). n.follows) e in absurd (omega arith)
+same_block (Ok (BlockHeader.Redundant b)) (Err q) e = not-zero q (sym (ap (λ (n : BlockNumbers). n.refusal) e))
+same_block (Ok (BlockHeader.Redundant b)) (Ok (BlockHeader.Primary t)) e = let z : ◌≡◌ {A = ℕ} 1 0 = ap (λ (n : BlockNumbers). n.follows) e in absurd (omega arith)
+same_block (Ok (BlockHeader.Redundant b)) (Ok (BlockHeader.Redundant d)) e =
+    ap (λ (n : BlockNumbers). Ok (BlockHeader.Redundant (record { payload_type = n.payload_type; offset = n.offset; length = n.length }))) e
 
 same_headers : (a b : Result HeaderSizes Fault) → headers_read_numbers a ≡ headers_read_numbers b → a ≡ b
 same_headers (Err p) (Err q) e =

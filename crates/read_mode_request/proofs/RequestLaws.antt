@@ -50,15 +50,15 @@ blocks_placed st (b ∷ bs) found type at at' d =
     blocks_placed st bs (block_request st found b.payload_type (take b.length d)) type (at + b.length) (at' + b.length) (drop b.length d)
 
 module _ (st : Settings) (found : ℕ) (h d : List ℕ) where
-  pub from_refused : (r : Refusal) → block_header h ≡ BlockHeader.Refused r → request_from st found h d ≡ no_request
+  pub from_refused : (r : Refusal) → block_header h ≡ Err r → request_from st found h d ≡ no_request
   unfolding request_from
   from_refused r q = rw (headers_step_lem, q)
 
-  pub from_primary : (type : ℕ) → block_header h ≡ BlockHeader.Primary type → request_from st found h d ≡ block_request st found type d
+  pub from_primary : (type : ℕ) → block_header h ≡ Ok (BlockHeader.Primary type) → request_from st found h d ≡ block_request st found type d
   unfolding request_from blocks_request cut
   from_primary type q = rw (headers_step_lem, q)
 
-  pub from_redundant : (e : Redundant) → block_header h ≡ BlockHeader.Redundant e
+  pub from_redundant : (e : Redundant) → block_header h ≡ Ok (BlockHeader.Redundant e)
       → request_from st found h d ≡ request_from st (block_request st found e.payload_type (take e.length d)) (drop 4 h) (drop e.length d)
   unfolding request_from blocks_request cut
   from_redundant e q = rw (headers_step_lem h, q) (rest (headers (drop 4 h)))
@@ -69,7 +69,7 @@ module _ (st : Settings) (found : ℕ) (h d : List ℕ) where
 
 -- A redundancy payload, from what reading its block headers answered
 
-same_sizes : (a b : HeaderSizes) → Ok a ≡ Ok b → a ≡ b
+same_sizes : (a b : HeaderSizes) → ◌≡◌ {A = Result HeaderSizes Fault} (Ok a) (Ok b) → a ≡ b
 same_sizes a b h = cc
 
 split_none : (st : Settings) (s : List ℕ) (r : Fault) (x : Headers) → headers_answer x ≡ Err r → split_request st s x ≡ no_request

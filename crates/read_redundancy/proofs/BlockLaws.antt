@@ -172,7 +172,7 @@ module _ (ed : Edition) (st : Settings) where
 
 -- The rows by the first block header
 
-pub headed_rest : (n : ℕ) (h : List ℕ) (e : Redundant) → block_header h ≡ BlockHeader.Redundant e → Headed n (headers_answer (headers h))
+pub headed_rest : (n : ℕ) (h : List ℕ) (e : Redundant) → block_header h ≡ Ok (BlockHeader.Redundant e) → Headed n (headers_answer (headers h))
     → (e.length ≤ n) × Headed (n - e.length) (headers_answer (headers (drop 4 h)))
 headed_rest n h e q k = both (headers_answer (headers (drop 4 h))) (rw (at_redundant h e q) at k)
   where
@@ -181,15 +181,15 @@ headed_rest n h e q k = both (headers_answer (headers (drop 4 h))) (rw (at_redun
     both (Ok s) z = (omega arith, omega arith)
 
 module _ (ed : Edition) (st : Settings) (done time at : ℕ) (h d : List ℕ) where
-  pub from_refused : (r : Refusal) → block_header h ≡ BlockHeader.Refused r → blocks_from ed st done time at h d ≡ no_rows (shifted at (fault r))
+  pub from_refused : (r : Refusal) → block_header h ≡ Err r → blocks_from ed st done time at h d ≡ no_rows (shifted at (fault r))
   unfolding blocks_from
   from_refused r q = rw (headers_step_lem, q)
 
-  pub from_primary : (type : ℕ) → block_header h ≡ BlockHeader.Primary type → blocks_from ed st done time at h d ≡ typed_block_rows ed st done time (block primary_mark type 0 at d)
+  pub from_primary : (type : ℕ) → block_header h ≡ Ok (BlockHeader.Primary type) → blocks_from ed st done time at h d ≡ typed_block_rows ed st done time (block primary_mark type 0 at d)
   unfolding blocks_from blocks_rows cut
   from_primary type q = rw (headers_step_lem, q) (then_none (typed_block_rows ed st done time (block primary_mark type 0 at d)))
 
-  pub from_redundant : (n : ℕ) (e : Redundant) → block_header h ≡ BlockHeader.Redundant e → Headed n (headers_answer (headers (drop 4 h)))
+  pub from_redundant : (n : ℕ) (e : Redundant) → block_header h ≡ Ok (BlockHeader.Redundant e) → Headed n (headers_answer (headers (drop 4 h)))
       → blocks_from ed st done time at h d
       ≡ then_rows (typed_block_rows ed st done time (block redundant_mark e.payload_type e.offset at (take e.length d))) (λ i. blocks_from ed st (done + i) time (at + e.length) (drop 4 h) (drop e.length d))
   unfolding blocks_from blocks_rows cut headers_answer
@@ -223,10 +223,10 @@ module _ (ed : Edition) (mark : ℕ) (st : Settings) (done area time type offset
 -- The blocks of a call: the primary block alone, or a redundant block and the rest
 
 module _ (ed : Edition) (st : Settings) (done area time at : ℕ) (h d : List ℕ) (a : BlocksAsked ed st done at h (length d)) (fits : row_area ed ≤ row_width * done + area) where
-  pub asked_primary : (type : ℕ) → block_header h ≡ BlockHeader.Primary type → asked_block ed primary_mark st done area time type 0 at d ≡ blocks_from ed st done time at h d
+  pub asked_primary : (type : ℕ) → block_header h ≡ Ok (BlockHeader.Primary type) → asked_block ed primary_mark st done area time type 0 at d ≡ blocks_from ed st done time at h d
   asked_primary type q = asked_block_lem ed primary_mark st done area time type 0 at d a.settings fits a.inside ∙ sym (from_primary ed st done time at h d type q)
 
-  module _ (e : Redundant) (q : block_header h ≡ BlockHeader.Redundant e) where
+  module _ (e : Redundant) (q : block_header h ≡ Ok (BlockHeader.Redundant e)) where
     pub block_in : e.length ≤ length d
     block_in = (headed_rest (length d) h e q a.headed).0
 
@@ -249,7 +249,7 @@ module _ (ed : Edition) (st : Settings) (done area time at : ℕ) (h d : List �
     first_then = rw (asked_first e.offset) (from_redundant ed st done time at h d (length d - e.length) e q (headed_rest (length d) h e q a.headed).1)
 
 -- the primary block alone, checked as at time 0 and place 0 and whatever its mark
-pub checked_primary : (ed : Edition) (st : Settings) (done : ℕ) (h d : List ℕ) → BlocksAsked ed st done 0 h (length d) → (type : ℕ) → block_header h ≡ BlockHeader.Primary type
+pub checked_primary : (ed : Edition) (st : Settings) (done : ℕ) (h d : List ℕ) → BlocksAsked ed st done 0 h (length d) → (type : ℕ) → block_header h ≡ Ok (BlockHeader.Primary type)
     → rows_answer (asked_block ed redundant_mark st done (row_area ed) 0 type 0 0 d) ≡ rows_answer (blocks_from ed st done 0 0 h d)
 checked_primary ed st done h d a type q =
     ap rows_answer (asked_block_lem ed redundant_mark st done (row_area ed) 0 type 0 0 d a.settings (omega arith) a.inside)
@@ -257,7 +257,7 @@ checked_primary ed st done h d a type q =
     ∙ ap rows_answer (sym (from_primary ed st done 0 0 h d type q))
 
 -- their answer, where each is taken as at time 0 and place 0: what follows is counted from its own front
-pub checked : (ed : Edition) (st : Settings) (done : ℕ) (h d : List ℕ) → BlocksAsked ed st done 0 h (length d) → (e : Redundant) → block_header h ≡ BlockHeader.Redundant e
+pub checked : (ed : Edition) (st : Settings) (done : ℕ) (h d : List ℕ) → BlocksAsked ed st done 0 h (length d) → (e : Redundant) → block_header h ≡ Ok (BlockHeader.Redundant e)
     → rows_answer (blocks_from ed st done 0 0 h d)
     ≡ then_answer (rows_answer (asked_block ed redundant_mark st done (row_area ed) 0 e.payload_type 0 0 (take e.length d))) (λ n. further e.length (rows_answer (blocks_from ed st (done + n) 0 0 (drop 4 h) (drop e.length d))))
 checked ed st done h d a e q =
@@ -272,7 +272,7 @@ checked ed st done h d a e q =
     (λ n. further e.length (rows_answer (blocks_from ed st (done + n) 0 0 (drop 4 h) (drop e.length d)))) (λ n. from_further ed st (done + n) 0 0 e.length 0 (0 + e.length) (omega arith) (drop 4 h) (drop e.length d))
 
 -- their words
-module _ (ed : Edition) (st : Settings) (done time at area : ℕ) (h d : List ℕ) (r : BlocksRoom ed st done time at h d area) (e : Redundant) (q : block_header h ≡ BlockHeader.Redundant e) where
+module _ (ed : Edition) (st : Settings) (done time at area : ℕ) (h d : List ℕ) (r : BlocksRoom ed st done time at h d area) (e : Redundant) (q : block_header h ≡ Ok (BlockHeader.Redundant e)) where
   abbrev First : Rows
   First = asked_block ed redundant_mark st done area time e.payload_type e.offset at (take e.length d)
 

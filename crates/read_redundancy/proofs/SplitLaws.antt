@@ -24,7 +24,7 @@ use Rattle.read_redundancy.specs.Room.{headed_rows, blocks_from, BlocksAsked, Bl
 use Rattle.read_redundancy.proofs.BlockLaws.{from_further}
 use Rattle.read_redundancy.proofs.AnswerLaws.{further}
 
-same_sizes : (a b : HeaderSizes) → Ok a ≡ Ok b → a ≡ b
+same_sizes : (a b : HeaderSizes) → ◌≡◌ {A = Result HeaderSizes Fault} (Ok a) (Ok b) → a ≡ b
 same_sizes a b h = cc
 
 -- what headers that were read say of the payload s
@@ -40,7 +40,7 @@ is ed st time at s z (headers_of bs type) h = subst (λ (y : HeaderSizes). Is ed
   whole = λ l. rw (le-ltb _ _ l);
 })
 
-same_fault : (a b : Fault) → Err a ≡ Err b → a ≡ b
+same_fault : (a b : Fault) → ◌≡◌ {A = Result HeaderSizes Fault} (Err a) (Err b) → a ≡ b
 same_fault a b h = cc
 
 is_refused : (ed : Edition) (st : Settings) (time at : ℕ) (s : List ℕ) (r : Fault) (x : Headers) → headers_answer x ≡ Err r → split_rows ed st time at s x ≡ no_rows (shifted at r)

@@ -1,4 +1,5 @@
 -- Laws of a table and just the frames that it tells of, from what reading the table answered.
+use Rattle.std.specs.Prelude.{Result}
 use Rattle.std.proofs.Common.{◌≡◌, ℕ, ◌+◌, eqb, List, length, refl, subst, arith, eq-eqb, ne_eqb}
 use Rattle.std.specs.Prelude.{Err, Ok}
 use Rattle.rtp.specs.Editions.{Edition}
@@ -13,7 +14,7 @@ use Rattle.read_rows.proofs.FirstLaws.{sizes_passed}
 use Rattle.read_rows.specs.Room.{contents_words}
 use Rattle.read_rows.specs.Tables.{exact, fitting_words}
 
-pub same_sizes : (a b : Sizes) → Ok a ≡ Ok b → a ≡ b
+pub same_sizes : (a b : Sizes) → ◌≡◌ {A = Result Sizes Fault} (Ok a) (Ok b) → a ≡ b
 same_sizes a b h = cc
 
 pub exact_refused : (format ch n : ℕ) (r : Fault) (p : Contents) → sizes_answer format ch p ≡ Err r → exact format ch n p ≡ refused r

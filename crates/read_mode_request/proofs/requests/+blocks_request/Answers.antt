@@ -1,4 +1,5 @@
 use lib.ListN.{length, take, drop, length-take}
+use Rattle.std.specs.Prelude.{Ok}
 use mathlib.Core.Path.{◌≡◌, ap, sym, ◌∙◌}
 use mathlib.Core.List.{List}
 use native.Mathlib.Omega.{arith}
@@ -15,7 +16,7 @@ use Rattle.read_mode_request.proofs.requests.+blocks_request.Goals.{In-Redundant
 use Rattle.read_mode_request.proofs.requests.+blocks_request.Goals as goal
 
 -- the block header that was read
-read_at : (t : ℕ) (c : In-Redundant t) → block_header c.args.headers.now ≡ BlockHeader.Redundant c.in-Redundant.block
+read_at : (t : ℕ) (c : In-Redundant t) → block_header c.args.headers.now ≡ Ok (BlockHeader.Redundant c.in-Redundant.block)
 read_at t c =
     sym (same_block _ _ c.read_block_header.ensures) ∙ c.in-Redundant.is
 

@@ -21,18 +21,18 @@ use Rattle.read_redundancy.proofs.blocks.+check_blocks.Goals.{After-check_blocks
 use Rattle.read_redundancy.proofs.blocks.+check_blocks.Goals as goal
 
 -- the block header that was read
-read_at : (t : ℕ) (c : In-Redundant t) → block_header c.args.headers.now ≡ BlockHeader.Redundant c.in-Redundant.block
+read_at : (t : ℕ) (c : In-Redundant t) → block_header c.args.headers.now ≡ Ok (BlockHeader.Redundant c.in-Redundant.block)
 read_at t c =
     sym (same_block _ _ c.read_block_header.ensures) ∙ c.in-Redundant.is
 
 block_at : (t : ℕ) (c : In-Redundant t) → c.in-Redundant.block.length ≤ length c.args.s.now
 block_at t c =
-    let read_at : block_header c.args.headers.now ≡ BlockHeader.Redundant c.in-Redundant.block = sym (same_block _ _ c.read_block_header.ensures) ∙ c.in-Redundant.is in
+    let read_at : block_header c.args.headers.now ≡ Ok (BlockHeader.Redundant c.in-Redundant.block) = sym (same_block _ _ c.read_block_header.ensures) ∙ c.in-Redundant.is in
     let a = c.args in block_in current a.settings a.done (row_area current) 0 0 a.headers.now a.s.now c.requires (omega arith) _ (read_at)
 
 few-at : (t : ℕ) (c : In-Rows t) → c.args.done + c.in-Rows.here ≤ max_rows current
 few-at t c =
-    let read_at : block_header c.args.headers.now ≡ BlockHeader.Redundant c.in-Redundant.block = sym (same_block _ _ c.read_block_header.ensures) ∙ c.in-Redundant.is in
+    let read_at : block_header c.args.headers.now ≡ Ok (BlockHeader.Redundant c.in-Redundant.block) = sym (same_block _ _ c.read_block_header.ensures) ∙ c.in-Redundant.is in
     let here_at : let a = c.args in let e = c.in-Redundant.block in
     rows_answer (asked_block current redundant_mark a.settings a.done (row_area current) 0 e.payload_type 0 0 (take e.length a.s.now)) ≡ Ok c.in-Rows.here = sym c.check_block-in-Redundant.ensures ∙ c.in-Rows.is in
     let a = c.args in first_few current a.settings a.done (row_area current) 0 0 a.headers.now a.s.now c.requires (omega arith) _ (read_at) 0 _ (here_at)
@@ -47,7 +47,7 @@ rest_at t c =
 whole-at : (t : ℕ) (c : After-check_blocks t) → let a = c.args in let e = c.in-Redundant.block in
     rows_answer (blocks_from current a.settings a.done 0 0 a.headers.now a.s.now) ≡ add_answer c.in-Rows.here (further e.length c.check_blocks.result)
 whole-at t c =
-    let read_at : block_header c.args.headers.now ≡ BlockHeader.Redundant c.in-Redundant.block = sym (same_block _ _ c.read_block_header.ensures) ∙ c.in-Redundant.is in
+    let read_at : block_header c.args.headers.now ≡ Ok (BlockHeader.Redundant c.in-Redundant.block) = sym (same_block _ _ c.read_block_header.ensures) ∙ c.in-Redundant.is in
     let here_at : let a = c.args in let e = c.in-Redundant.block in
     rows_answer (asked_block current redundant_mark a.settings a.done (row_area current) 0 e.payload_type 0 0 (take e.length a.s.now)) ≡ Ok c.in-Rows.here = sym c.check_block-in-Redundant.ensures ∙ c.in-Rows.is in
     let rest_at : let a = c.args in let e = c.in-Redundant.block in
@@ -62,7 +62,7 @@ whole-at t c =
 -- a place at fault in it
 place_at_lem : (t : ℕ) (c : In-Refused-check_blocks t) → c.in-Refused-check_blocks.fault.offset ≤ length (drop c.in-Redundant.block.length c.args.s.now)
 place_at_lem t c =
-    let read_at : block_header c.args.headers.now ≡ BlockHeader.Redundant c.in-Redundant.block = sym (same_block _ _ c.read_block_header.ensures) ∙ c.in-Redundant.is in
+    let read_at : block_header c.args.headers.now ≡ Ok (BlockHeader.Redundant c.in-Redundant.block) = sym (same_block _ _ c.read_block_header.ensures) ∙ c.in-Redundant.is in
     let here_at : let a = c.args in let e = c.in-Redundant.block in
     rows_answer (asked_block current redundant_mark a.settings a.done (row_area current) 0 e.payload_type 0 0 (take e.length a.s.now)) ≡ Ok c.in-Rows.here = sym c.check_block-in-Redundant.ensures ∙ c.in-Rows.is in
     let few-at : c.args.done + c.in-Rows.here ≤ max_rows current = let a = c.args in first_few current a.settings a.done (row_area current) 0 0 a.headers.now a.s.now c.requires (omega arith) _ (read_at) 0 _ (here_at) in

@@ -20,18 +20,18 @@ use Rattle.read_redundancy.proofs.blocks.+put_blocks.Goals.{After-put_block-in-R
 use Rattle.read_redundancy.proofs.blocks.+put_blocks.Goals as goal
 
 -- the block header that was read
-read_at : (t : ℕ) (c : In-Redundant t) → block_header c.args.headers.now ≡ BlockHeader.Redundant c.in-Redundant.block
+read_at : (t : ℕ) (c : In-Redundant t) → block_header c.args.headers.now ≡ Ok (BlockHeader.Redundant c.in-Redundant.block)
 read_at t c =
     sym (same_block _ _ c.read_block_header.ensures) ∙ c.in-Redundant.is
 
 block_at : (t : ℕ) (c : In-Redundant t) → c.in-Redundant.block.length ≤ length c.args.s.now
 block_at t c =
-    let read_at : block_header c.args.headers.now ≡ BlockHeader.Redundant c.in-Redundant.block = sym (same_block _ _ c.read_block_header.ensures) ∙ c.in-Redundant.is in
+    let read_at : block_header c.args.headers.now ≡ Ok (BlockHeader.Redundant c.in-Redundant.block) = sym (same_block _ _ c.read_block_header.ensures) ∙ c.in-Redundant.is in
     let a = c.args in block_in current a.settings a.done (length a.rows.now) a.time a.at a.headers.now a.s.now c.requires.asked c.requires.area_fits _ (read_at)
 
 inside-at : (t : ℕ) (c : In-Redundant t) → c.args.at + c.in-Redundant.block.length ≤ max_packet
 inside-at t c =
-    let read_at : block_header c.args.headers.now ≡ BlockHeader.Redundant c.in-Redundant.block = sym (same_block _ _ c.read_block_header.ensures) ∙ c.in-Redundant.is in
+    let read_at : block_header c.args.headers.now ≡ Ok (BlockHeader.Redundant c.in-Redundant.block) = sym (same_block _ _ c.read_block_header.ensures) ∙ c.in-Redundant.is in
     let block_at : c.in-Redundant.block.length ≤ length c.args.s.now = let a = c.args in block_in current a.settings a.done (length a.rows.now) a.time a.at a.headers.now a.s.now c.requires.asked c.requires.area_fits _ (read_at) in
     omega (arith, block_at, c.requires.asked.inside)
 
@@ -43,7 +43,7 @@ here_at t c =
 
 few-at : (t : ℕ) (c : In-Rows t) → c.args.done + c.in-Rows.here ≤ max_rows current
 few-at t c =
-    let read_at : block_header c.args.headers.now ≡ BlockHeader.Redundant c.in-Redundant.block = sym (same_block _ _ c.read_block_header.ensures) ∙ c.in-Redundant.is in
+    let read_at : block_header c.args.headers.now ≡ Ok (BlockHeader.Redundant c.in-Redundant.block) = sym (same_block _ _ c.read_block_header.ensures) ∙ c.in-Redundant.is in
     let here_at : let a = c.args in let e = c.in-Redundant.block in
     rows_answer (asked_block current redundant_mark a.settings a.done (length a.rows.now) a.time e.payload_type e.offset a.at (take e.length a.s.now)) ≡ Ok c.in-Rows.here = sym c.put_block-in-Redundant.ensures.0 ∙ c.in-Rows.is in
     let a = c.args in first_few current a.settings a.done (length a.rows.now) a.time a.at a.headers.now a.s.now c.requires.asked c.requires.area_fits _ (read_at) _ _ (here_at)
@@ -54,7 +54,7 @@ kept_at t c =
 
 width-at : (t : ℕ) (c : In-Rows t) → row_width * c.in-Rows.here ≤ length ((c.put_block-in-Redundant.new.rows))
 width-at t c =
-    let read_at : block_header c.args.headers.now ≡ BlockHeader.Redundant c.in-Redundant.block = sym (same_block _ _ c.read_block_header.ensures) ∙ c.in-Redundant.is in
+    let read_at : block_header c.args.headers.now ≡ Ok (BlockHeader.Redundant c.in-Redundant.block) = sym (same_block _ _ c.read_block_header.ensures) ∙ c.in-Redundant.is in
     let here_at : let a = c.args in let e = c.in-Redundant.block in
     rows_answer (asked_block current redundant_mark a.settings a.done (length a.rows.now) a.time e.payload_type e.offset a.at (take e.length a.s.now)) ≡ Ok c.in-Rows.here = sym c.put_block-in-Redundant.ensures.0 ∙ c.in-Rows.is in
     let few-at : c.args.done + c.in-Rows.here ≤ max_rows current = let a = c.args in first_few current a.settings a.done (length a.rows.now) a.time a.at a.headers.now a.s.now c.requires.asked c.requires.area_fits _ (read_at) _ _ (here_at) in
