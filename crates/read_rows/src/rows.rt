@@ -10,7 +10,7 @@ ghost use Rattle.read_rows.specs.Tables.{fitting, fitting_words};
 
 use formats::frames;
 use read_contents::entries;
-use read_contents::entries::{ContentsRead, EntryRead};
+use read_contents::entries::Sizes;
 use row_tags::tagging;
 use rtp::refusal::{Fault, Refusal};
 use rtp::sizes::{MAX_PACKET, ROW_AREA, ROW_WIDTH};
@@ -120,37 +120,34 @@ fn put_contents(
     requires { TableRoom channels start (length rows.old) (sizes_answer format channels (contents current format channels done s.now)) }
     ensures { rows.new ≡ over (contents_words mark format channels time start (contents current format channels done s.now)) rows.old }
 {
-    match entries::read_entry(format, &s[0..]) {
-        EntryRead::Refused(_) => {}
-        EntryRead::Entry(entry) => {
-            let kind = 256 * (mark as usize) + entry.class;
-            let next = put_group(
-                rows,
-                &s[0..],
+    if let Ok(entry) = entries::read_entry(format, &s[0..]) {
+        let kind = 256 * (mark as usize) + entry.class;
+        let next = put_group(
+            rows,
+            &s[0..],
+            format,
+            channels,
+            0,
+            entry.blocks,
+            time,
+            kind,
+            start,
+            entry.length,
+        );
+        if entry.more {
+            let here = entry.blocks * channels;
+            let width = ROW_WIDTH * here;
+            let size = entry.size;
+            put_contents(
+                &mut rows[width..],
+                mark,
+                &s[size..],
                 format,
                 channels,
-                0,
-                entry.blocks,
-                time,
-                kind,
-                start,
-                entry.length,
+                done + here,
+                next,
+                start + here * entry.length,
             );
-            if entry.more {
-                let here = entry.blocks * channels;
-                let width = ROW_WIDTH * here;
-                let size = entry.size;
-                put_contents(
-                    &mut rows[width..],
-                    mark,
-                    &s[size..],
-                    format,
-                    channels,
-                    done + here,
-                    next,
-                    start + here * entry.length,
-                );
-            }
         }
     }
 }
@@ -166,43 +163,33 @@ pub fn put_table(
     done: u32,
     time: u32,
     at: u32,
-) -> ContentsRead
+) -> Result<Sizes, Fault>
     ensures { (contents_read_numbers result ≡ contents_numbers format channels (fitting current format channels done (length area.old) at s.now))
         × (area.new ≡
         over (fitting_words mark format channels time at (fitting current format channels done (length area.old) at s.now)) area.old) }
 {
     if ROW_WIDTH * (done as usize) + area.len() < ROW_AREA {
-        return ContentsRead::Refused(Fault {
-            refusal: Refusal::AreaTooShort,
-            offset: 0,
-        });
+        return Err(Fault::from(Refusal::AreaTooShort));
     }
     if MAX_PACKET < (at as usize) + s.len() {
-        return ContentsRead::Refused(Fault {
-            refusal: Refusal::PacketLength,
-            offset: 0,
+        return Err(Fault::from(Refusal::PacketLength));
+    }
+    let sizes = entries::read_contents(format, channels, done, &s[0..])?;
+    if sizes.size + sizes.frames != s.len() {
+        return Err(Fault {
+            refusal: Refusal::LengthMismatch,
+            offset: sizes.size,
         });
     }
-    match entries::read_contents(format, channels, done, &s[0..]) {
-        ContentsRead::Refused(fault) => ContentsRead::Refused(fault),
-        ContentsRead::Contents(sizes) => {
-            if sizes.size + sizes.frames == s.len() {
-                put_contents(
-                    area,
-                    mark,
-                    &s[0..],
-                    format,
-                    channels as usize,
-                    done as usize,
-                    origin(format, time, &s[0..]),
-                    (at as usize) + sizes.size,
-                );
-                return ContentsRead::Contents(sizes);
-            }
-            ContentsRead::Refused(Fault {
-                refusal: Refusal::LengthMismatch,
-                offset: sizes.size,
-            })
-        }
-    }
+    put_contents(
+        area,
+        mark,
+        &s[0..],
+        format,
+        channels as usize,
+        done as usize,
+        origin(format, time, &s[0..]),
+        (at as usize) + sizes.size,
+    );
+    Ok(sizes)
 }
