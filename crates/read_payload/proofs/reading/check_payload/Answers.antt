@@ -1,7 +1,6 @@
 use Rattle.rtp.specs.Editions.{current}
 use Rattle.std.specs.Prelude.{Err, Ok}
 use Rattle.rtp.proofs.ErrorLaws.{err_is, shift_ok, shift_err}
-use Rattle.std.proofs.lemmas.Bool.{not-true, not-false}
 use Rattle.read_contents.specs.declared.entries.Sizes.{Sizes}
 use Rattle.rtp.specs.declared.refusal.Fault.{Fault}
 use Rattle.rtp.proofs.AreaLaws.{part_to_end}
@@ -25,7 +24,7 @@ use Rattle.read_payload.proofs.reading.check_payload.Goals as goal
 -- the settings are in range, and the payload is no longer than a packet
 asked-at : (c : Else-s-gt-MAX_PACKET) → let a = c.args in asked_rows current redundant_mark a.asked a.done (row_area current) 0 0 a.s.now ≡ payload_rows current redundant_mark a.asked.format a.asked.channels a.done 0 0 a.s.now
 asked-at c =
-    let a = c.args in asked_in current redundant_mark a.asked a.done (row_area current) 0 0 a.s.now (sym c.in_range.ensures ∙ not-false _ c.if-not-in_range.false) (omega arith) (omega (arith, c.if-s-gt-MAX_PACKET.false))
+    let a = c.args in asked_in current redundant_mark a.asked a.done (row_area current) 0 0 a.s.now (sym c.in_range.ensures ∙ c.if-not-in_range.false) (omega arith) (omega (arith, c.if-s-gt-MAX_PACKET.false))
 
 length_at : (c : Else-s-header) → let a = c.args in c.format_of-header.result.header + length (body a.asked.format a.s.now) ≡ length a.s.now
 length_at c =
@@ -63,11 +62,11 @@ small_at c l r h =
 
 pub returns-then-not-in_range : goal.returns-then-not-in_range
 returns-then-not-in_range c =
-    let a = c.args in rw c.from.ensures (rows_has _ _ (answer_none _ _ (asked_out current redundant_mark a.asked a.done (row_area current) 0 0 a.s.now (sym c.in_range.ensures ∙ not-true _ c.if-not-in_range.true))))
+    let a = c.args in rw c.from.ensures (rows_has _ _ (answer_none _ _ (asked_out current redundant_mark a.asked a.done (row_area current) 0 0 a.s.now (sym c.in_range.ensures ∙ c.if-not-in_range.true))))
 
 pub returns-then-s-gt-MAX_PACKET : goal.returns-then-s-gt-MAX_PACKET
 returns-then-s-gt-MAX_PACKET c =
-    let a = c.args in rw c.from-then-s-gt-MAX_PACKET.ensures (rows_has _ _ (answer_none _ _ (asked_long current redundant_mark a.asked a.done (row_area current) 0 0 a.s.now (sym c.in_range.ensures ∙ not-false _ c.if-not-in_range.false) (omega arith) (omega (arith, c.if-s-gt-MAX_PACKET.true)))))
+    let a = c.args in rw c.from-then-s-gt-MAX_PACKET.ensures (rows_has _ _ (answer_none _ _ (asked_long current redundant_mark a.asked a.done (row_area current) 0 0 a.s.now (sym c.in_range.ensures ∙ c.if-not-in_range.false) (omega arith) (omega (arith, c.if-s-gt-MAX_PACKET.true)))))
 
 pub returns-then-s-header : goal.returns-then-s-header
 returns-then-s-header c =
