@@ -24,7 +24,7 @@ use Rattle.read_redundancy.proofs.blocks.+check_blocks.Goals as goal
 -- the block header that was read
 read_at : (t : ℕ) (c : In-Redundant t) → block_header c.args.headers.now ≡ Ok (BlockHeader.Redundant c.in-Redundant.block)
 read_at t c =
-    sym (same_block _ _ c.read_block_header.ensures) ∙ c.in_ok-read_block_header.was ∙ ap Ok c.in-Redundant.is
+    sym (same_block _ _ c.read_block_header.ensures) ∙ c.in_ok-block_type.was ∙ ap Ok c.in-Redundant.is
 
 block_at : (t : ℕ) (c : In-Redundant t) → c.in-Redundant.block.length ≤ length c.args.s.now
 block_at t c =
@@ -85,13 +85,13 @@ pub slice_bounds-check_blocks-start : goal.slice_bounds-check_blocks-start
 slice_bounds-check_blocks-start t c =
     omega (arith, (fair _ _ (read_at t (goal.at.slice_bounds-check_blocks-start t c).In-Redundant)).within)
 
-pub slice_bounds-check_blocks-count-2 : goal.slice_bounds-check_blocks-count-2
-slice_bounds-check_blocks-count-2 t c =
-    block_at t (goal.at.slice_bounds-check_blocks-count-2 t c).In-Redundant
+pub slice_bounds-check_blocks-count-in-Redundant : goal.slice_bounds-check_blocks-count-in-Redundant
+slice_bounds-check_blocks-count-in-Redundant t c =
+    block_at t (goal.at.slice_bounds-check_blocks-count-in-Redundant t c).In-Redundant
 
-pub slice_bounds-check_blocks-start-2 : goal.slice_bounds-check_blocks-start-2
-slice_bounds-check_blocks-start-2 t c =
-    omega (arith, block_at t (goal.at.slice_bounds-check_blocks-start-2 t c).In-Redundant)
+pub slice_bounds-check_blocks-start-in-Redundant : goal.slice_bounds-check_blocks-start-in-Redundant
+slice_bounds-check_blocks-start-in-Redundant t c =
+    omega (arith, block_at t (goal.at.slice_bounds-check_blocks-start-in-Redundant t c).In-Redundant)
 
 pub check_blocks-requires : goal.check_blocks-requires
 check_blocks-requires t c =
@@ -117,15 +117,15 @@ overflow_add-result t c =
     let k = shift_ok _ _ _ _ c.shifted.ensures (near_at t p.After-shifted r few (block_at t p.In-Redundant)) c.in_ok-rest-in-Redundant.was in
     omega (arith, subst (λ (p : Result ℕ Fault). Few current (a.done + n) p) (sym (rest_at t p.After-shifted) ∙ k) f)
 
-pub returns-in_err-read_block_header : goal.returns-in_err-read_block_header
-returns-in_err-read_block_header t c =
+pub returns-in_err-block_type : goal.returns-in_err-block_type
+returns-in_err-block_type t c =
     let a = c.args in
     err_is _ _ c.from_residual.ensures.1
-    ∙ answer_none _ _ (from_refused current a.settings a.done 0 0 a.headers.now a.s.now _ (sym (same_block _ _ c.read_block_header.ensures) ∙ c.in_err-read_block_header.was))
+    ∙ answer_none _ _ (from_refused current a.settings a.done 0 0 a.headers.now a.s.now _ (sym (same_block _ _ c.read_block_header.ensures) ∙ c.in_err-block_type.was))
 
 pub returns-in-Primary : goal.returns-in-Primary
 returns-in-Primary t c =
-    let a = c.args in c.check_block.ensures ∙ checked_primary current a.settings a.done a.headers.now a.s.now c.requires _ (sym (same_block _ _ c.read_block_header.ensures) ∙ c.in_ok-read_block_header.was ∙ ap Ok c.in-Primary.is)
+    let a = c.args in c.check_block.ensures ∙ checked_primary current a.settings a.done a.headers.now a.s.now c.requires _ (sym (same_block _ _ c.read_block_header.ensures) ∙ c.in_ok-block_type.was ∙ ap Ok c.in-Primary.is)
 
 pub returns-in_err-here-in-Redundant : goal.returns-in_err-here-in-Redundant
 returns-in_err-here-in-Redundant t c =
