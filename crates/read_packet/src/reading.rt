@@ -30,7 +30,12 @@ pub struct Packet {
 }
 
 // The payload of a packet with this header, by the packet's type.
-fn read_typed(settings: Settings, head: Header, packet: &[u8], rows: &mut [u32]) -> Result<u32, Fault>
+fn read_typed(
+    settings: Settings,
+    head: Header,
+    packet: &[u8],
+    rows: &mut [u32],
+) -> Result<u32, Fault>
     requires { (in_range current settings ≡ true) × (row_area current ≤ length rows.old) × (header packet.now ≡ Ok head) }
     ensures { (result ≡ rows_answer (typed_rows current settings head (payload_in packet.now head)))
         × (rows.new ≡ over (rows_words (typed_rows current settings head (payload_in packet.now head))) rows.old) }
