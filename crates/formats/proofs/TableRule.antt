@@ -46,7 +46,3 @@ entry_from rule i (suc n) (suc k) h = entry_from rule (suc i) n k (omega arith) 
 -- so a table that is computed to these entries keeps the rule at each of them
 pub entry : (rule : ℕ → ℕ) (n k : ℕ) → k < n → get_or (entries rule 0 n) k 0 ≡ rule k
 entry rule n k h = entry_from rule 0 n k h ∙ ap rule (omega arith)
-
--- and fits in 16 bits there where the rule does at each
-pub entry_fits : (rule : ℕ → ℕ) (n k : ℕ) → T (all_below (λ i. ltb (rule i) 65536) n) → k < n → get_or (entries rule 0 n) k 0 < 65536
-entry_fits rule n k t h = subst (λ (m : ℕ). m < 65536) (sym (entry rule n k h)) (ltb→lt (rule k) 65536 (at (λ i. ltb (rule i) 65536) n t k h))
