@@ -80,7 +80,7 @@ fn damage_of(graded: bool, code: usize) -> usize
 }
 
 // The class of a good frame of a type that has bytes, where `sid` is the type that is a SID.
-fn good_class(sid: usize, kind: usize) -> usize
+pub fn good_class(sid: usize, kind: usize) -> usize
     ensures { (result ≡ good_class sid kind) × (result ≤ 2) }
 {
     if kind == sid { SID } else { SOUND }
