@@ -1,7 +1,9 @@
 -- Laws of bytes and of the numbers that they make up.
-use Rattle.std.proofs.Common.{◌≡◌, ℕ, ◌+◌, ◌*◌, ◌/◌, ◌%◌, ◌^◌, ◌<◌, ◌≤◌, List, ◌++◌, length, drop, refl, ap, arith, get_or, get_or-drop, sym, length-drop, le-leb}
+use Rattle.std.proofs.Common.{◌≡◌, ℕ, ◌+◌, ◌*◌, ◌/◌, ◌%◌, ◌^◌, ◌<◌, ◌≤◌, List, ◌++◌, length, drop, refl, ap, ◌∙◌, arith, get_or, get_or-drop, sym, length-drop, le-leb}
 use borrow.Author.Tests.{lt-leb}
 use Rattle.std.specs.Int.{w16, w32, from_be_bytes}
+use Rattle.std.specs.List.{slice_range}
+use Rattle.rtp.proofs.AreaLaws.{part_to_end}
 use Rattle.rtp.specs.Numbers.{byte_at, be16, be32, read_u16, read_u32, two, four}
 pub use Rattle.rtp.specs.Numbers.{Bytes}
 
@@ -30,19 +32,21 @@ read_four_outside s i h = rw (lt-leb (i + 4) (length s) h)
 part_byte : (s : List ℕ) (i k j : ℕ) → i + k ≡ j → get_or (drop i s) k 0 ≡ byte_at s j
 part_byte s i k j e = rw (get_or-drop, e)
 
-pub rest_two : (s r : List ℕ) (i : ℕ) → r ≡ drop i s → 2 ≤ length r → from_be_bytes w16 r ≡ read_u16 s i
+pub rest_two : (s r : List ℕ) (i : ℕ) → r ≡ slice_range s i (length s) → 2 ≤ length r → from_be_bytes w16 r ≡ read_u16 s i
 rest_two s r i e h =
-    let l : 2 + i ≤ length s = omega (arith, length-drop i s, ap length e) in
-    rw (e, read_two s i (omega arith), part_byte s i 0 i (omega arith), part_byte s i 1 (i + 1) (omega arith)) (omega arith)
+    let d : r ≡ drop i s = e ∙ part_to_end i s in
+    let l : 2 + i ≤ length s = omega (arith, length-drop i s, ap length d) in
+    rw (d, read_two s i (omega arith), part_byte s i 0 i (omega arith), part_byte s i 1 (i + 1) (omega arith)) (omega arith)
 
-pub rest_two_short : (s r : List ℕ) (i : ℕ) → r ≡ drop i s → length r < 2 → 0 ≡ read_u16 s i
-rest_two_short s r i e h = sym (read_two_outside s i (omega (arith, length-drop i s, ap length e)))
+pub rest_two_short : (s r : List ℕ) (i : ℕ) → r ≡ slice_range s i (length s) → length r < 2 → 0 ≡ read_u16 s i
+rest_two_short s r i e h = sym (read_two_outside s i (omega (arith, length-drop i s, ap length (e ∙ part_to_end i s))))
 
-pub rest_four : (s r : List ℕ) (i : ℕ) → r ≡ drop i s → 4 ≤ length r → from_be_bytes w32 r ≡ read_u32 s i
+pub rest_four : (s r : List ℕ) (i : ℕ) → r ≡ slice_range s i (length s) → 4 ≤ length r → from_be_bytes w32 r ≡ read_u32 s i
 rest_four s r i e h =
-    let l : 4 + i ≤ length s = omega (arith, length-drop i s, ap length e) in
+    let d : r ≡ drop i s = e ∙ part_to_end i s in
+    let l : 4 + i ≤ length s = omega (arith, length-drop i s, ap length d) in
     rw (
-      e,
+      d,
       read_four s i (omega arith),
       part_byte s i 0 i (omega arith),
       part_byte s i 1 (i + 1) (omega arith),
@@ -51,8 +55,8 @@ rest_four s r i e h =
     )
     (omega arith)
 
-pub rest_four_short : (s r : List ℕ) (i : ℕ) → r ≡ drop i s → length r < 4 → 0 ≡ read_u32 s i
-rest_four_short s r i e h = sym (read_four_outside s i (omega (arith, length-drop i s, ap length e)))
+pub rest_four_short : (s r : List ℕ) (i : ℕ) → r ≡ slice_range s i (length s) → length r < 4 → 0 ≡ read_u32 s i
+rest_four_short s r i e h = sym (read_four_outside s i (omega (arith, length-drop i s, ap length (e ∙ part_to_end i s))))
 
 -- A number that is written: it reads back
 

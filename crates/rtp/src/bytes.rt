@@ -1,5 +1,5 @@
 // Big-endian numbers and bytes in a slice of bytes: the one place where they are read and written.
-ghost use Rattle.std.specs.Prelude.{◌≡◌, ◌<◌, drop};
+ghost use Rattle.std.specs.Prelude.{◌≡◌, ◌<◌};
 ghost use Rattle.rtp.specs.Numbers.{read_u16, read_u32, two, four};
 ghost use Rattle.rtp.specs.Areas.{fitted};
 
@@ -9,18 +9,14 @@ pub fn wide(x: u8) -> usize
     usize::from(x)
 }
 
-// What stands from `at` on, nothing where that lies past the end.
-fn rest(s: &[u8], at: usize) -> &[u8]
-    ensures { result.now ≡ drop at s.now }
-{
-    s.get(at..).unwrap_or(&[])
-}
-
 // The 16-bit number at `at`; 0 where it does not lie inside the slice.
 pub fn read_u16(s: &[u8], at: usize) -> u16
     ensures { result ≡ read_u16 s.now at }
 {
-    match rest(s, at) {
+    let Some(rest) = s.get(at..) else {
+        return 0;
+    };
+    match rest {
         [a, b, ..] => u16::from_be_bytes([*a, *b]),
         _ => 0,
     }
@@ -30,7 +26,10 @@ pub fn read_u16(s: &[u8], at: usize) -> u16
 pub fn read_u32(s: &[u8], at: usize) -> u32
     ensures { result ≡ read_u32 s.now at }
 {
-    match rest(s, at) {
+    let Some(rest) = s.get(at..) else {
+        return 0;
+    };
+    match rest {
         [a, b, c, d, ..] => u32::from_be_bytes([*a, *b, *c, *d]),
         _ => 0,
     }
