@@ -13,10 +13,10 @@ pub fn wide(x: u8) -> usize
 pub fn read_u16(s: &[u8], at: usize) -> u16
     ensures { result ≡ read_u16 s.now at }
 {
-    let Some(rest) = s.get(at..) else {
+    if s.len() < at {
         return 0;
-    };
-    match rest {
+    }
+    match &s[at..] {
         [a, b, ..] => u16::from_be_bytes([*a, *b]),
         _ => 0,
     }
@@ -26,10 +26,10 @@ pub fn read_u16(s: &[u8], at: usize) -> u16
 pub fn read_u32(s: &[u8], at: usize) -> u32
     ensures { result ≡ read_u32 s.now at }
 {
-    let Some(rest) = s.get(at..) else {
+    if s.len() < at {
         return 0;
-    };
-    match rest {
+    }
+    match &s[at..] {
         [a, b, c, d, ..] => u32::from_be_bytes([*a, *b, *c, *d]),
         _ => 0,
     }
