@@ -12,7 +12,7 @@ use Rattle.formats.specs.declared.facts.Format.{Format}
 use Rattle.formats.specs.declared.facts.FrameTable.{FrameTable}
 use Rattle.formats.specs.Formats.{no_code, amr_format, amr_wb_format, format_of}
 use Rattle.formats.specs.Frames.{no_data, no_data_type, sound, sid, damaged_sound, damaged_sid, max_class, amr_length, amr_wb_length, length_in, frame_in}
-use Rattle.frame_codes.specs.Codes.{code_below, highest_code, code_for, NoDataCodes, amr_longest, amr_wb_longest, no_type, type_below, type_for, graded_code, length_bits, has_length, sound_bits}
+use Rattle.frame_codes.specs.Codes.{code_below, highest_code, code_for, NoDataCodes, amr_longest, amr_wb_longest, no_type, type_below, type_for, graded_code, length_bits, has_length, sound_bits, table_code}
 use Rattle.formats.proofs.TableRule.{all_below, at, entries, entry, entries_length}
 use Rattle.formats.proofs.FormatLaws.{keeps}
 use Rattle.frame_codes.proofs.CodeLaws.{none}
@@ -121,13 +121,21 @@ module _ (f : Format) (sounds : ℕ) (k : T (keeps f (ruled 63))) (few : f.codes
       lacks (rw b) (by-test (leb class max_class) (λ a. rw (a, lt-leb n 63 (omega arith))) (λ a. rw a)))
 
 -- .. which the tables of AMR and AMR-WB have
-pub amr_has : (class n : ℕ) → has_length (sound_bits FrameTable.Amr) class n ≡ ltb (highest_code amr_format class n) no_code
-unfolding sound_bits told same has_length length_bits code_below frame_in length_in amr_length
-amr_has class n = has_told amr_format (sound_bits FrameTable.Amr) tt (omega arith) class n tt
+pub sounds_has : (t : FrameTable) (class n : ℕ) → 0 < sound_bits t → has_length (sound_bits t) class n ≡ ltb (table_code t class n) no_code
+unfolding sound_bits told same has_length length_bits code_below frame_in length_in amr_length amr_wb_length
+sounds_has FrameTable.G719 class n h = absurd (omega (arith, h))
+sounds_has FrameTable.GsmHr class n h = absurd (omega (arith, h))
+sounds_has FrameTable.Amr class n h = has_told amr_format (sound_bits FrameTable.Amr) tt (omega arith) class n tt
+sounds_has FrameTable.AmrWb class n h = has_told amr_wb_format (sound_bits FrameTable.AmrWb) tt (omega arith) class n tt
+sounds_has FrameTable.Empty class n h = absurd (omega (arith, h))
 
-pub amr_wb_has : (class n : ℕ) → has_length (sound_bits FrameTable.AmrWb) class n ≡ ltb (highest_code amr_wb_format class n) no_code
-unfolding sound_bits told same has_length length_bits code_below frame_in length_in amr_wb_length
-amr_wb_has class n = has_told amr_wb_format (sound_bits FrameTable.AmrWb) tt (omega arith) class n tt
+pub amr_sounds : 0 < sound_bits FrameTable.Amr
+unfolding sound_bits length_in amr_length
+amr_sounds = omega arith
+
+pub amr_wb_sounds : 0 < sound_bits FrameTable.AmrWb
+unfolding sound_bits length_in amr_wb_length
+amr_wb_sounds = omega arith
 
 pub no_data_codes : NoDataCodes
 unfolding code_for format_of code_below frame_in length_in amr_length amr_wb_length

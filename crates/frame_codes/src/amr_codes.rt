@@ -1,9 +1,9 @@
 // The codes of AMR and AMR-WB (RFC 4867), found by length.
 ghost use Rattle.std.specs.Prelude.{◌≡◌, get_or};
 ghost use Rattle.formats.specs.Formats.{amr_format, amr_wb_format};
-ghost use Rattle.frame_codes.specs.Codes.{no_type, code_or_none, graded_code, highest_code, length_bits, has_length};
+ghost use Rattle.frame_codes.specs.Codes.{no_type, code_or_none, graded_code, highest_code, length_bits, has_length, sound_bits};
 
-use formats::facts::{AMR_SID, AMR_WB_SID};
+use formats::facts::{AMR_SID, AMR_WB_SID, FrameTable};
 use formats::frames;
 use formats::frames::DAMAGED;
 
@@ -69,9 +69,9 @@ pub(crate) fn amr_wb_code(class: u32, n: u32) -> Option<u32>
 // The lengths of a class as the bits of a word, so that a frame is asked for without a table.
 
 // .. of sound.
-pub(crate) const AMR_SOUND: u64 = 0x841ab000;
+const AMR_SOUND: u64 = 0x841ab000;
 
-pub(crate) const AMR_WB_SOUND: u64 = 0x1404411100820000;
+const AMR_WB_SOUND: u64 = 0x1404411100820000;
 
 // .. of no data and of a SID.
 const NO_DATA_BITS: u64 = 1;
@@ -95,4 +95,17 @@ pub(crate) fn has_length(sounds: u64, class: u32, n: u32) -> bool
     ensures { result ≡ has_length sounds class n }
 {
     n < 64 && (length_bits(sounds, class) >> n) % 2 == 1
+}
+
+// The word of sound of a table, 0 where it is not that of AMR or AMR-WB.
+pub(crate) fn sounds_of(table: FrameTable) -> u64
+    ensures { result ≡ sound_bits table }
+{
+    match table {
+        FrameTable::Amr => AMR_SOUND,
+        FrameTable::AmrWb => AMR_WB_SOUND,
+        FrameTable::G719 => 0,
+        FrameTable::GsmHr => 0,
+        FrameTable::Empty => 0,
+    }
 }

@@ -6,7 +6,6 @@ ghost use Rattle.frame_codes.specs.Codes.{no_code, code_or_none, highest_code, t
 ghost use Rattle.frame_codes.specs.Allowed.{allowed_in, allowed};
 
 use crate::amr_codes;
-use crate::amr_codes::{AMR_SOUND, AMR_WB_SOUND};
 use formats::facts;
 use formats::facts::FrameTable;
 use formats::frames::{GSM_HR_FRAME, NO_DATA};
@@ -114,14 +113,17 @@ fn has_gsm_hr(class: u32, n: u32) -> bool
 pub fn table_has(table: FrameTable, class: u32, n: u32) -> bool
     ensures { result ≡ ltb (table_code table class n) no_code }
 {
-    let sounds = match table {
-        FrameTable::G719 => return has_g719(class, n),
-        FrameTable::GsmHr => return has_gsm_hr(class, n),
-        FrameTable::Amr => AMR_SOUND,
-        FrameTable::AmrWb => AMR_WB_SOUND,
-        FrameTable::Empty => return false,
-    };
-    amr_codes::has_length(sounds, class, n)
+    let sounds = amr_codes::sounds_of(table);
+    if 0 < sounds {
+        return amr_codes::has_length(sounds, class, n);
+    }
+    match table {
+        FrameTable::G719 => has_g719(class, n),
+        FrameTable::GsmHr => has_gsm_hr(class, n),
+        FrameTable::Amr => false,
+        FrameTable::AmrWb => false,
+        FrameTable::Empty => false,
+    }
 }
 
 // Whether a class and a length have a code.
