@@ -1,18 +1,18 @@
 -- Laws of the codes of AMR and AMR-WB, as the code finds them: by one test at every class and length.
 use mathlib.Core.Path.{◌≡◌, refl, sym, ap, ◌∙◌}
 use mathlib.Core.Bool.{Bool, true, false, cond}
-use Prim.Native.Nat.{ℕ, suc, ◌/◌, ◌%◌, ◌^◌, ◌≤◌, ◌<◌}
+use Prim.Native.Nat.{ℕ, suc, ◌/◌, ◌%◌, ◌^◌, ◌≤◌, ◌<◌, zero}
 use native.Mathlib.Omega.{arith}
 use lib.Dec.{T, eqb, ltb, leb, eqb→eq}
 use mathlib.Core.List.{List}
 use lib.ListN.{get_or, get_or-eq_default}
-use borrow.Author.Tests.{ne_eqb, lt-leb, le-ltb, ltb-true, ltb-false, leb-true, leb-false}
+use borrow.Author.Tests.{ne_eqb, lt-leb, le-ltb, ltb-true, ltb-false, leb-true, leb-false, le-leb}
 use Rattle.rtp.proofs.TestLaws.{by-test}
 use Rattle.formats.specs.declared.facts.Format.{Format}
 use Rattle.formats.specs.declared.facts.FrameTable.{FrameTable}
 use Rattle.formats.specs.Formats.{no_code, amr_format, amr_wb_format, format_of}
 use Rattle.formats.specs.Frames.{no_data, no_data_type, sound, sid, damaged_sound, damaged_sid, max_class, amr_length, amr_wb_length, length_in, frame_in}
-use Rattle.frame_codes.specs.Codes.{code_below, highest_code, code_for, NoDataCodes, amr_longest, amr_wb_longest, no_type, type_below, type_for, graded_code, length_bits, has_length, sound_bits, table_code}
+use Rattle.frame_codes.specs.Codes.{code_below, highest_code, code_for, NoDataCodes, amr_longest, amr_wb_longest, no_type, type_below, type_for, graded_code, length_bits, has_length, sound_bits, table_code, sid_bits}
 use Rattle.formats.proofs.TableRule.{all_below, at, entries, entry, entries_length}
 use Rattle.formats.proofs.FormatLaws.{keeps}
 use Rattle.frame_codes.proofs.CodeLaws.{none}
@@ -136,6 +136,28 @@ amr_sounds = omega arith
 pub amr_wb_sounds : 0 < sound_bits FrameTable.AmrWb
 unfolding sound_bits length_in amr_wb_length
 amr_wb_sounds = omega arith
+
+-- The words by class, as the code asks for them: a damaged frame's class is that of a good one and four
+unfoldable pub by_four : ℕ → ℕ → ℕ
+by_four sounds class =
+    cond (eqb class no_data) 1
+    (cond (leb 8 class) 0
+    (cond (eqb (class % 4) sound) sounds
+    (cond (eqb (class % 4) sid) sid_bits 0)))
+
+pub by_four_lem : (sounds class : ℕ) → by_four sounds class ≡ length_bits sounds class
+unfolding by_four length_bits
+by_four_lem sounds zero = refl
+by_four_lem sounds (suc zero) = refl
+by_four_lem sounds (suc (suc zero)) = refl
+by_four_lem sounds (suc (suc (suc zero))) = refl
+by_four_lem sounds (suc (suc (suc (suc zero)))) = refl
+by_four_lem sounds (suc (suc (suc (suc (suc zero))))) = refl
+by_four_lem sounds (suc (suc (suc (suc (suc (suc zero)))))) = refl
+by_four_lem sounds (suc (suc (suc (suc (suc (suc (suc zero))))))) = refl
+by_four_lem sounds (suc (suc (suc (suc (suc (suc (suc (suc k)))))))) =
+    let c : ℕ = suc (suc (suc (suc (suc (suc (suc (suc k))))))) in
+    let e : by_four sounds c ≡ 0 = rw (ne_eqb c no_data (λ e. absurd (omega arith)), le-leb 8 c (omega arith)) in e ∙ sym (no_bits sounds c (omega arith))
 
 pub no_data_codes : NoDataCodes
 unfolding code_for format_of code_below frame_in length_in amr_length amr_wb_length

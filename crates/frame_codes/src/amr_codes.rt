@@ -78,16 +78,22 @@ const NO_DATA_BITS: u64 = 1;
 
 const SID_BITS: u64 = 32;
 
-#[tactic(auto, unfolding(crate::specs::Codes::length_bits))]
 fn length_bits(sounds: u64, class: u32) -> u64
     ensures { result ≡ length_bits sounds class }
 {
-    match class {
-        0 => NO_DATA_BITS,
-        1 | 5 => sounds,
-        2 | 6 => SID_BITS,
-        _ => 0,
+    if class == 0 {
+        return NO_DATA_BITS;
     }
+    if 8 <= class {
+        return 0;
+    }
+    if class % 4 == 1 {
+        return sounds;
+    }
+    if class % 4 == 2 {
+        return SID_BITS;
+    }
+    0
 }
 
 #[tactic(auto, unfolding(crate::specs::Codes::has_length))]
