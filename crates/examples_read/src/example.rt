@@ -5,7 +5,8 @@ use examples_text::values::ROOM;
 use read_packet::reading;
 use read_packet::reading::{Packet, Reading};
 use row_tags::tagging;
-use rtp::settings::{AMR, Settings};
+use rtp::payload_format::PayloadFormat;
+use rtp::settings::Settings;
 use rtp::sizes::{MAX_ROWS, ROW_AREA, ROW_WIDTH};
 
 fn least(a: usize, b: usize) -> usize
@@ -26,7 +27,7 @@ fn print_header(format: u8, packet: Packet) {
     print(b" sequence ", packet.sequence as u32);
     print(b" timestamp ", packet.timestamp);
     print(b" source ", packet.source);
-    if AMR <= format {
+    if let Ok(PayloadFormat::Amr | PayloadFormat::AmrWb) = PayloadFormat::try_from(format) {
         print(b" mode request ", packet.mode_request as u32);
     }
     io::write_all(1, b"\n");

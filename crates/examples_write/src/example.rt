@@ -2,7 +2,8 @@
 use read_packet::reading;
 use read_packet::reading::{Packet, Reading};
 use row_tags::tagging;
-use rtp::settings::{AMR, Settings};
+use rtp::payload_format::PayloadFormat;
+use rtp::settings::Settings;
 use rtp::sizes::{MAX_PACKET, MAX_ROWS, ROW_AREA};
 use write_packet::packets;
 use write_payload::writing;
@@ -125,7 +126,7 @@ fn print_head(format: u8, head: Packet) {
     print(b" sequence ", head.sequence as u32);
     print(b" timestamp ", head.timestamp);
     print(b" source ", head.source);
-    if AMR <= format {
+    if let Ok(PayloadFormat::Amr | PayloadFormat::AmrWb) = PayloadFormat::try_from(format) {
         print(b" mode request ", head.mode_request as u32);
     }
     io::write_all(1, b"\n");

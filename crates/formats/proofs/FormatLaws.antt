@@ -1,5 +1,5 @@
 -- Laws of the formats: each is proved once, at every row of `format_of`.
-use mathlib.Core.Path.{◌≡◌, refl, subst}
+use mathlib.Core.Path.{◌≡◌, refl, sym, subst}
 use Rattle.std.specs.Prelude.{None, Option, Some}
 use mathlib.Core.Bool.{Bool, true, false, cond}
 use Prim.Native.Nat.{ℕ, ◌+◌, ◌*◌, ◌/◌, ◌%◌, ◌≤◌, ◌<◌}
@@ -7,6 +7,8 @@ use native.Mathlib.Omega.{arith}
 use lib.Dec.{T, eqb, leb}
 use lib.ListN.{get_or-eq_default}
 use borrow.Author.Tests.{leb-true, le-ltb, ne_eqb}
+use Rattle.rtp.specs.declared.payload_format.PayloadFormat.{PayloadFormat}
+use Rattle.rtp.specs.PayloadFormats.{format_number}
 use Rattle.rtp.specs.Ranges.{g719, g719_interleaved, gsm_hr, amr, amr_wb}
 use Rattle.rtp.specs.Sizes.{max_frame}
 use Rattle.rtp.proofs.TestLaws.{by-test}
@@ -26,6 +28,18 @@ each P g h a w n format =
     (λ e2. by-test (eqb format gsm_hr) (λ e3. rw (e1, e2, e3) h)
     (λ e3. by-test (eqb format amr) (λ e4. rw (e1, e2, e3, e4) a)
     (λ e4. by-test (eqb format amr_wb) (λ e5. rw (e1, e2, e3, e4, e5) w) (λ e5. rw (e1, e2, e3, e4, e5) n)))))
+
+-- what no format's number is has the facts of none
+pub unknown_format : (n : ℕ) → ((format : PayloadFormat) → format_number format ≡ n → ⊥) → format_of n ≡ no_format
+unfolding format_of
+unknown_format n none =
+    rw (
+      ne_eqb n g719 (λ e. none PayloadFormat.G719 (sym e)),
+      ne_eqb n g719_interleaved (λ e. none PayloadFormat.G719Interleaved (sym e)),
+      ne_eqb n gsm_hr (λ e. none PayloadFormat.GsmHr (sym e)),
+      ne_eqb n amr (λ e. none PayloadFormat.Amr (sym e)),
+      ne_eqb n amr_wb (λ e. none PayloadFormat.AmrWb (sym e)),
+    )
 
 -- a frame-block's ticks: none has more than G.719's
 abbrev pub max_step : ℕ

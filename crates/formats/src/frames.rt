@@ -1,10 +1,11 @@
 // Frame tables: class and length of the frames of each format, and its step.
 ghost use Rattle.std.specs.Prelude.{◌≡◌, ◌<◌, ◌≤◌};
-ghost use Rattle.formats.specs.Frames.{step_of, damaged, good_class, g719_length, length_in, type_of, damage_of, frame_of, coded_numbers};
+ghost use Rattle.formats.specs.Frames.{step_of, damaged, good_class, length_in, type_of, damage_of, frame_of, coded_numbers};
 ghost use Rattle.formats.specs.Room.{InTable};
 
+use crate::amr::{AMR_LENGTHS, AMR_WB_LENGTHS};
+use crate::facts;
 use crate::facts::FrameTable;
-use crate::{amr, facts};
 
 // Frame classes: no data, sound, and a description of silence (SID).
 pub const NO_DATA: usize = 0;
@@ -39,26 +40,15 @@ pub struct Frame {
     pub length: usize,
 }
 
-fn g719_length(code: usize) -> usize
-    requires { code < 32 }
-    ensures { result ≡ g719_length code }
+#[tactic(auto, unfolding(crate::specs::Frames::length_in))]
+fn gsm_hr_length(kind: usize) -> usize
+    ensures { result ≡ length_in FrameTable.GsmHr kind }
 {
-    G719_LENGTHS[code] as usize
-}
-
-fn gsm_hr_length(code: usize) -> usize
-    ensures { result ≡ length_in FrameTable.GsmHr code }
-{
-    if code == 0 {
-        return GSM_HR_FRAME;
+    match kind {
+        0 | 2 => GSM_HR_FRAME,
+        7 => 0,
+        _ => RESERVED,
     }
-    if code == 2 {
-        return GSM_HR_FRAME;
-    }
-    if code == 7 {
-        return 0;
-    }
-    RESERVED
 }
 
 // The length of a frame type in a frame table.
@@ -67,10 +57,10 @@ fn length_in(table: FrameTable, kind: usize) -> usize
     ensures { result ≡ length_in table kind }
 {
     match table {
-        FrameTable::G719 => g719_length(kind),
+        FrameTable::G719 => usize::from(G719_LENGTHS[kind]),
         FrameTable::GsmHr => gsm_hr_length(kind),
-        FrameTable::Amr => amr::amr_length(kind),
-        FrameTable::AmrWb => amr::amr_wb_length(kind),
+        FrameTable::Amr => usize::from(AMR_LENGTHS[kind]),
+        FrameTable::AmrWb => usize::from(AMR_WB_LENGTHS[kind]),
         FrameTable::Empty => RESERVED,
     }
 }
@@ -79,26 +69,18 @@ fn length_in(table: FrameTable, kind: usize) -> usize
 fn type_of(graded: bool, code: usize) -> usize
     ensures { result ≡ type_of graded code }
 {
-    if graded {
-        return code / 2;
-    }
-    code
+    if graded { code / 2 } else { code }
 }
 
 // What a damaged frame's class has more: in a graded format a frame is damaged where the quality bit is 0.
 fn damage_of(graded: bool, code: usize) -> usize
     ensures { (result ≡ damage_of graded code) × (result ≤ damaged) }
 {
-    if graded {
-        if code % 2 == 0 {
-            return DAMAGED;
-        }
-    }
-    0
+    if graded && code % 2 == 0 { DAMAGED } else { 0 }
 }
 
 // The class of a good frame of a type that has bytes, where `sid` is the type that is a SID.
-fn good_class(sid: usize, kind: usize) -> usize
+pub fn good_class(sid: usize, kind: usize) -> usize
     ensures { (result ≡ good_class sid kind) × (result ≤ 2) }
 {
     if kind == sid { SID } else { SOUND }

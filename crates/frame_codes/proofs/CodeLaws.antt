@@ -6,7 +6,7 @@ use mathlib.Core.Bool.{Bool, true, false, cond}
 use Prim.Native.Nat.{ℕ, zero, suc, ◌+◌, ◌/◌, ◌%◌, ◌≤◌, ◌<◌}
 use native.Mathlib.Omega.{arith}
 use lib.Dec.{T, ltb, leb, eqb, eqb→eq}
-use borrow.Author.Tests.{lt-ltb, le-ltb, lt-leb, eq-eqb, ltb-true, ltb-false, leb-true, leb-false, eqb-true, eqb-false}
+use borrow.Author.Tests.{lt-ltb, le-ltb, lt-leb, eq-eqb, ne_eqb, ltb-true, ltb-false, leb-true, leb-false, eqb-true, eqb-false}
 use Rattle.rtp.specs.Sizes.{max_frame}
 use Rattle.rtp.proofs.TestLaws.{by-test, not-both, both}
 use Rattle.formats.specs.declared.facts.Format.{Format}
@@ -93,7 +93,7 @@ module _ (format class n : ℕ) where
 
 -- the lengths of G.719's sound, and their codes
 unfoldable pub is_length : ℕ → Bool
-is_length n = cond (ltb n 80) false (cond (leb n 220) (eqb (n % 10) 0) (cond (leb n max_frame) (eqb (n % 20) 0) false))
+is_length n = cond (leb n 220) (cond (leb 80 n) (eqb (n % 10) 0) false) (cond (leb n max_frame) (eqb (n % 20) 0) false)
 
 unfoldable pub sound_code : ℕ → ℕ
 sound_code n = cond (leb n 220) (n / 10) (n / 20 + 11)
@@ -109,6 +109,13 @@ pub g719_no_data : ◌≡◌ {A = ℕ} 0 (highest_code (g719_format false) 0 0)
 unfolding code_below frame_in length_in g719_length
 g719_no_data = refl
 
+pub g719_not : (class n : ℕ) → (class ≡ no_data → n ≡ 0 → ⊥) → (class ≡ sound → ⊥) → no_code ≡ highest_code (g719_format false) class n
+g719_not class n a b =
+    g719_none class n
+    (by-test (eqb class no_data)
+    (λ e. rw (e, ne_eqb n 0 (λ z. a (eqb-true class no_data e) z)))
+    (λ e. rw (e, ne_eqb class sound b)))
+
 -- by one test at every length
 right : ℕ → Bool
 right n = eqb (cond (is_length n) (sound_code n) no_code) (highest_code (g719_format false) sound n)
@@ -120,9 +127,7 @@ right_all = tt
 no_longer : (n : ℕ) → max_frame < n → is_length n ≡ false
 unfolding is_length
 no_longer n h =
-    let a : 80 ≤ n = omega arith in
-    let b : 220 < n = omega arith in
-    rw (le-ltb n 80 a, lt-leb n 220 b, lt-leb n max_frame h)
+    let b : 220 < n = omega arith in rw (lt-leb n 220 b, lt-leb n max_frame h)
 
 pub sound_code_lem : (n : ℕ) → cond (is_length n) (sound_code n) no_code ≡ highest_code (g719_format false) sound n
 unfolding right
@@ -171,6 +176,20 @@ gsm_rule class n = cond (eqb class no_data) (eqb n 0) (cond (eqb n gsm_length) (
 pub gsm_none : (class n : ℕ) → gsm_rule class n ≡ false → no_code ≡ highest_code gsm_format class n
 unfolding frame_in length_in
 gsm_none class n h = none gsm_format class n gsm_rule tt (omega arith) h
+
+pub gsm_not : (class n : ℕ) → (class ≡ no_data → n ≡ 0 → ⊥) → (class ≡ sound → n ≡ gsm_length → ⊥) → (class ≡ sid → n ≡ gsm_length → ⊥) → no_code ≡ highest_code gsm_format class n
+gsm_not class n a b d =
+    gsm_none class n
+    (by-test (eqb class no_data)
+    (λ e. rw (e, ne_eqb n 0 (λ z. a (eqb-true class no_data e) z)))
+    (λ e. by-test (eqb n gsm_length)
+    (λ f. let x = eqb-false class no_data e in
+    let y = eqb-true n gsm_length f in
+    let p : class ≡ sound → ⊥ = λ z. b z y in
+    let q : class ≡ sid → ⊥ = λ z. d z y in
+    let h : sid < class = omega (arith, x, p, q) in
+    rw (e, f, lt-leb class sid h))
+    (λ f. rw (e, f))))
 
 pub gsm_codes : (◌≡◌ {A = ℕ} 7 (highest_code gsm_format 0 0)) × (◌≡◌ {A = ℕ} 0 (highest_code gsm_format 1 gsm_length)) × (◌≡◌ {A = ℕ} 2 (highest_code gsm_format 2 gsm_length))
 unfolding code_below frame_in length_in

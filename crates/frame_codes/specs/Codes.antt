@@ -8,6 +8,11 @@ use Rattle.formats.specs.Formats.{g719_format, gsm_format, amr_format, amr_wb_fo
 use Rattle.formats.specs.Frames.{no_data, no_data_type, sound, sid, damaged, damaged_sound, damaged_sid, length_in, good_class, frame_in}
 pub use Rattle.formats.specs.Formats.{no_code}
 
+-- a code that was found, or no code
+abbrev pub code_or_none : Option ℕ → ℕ
+code_or_none None = no_code
+code_or_none (Some code) = code
+
 -- a code stands for a frame of this class and length
 abbrev pub is_frame : ℕ → ℕ → Option Frame → Bool
 is_frame class n None = false

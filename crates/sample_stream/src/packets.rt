@@ -1,7 +1,7 @@
 // The packets of the stream, as they were sent.
 use crate::frames;
 use read_payload::reading::NO_REQUEST;
-use rtp::settings;
+use rtp::payload_format::PayloadFormat;
 use rtp::settings::Settings;
 use write_packet::packets;
 use write_sizes::measuring::Written;
@@ -13,7 +13,7 @@ const SOURCE: u32 = 2712847316;
 
 fn agreed() -> Settings {
     Settings {
-        format: settings::G719_INTERLEAVED,
+        format: u8::from(PayloadFormat::G719Interleaved),
         channels: 1,
         payload_type: 97,
         redundancy_type: 121,
