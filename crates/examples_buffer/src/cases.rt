@@ -15,49 +15,34 @@ pub(crate) struct Case {
 }
 
 pub(crate) fn unsettled() -> Case {
-    let fresh = calls::new(values::no_settings());
-    let buffer = fresh.buffer;
     Case {
-        buffer,
+        buffer: calls::new(values::no_settings()).buffer,
         base: 0,
         size: 0,
     }
 }
 
 fn with_buffer(case: Case, buffer: Buffer) -> Case {
-    Case {
-        buffer,
-        base: case.base,
-        size: case.size,
-    }
+    Case { buffer, ..case }
 }
 
 fn agree(line: &[u8; LINE]) -> Buffer {
-    let fresh = calls::new(values::settings(line));
-    fresh.buffer
+    calls::new(values::settings(line)).buffer
 }
 
 fn with_base(case: Case, base: u32) -> Case {
-    let mut next = case;
-    next.base = base;
-    next
+    Case { base, ..case }
 }
 
 fn with_size(case: Case, size: usize) -> Case {
-    let mut next = case;
-    next.size = size;
-    next
+    Case { size, ..case }
 }
 
 // The numbered packets of the line, each offered.
 fn offer_all(buffer: Buffer, store: &mut [u8; STORE_SIZE], base: u32, line: &[u8; LINE]) -> Buffer {
-    let n = script::count(line);
     let mut reached = buffer;
-    let mut k = 0;
-    while k < n {
-        k += 1;
-        let next = example::offer_number(reached, store, base, values::small(line, k));
-        reached = next;
+    for k in 1..=script::count(line) {
+        reached = example::offer_number(reached, store, base, values::small(line, k));
     }
     reached
 }
@@ -65,12 +50,9 @@ fn offer_all(buffer: Buffer, store: &mut [u8; STORE_SIZE], base: u32, line: &[u8
 // So many draws, in one line.
 fn draw_all(buffer: Buffer, store: &[u8; STORE_SIZE], base: u32, n: u32) -> Buffer {
     let mut reached = buffer;
-    let mut left = n;
     io::write_all(1, b"draw");
-    while 0 < left {
-        let next = example::draw_number(reached, store, base);
-        reached = next;
-        left -= 1;
+    for _ in 0..n {
+        reached = example::draw_number(reached, store, base);
     }
     io::write_all(1, b"\n");
     reached

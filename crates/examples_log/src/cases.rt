@@ -29,17 +29,17 @@ pub(crate) fn no_rows() -> [u32; NUMBERS] {
 fn agree(case: Case, line: &[u8; LINE]) -> Case {
     Case {
         settings: values::settings(line),
-        bytes: case.bytes,
-        words: case.words,
+        ..case
     }
 }
 
 // With so many bytes and words.
 fn given(case: Case, bytes: usize, words: usize) -> Case {
-    let mut next = case;
-    next.bytes = bytes;
-    next.words = words;
-    next
+    Case {
+        bytes,
+        words,
+        ..case
+    }
 }
 
 fn step(case: Case, line: &[u8; LINE], bytes: &[u8]) {

@@ -22,14 +22,15 @@ pub(crate) fn unsettled() -> Case {
 fn agree(case: Case, line: &[u8; LINE]) -> Case {
     Case {
         settings: values::settings(line),
-        words: case.words,
+        ..case
     }
 }
 
 fn give_area(case: Case, line: &[u8; LINE]) -> Case {
-    let mut next = case;
-    next.words = values::number(line, 1);
-    next
+    Case {
+        words: values::number(line, 1),
+        ..case
+    }
 }
 
 // A line that sets nothing: a label, bytes, or a packet to be read.

@@ -2,7 +2,6 @@
 use report::calls;
 use report::calls::{PacketAnswer, ReportAnswer, ReportBlock};
 use report::record::Reception;
-use report_loss::signed;
 
 fn print(text: &[u8], value: u32) {
     io::write_all(1, text);
@@ -14,7 +13,7 @@ fn print_signed(text: &[u8], value: i32) {
     if value < 0 {
         io::write_all(1, b"-");
     }
-    io::print_decimal(1, signed::size(value) as u64);
+    io::print_decimal(1, value.unsigned_abs() as u64);
 }
 
 // A fresh record, under a label.
@@ -64,13 +63,9 @@ pub(crate) fn three(source: Reception, a: u16, b: u16, c: u16) -> Reception {
 fn hear_row(source: Reception, from: u16, step: u16, count: u32) -> Reception {
     let mut reached = source;
     let mut sequence = from;
-    let mut left = count;
-    while left > 0 {
-        let heard = calls::packet(reached, sequence, 0, 0);
-        let next = heard.reception;
-        reached = next;
-        sequence = std::num::wrapping_add_u16(sequence, step);
-        left -= 1;
+    for _ in 0..count {
+        reached = calls::packet(reached, sequence, 0, 0).reception;
+        sequence = sequence.wrapping_add(step);
     }
     reached
 }

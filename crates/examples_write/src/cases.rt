@@ -28,26 +28,20 @@ pub(crate) fn unsettled() -> Case {
 fn agree(case: Case, line: &[u8; LINE]) -> Case {
     Case {
         settings: values::settings(line),
-        mode_request: case.mode_request,
-        words: case.words,
+        ..case
     }
 }
 
 fn request(case: Case, line: &[u8; LINE]) -> Case {
-    let mut next = case;
-    next.mode_request = values::small(line, 1);
-    next
+    Case {
+        mode_request: values::small(line, 1),
+        ..case
+    }
 }
 
 // With so many words of rows.
 fn with_words(case: Case, words: usize) -> Case {
-    let mut next = case;
-    next.words = words;
-    next
-}
-
-fn no_numbers() -> [u32; NUMBERS] {
-    [0; NUMBERS]
+    Case { words, ..case }
 }
 
 pub(crate) fn no_rows() -> [u32; LIST] {
@@ -56,7 +50,7 @@ pub(crate) fn no_rows() -> [u32; LIST] {
 
 // The numbers of all words after the first.
 fn numbers_of(line: &[u8; LINE]) -> [u32; NUMBERS] {
-    let mut numbers = no_numbers();
+    let mut numbers = [0; NUMBERS];
     values::put_numbers(line, &mut numbers, 0);
     numbers
 }
@@ -64,46 +58,35 @@ fn numbers_of(line: &[u8; LINE]) -> [u32; NUMBERS] {
 // The same laid after the rows' words; answers how many there are then.
 fn put_row(line: &[u8; LINE], rows: &mut [u32; LIST], words: usize) -> usize {
     let numbers = numbers_of(line);
-    let n = script::count(line);
     let mut to = words;
-    let mut k = 0;
-    while k < n {
+    for k in 0..script::count(line) {
         if LIST <= to {
             script::malformed(line);
             break;
         }
-        if k < NUMBERS {
-            rows[to] = numbers[k];
+        if let Some(number) = numbers.get(k) {
+            rows[to] = *number;
         }
         to += 1;
-        k += 1;
     }
     to
 }
 
 // The last row once more, so many ticks later; answers how many words there are then.
 fn repeat_row(rows: &mut [u32; LIST], words: usize, ticks: u32) -> usize {
-    if words < ROW_WIDTH {
+    if words < ROW_WIDTH || LIST - ROW_WIDTH < words {
         return words;
     }
-    if LIST - ROW_WIDTH < words {
-        return words;
-    }
-    rows[words] = std::num::wrapping_add_u32(rows[words - 4], ticks);
-    rows[words + 1] = rows[words - 3];
-    rows[words + 2] = rows[words - 2];
-    rows[words + 3] = rows[words - 1];
+    rows.copy_within(words - ROW_WIDTH..words, words);
+    rows[words] = rows[words].wrapping_add(ticks);
     words + ROW_WIDTH
 }
 
 // The last row so many times more, each so many ticks after the one before.
 fn repeat(rows: &mut [u32; LIST], words: usize, times: u32, ticks: u32) -> usize {
     let mut reached = words;
-    let mut left = times;
-    while 0 < left {
-        let next = repeat_row(rows, reached, ticks);
-        reached = next;
-        left -= 1;
+    for _ in 0..times {
+        reached = repeat_row(rows, reached, ticks);
     }
     reached
 }
