@@ -10,10 +10,6 @@ use row_tags::tagging::PRIMARY;
 use rtp::refusal::Fault;
 use rtp::sizes::ROW_AREA;
 
-pub(crate) fn zero_store() -> [u8; STORE_SIZE] {
-    [0; STORE_SIZE]
-}
-
 // The packet of frame-blocks k, k + 5, k + 10 and k + 15, each of 80 bytes that are its number. The time of frame-block 0 is `base`.
 fn packet_of(base: u32, k: u8) -> [u8; 336] {
     let mut bytes = [k; 336];
@@ -47,7 +43,7 @@ fn print_fault(fault: Fault) {
 }
 
 // A packet offered, and how it was judged.
-fn offer(buffer: Buffer, store: &mut [u8; STORE_SIZE], packet: &[u8]) -> Buffer {
+pub(crate) fn offer(buffer: Buffer, store: &mut [u8; STORE_SIZE], packet: &[u8]) -> Buffer {
     let mut rows = [0; ROW_AREA];
     let offered = calls::offer(buffer, packet, &mut rows, store);
     let answer = offered.answer;
@@ -56,19 +52,6 @@ fn offer(buffer: Buffer, store: &mut [u8; STORE_SIZE], packet: &[u8]) -> Buffer 
         OfferAnswer::Judged(tally) => print_tally(tally),
     }
     offered.buffer
-}
-
-// The packet of the first `size` bytes.
-pub(crate) fn offer_part(
-    buffer: Buffer,
-    store: &mut [u8; STORE_SIZE],
-    bytes: &[u8],
-    size: usize,
-) -> Buffer {
-    match bytes.get(..size) {
-        Some(packet) => offer(buffer, store, packet),
-        None => buffer,
-    }
 }
 
 pub(crate) fn offer_number(

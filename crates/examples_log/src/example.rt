@@ -1,6 +1,5 @@
 // Logs read and written, and printed.
 use log_lines::printing;
-use log_walk::opening::Cursor;
 use log_writer::field_bytes::LogWritten;
 use log_writer::writing;
 use rtp::refusal::Refusal;
@@ -13,13 +12,6 @@ pub(crate) const AREA: usize = 1024;
 pub(crate) fn read(bytes: &[u8], n: usize) {
     if let Some(log) = bytes.get(..n) {
         printing::print_log(log);
-    }
-}
-
-// .. from a record on.
-pub(crate) fn read_on(cursor: Cursor, bytes: &[u8], n: usize) {
-    if let Some(log) = bytes.get(..n) {
-        printing::print_from(cursor, log);
     }
 }
 
@@ -45,18 +37,9 @@ fn write_into(
     }
 }
 
-// The log of the first k words of rows, whose frames lie in the first n bytes.
-pub(crate) fn write(
-    settings: Settings,
-    rows: &[u32],
-    k: usize,
-    bytes: &[u8],
-    n: usize,
-    room: usize,
-) {
+// The same, and what it came to shown.
+pub(crate) fn write(settings: Settings, rows: &[u32], bytes: &[u8], room: usize) {
     let mut out = [0; AREA];
-    if let (Some(rows), Some(bytes)) = (rows.get(..k), bytes.get(..n)) {
-        let written = write_into(settings, rows, bytes, &mut out, room);
-        show(written, &out);
-    }
+    let written = write_into(settings, rows, bytes, &mut out, room);
+    show(written, &out);
 }

@@ -5,13 +5,12 @@
 mod cases;
 mod example;
 
+use cases::Case;
 use examples_text::script;
 
 fn main() {
-    let mut bytes = io::buffer();
-    let mut rows = cases::no_rows();
-    let mut case = cases::unsettled();
+    let mut case = Case::new();
     for line in script::input() {
-        case = cases::follow(case, &line, &mut bytes, &mut rows);
+        case.follow(&line);
     }
 }

@@ -6,12 +6,12 @@
 mod cases;
 mod example;
 
+use cases::Case;
 use examples_text::script;
 
 fn main() {
-    let mut bytes = io::buffer();
-    let mut case = cases::unsettled();
+    let mut case = Case::new();
     for line in script::input() {
-        case = cases::follow(case, &line, &mut bytes);
+        case.follow(&line);
     }
 }

@@ -1,12 +1,8 @@
 // A source, its packets and reports, printed.
+use examples_text::printing::print;
 use report::calls;
 use report::calls::{PacketAnswer, ReportAnswer, ReportBlock};
 use report::record::Reception;
-
-fn print(text: &[u8], value: u32) {
-    io::write_all(1, text);
-    io::print_decimal(1, value as u64);
-}
 
 fn print_signed(text: &[u8], value: i32) {
     io::write_all(1, text);
@@ -54,10 +50,13 @@ pub(crate) fn number(source: Reception, sequence: u16) -> Reception {
     hear(source, sequence, 0, 0)
 }
 
-pub(crate) fn three(source: Reception, a: u16, b: u16, c: u16) -> Reception {
-    let first = number(source, a);
-    let second = number(first, b);
-    number(second, c)
+// One such packet after the other.
+pub(crate) fn numbers(source: Reception, sequences: &[u16]) -> Reception {
+    let mut reached = source;
+    for sequence in sequences {
+        reached = number(reached, *sequence);
+    }
+    reached
 }
 
 fn hear_row(source: Reception, from: u16, step: u16, count: u32) -> Reception {

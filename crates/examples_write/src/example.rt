@@ -44,14 +44,12 @@ fn show(written: Written, bytes: &[u8]) -> usize {
     }
 }
 
-// The first `n` words of the rows written as a payload.
-pub(crate) fn payload(settings: Settings, mode_request: u8, rows: &[u32], n: usize) {
+// The rows written as a payload.
+pub(crate) fn payload(settings: Settings, mode_request: u8, rows: &[u32]) {
     let bytes = sound();
     let mut out = [0; MAX_PACKET];
-    if let Some(rows) = rows.get(..n) {
-        let written = writing::write_payload(settings, mode_request, rows, &bytes, &mut out);
-        show(written, &out);
-    }
+    let written = writing::write_payload(settings, mode_request, rows, &bytes, &mut out);
+    show(written, &out);
 }
 
 fn print_first(start: u32, packet: &[u8]) {
@@ -110,7 +108,7 @@ fn read_back(settings: Settings, packet: &[u8]) {
 }
 
 // The same as a packet with marker 1, sequence 65244 and source 2712847316, read back.
-fn packet(settings: Settings, mode_request: u8, counts: &[u32], rows: &[u32]) {
+pub(crate) fn packet(settings: Settings, mode_request: u8, counts: &[u32], rows: &[u32]) {
     let bytes = sound();
     let mut out = [0; MAX_PACKET];
     let written = packets::write_packet(
@@ -127,19 +125,5 @@ fn packet(settings: Settings, mode_request: u8, counts: &[u32], rows: &[u32]) {
     let n = show(written, &out);
     if 0 < n && n <= out.len() {
         read_back(settings, &out[..n]);
-    }
-}
-
-// The first `n` words of the rows, by the first `k` counts.
-pub(crate) fn packet_of(
-    settings: Settings,
-    mode_request: u8,
-    counts: &[u32],
-    k: usize,
-    rows: &[u32],
-    n: usize,
-) {
-    if let (Some(counts), Some(rows)) = (counts.get(..k), rows.get(..n)) {
-        packet(settings, mode_request, counts, rows);
     }
 }
