@@ -106,14 +106,6 @@ starts_end word line i h =
 
 -- ---- the bytes up to the end
 
-text_cons : (c : ℕ) (cs : List ℕ) → text (c ∷ cs) ≡ cond (leb c 10) [] (c ∷ text cs)
-unfolding text
-text_cons c cs = refl
-
-text_none : text [] ≡ []
-unfolding text
-text_none = refl
-
 text_step : (low : Bool) (n c : ℕ) (cs t : List ℕ) → take n cs ≡ t → take (cond (not low) (1 + n) 0) (c ∷ cs) ≡ cond low [] (c ∷ t)
 text_step true n c cs t e = refl
 text_step false n c cs t e =
@@ -159,11 +151,6 @@ ended_none = refl
 abbrev pub Reading : ℕ → List ℕ → ℕ → Type 0
 Reading room l i =
     (length l ≡ room) × (i ≤ room) × ((t : List ℕ) → ended (take i l ++ t) ≡ take i l ++ ended t) × (drop i l ≡ replicate (room - i) 0)
-
-pub reading_none : (room : ℕ) → Reading room (replicate room 0) 0
-reading_none room =
-    let all : room ≡ room - 0 = omega arith in
-    (length-replicate room 0, omega arith, λ t. refl, ap (λ (k : ℕ). replicate k 0) all)
 
 zeros_after : (room : ℕ) (l : List ℕ) (i : ℕ) → i < room → drop i l ≡ replicate (room - i) 0 → drop (i + 1) l ≡ replicate (room - (i + 1)) 0
 zeros_after room l i h e =

@@ -102,13 +102,6 @@ numbers_end l i h = ap numbers_of (drop_of_length-le l {i = i} h) ∙ numbers_no
 
 -- ---- bytes in hexadecimal
 
-bytes_front : (l : List ℕ) → 0 < length l → 10 < get_or l 0 0 → bytes_of l ≡ pair_of (get_or l 0 0) (get_or l 1 0) (get_or l 2 0) ∷ bytes_of (drop 3 l)
-unfolding bytes_of
-bytes_front [] h e = absurd (omega (arith, h))
-bytes_front (a ∷ []) h e = rw (lt-leb _ _ e)
-bytes_front (a ∷ b ∷ []) h e = rw (lt-leb _ _ e)
-bytes_front (a ∷ b ∷ c ∷ cs) h e = rw (lt-leb _ _ e)
-
 bytes_low : (l : List ℕ) → get_or l 0 0 ≤ 10 → bytes_of l ≡ []
 unfolding bytes_of
 bytes_low [] e = refl
@@ -116,32 +109,10 @@ bytes_low (a ∷ []) e = rw (le-leb _ _ e)
 bytes_low (a ∷ b ∷ []) e = rw (le-leb _ _ e)
 bytes_low (a ∷ b ∷ c ∷ cs) e = rw (le-leb _ _ e)
 
-next_at : (l : List ℕ) (i : ℕ) → i < length l → 10 < get_or l i 0 →
-    bytes_of (drop i l) ≡ pair_of (get_or l i 0) (get_or l (suc i) 0) (get_or l (suc (suc i)) 0) ∷ bytes_of (drop (suc (suc (suc i))) l)
-next_at [] i h e = absurd (omega (arith, h))
-next_at (x ∷ l) zero h e = bytes_front (x ∷ l) h e
-next_at (x ∷ l) (suc i) h e = next_at l i (omega (arith, h)) e
+pub bytes_none : (l : List ℕ) → length l ≡ 0 → bytes_of l ≡ []
+bytes_none l e = ap bytes_of (nil_from_length l e) ∙ bytes_low [] (omega arith)
 
-pub bytes_next : (l : List ℕ) (i : ℕ) → i < length l → 10 < get_or l i 0 →
-    bytes_of (drop i l) ≡ pair_of (get_or l i 0) (get_or l (i + 1) 0) (get_or l (i + 2) 0) ∷ bytes_of (drop (i + 3) l)
-bytes_next l i h e =
-    let one : suc i ≡ i + 1 = omega arith in
-    let two : suc (suc i) ≡ i + 2 = omega arith in
-    let three : suc (suc (suc i)) ≡ i + 3 = omega arith in
-    next_at l i h e
-    ∙ ap (λ (k : ℕ). pair_of (get_or l i 0) (get_or l k 0) (get_or l (suc (suc i)) 0) ∷ bytes_of (drop (suc (suc (suc i))) l)) one
-    ∙ ap (λ (k : ℕ). pair_of (get_or l i 0) (get_or l (i + 1) 0) (get_or l k 0) ∷ bytes_of (drop (suc (suc (suc i))) l)) two
-    ∙ ap (λ (k : ℕ). pair_of (get_or l i 0) (get_or l (i + 1) 0) (get_or l (i + 2) 0) ∷ bytes_of (drop k l)) three
-
-pub bytes_stop : (l : List ℕ) (i : ℕ) → get_or l i 0 ≤ 10 → bytes_of (drop i l) ≡ []
-bytes_stop l zero e = bytes_low l e
-bytes_stop [] (suc i) e = bytes_low [] e
-bytes_stop (x ∷ l) (suc i) e = bytes_stop l i e
-
-pub bytes_end : (l : List ℕ) (i : ℕ) → length l ≤ i → bytes_of (drop i l) ≡ []
-bytes_end l i h = ap bytes_of (drop_of_length-le l {i = i} h) ∙ bytes_low [] (omega arith)
-
--- the same of a piece of three, or of what is left
+-- a piece of three, or of what is left
 pub bytes_piece :
     (l piece rest : List ℕ) → l ≡ piece ++ rest → length piece ≡ min 3 (length l) → 10 < get_or piece 0 0 →
     bytes_of l ≡ pair_of (get_or piece 0 0) (get_or piece 1 0) (get_or piece 2 0) ∷ bytes_of rest

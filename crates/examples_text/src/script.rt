@@ -48,7 +48,7 @@ fn read() -> [u8; LINE]
 }
 
 // A line, none where the input had none.
-fn had(line: [u8; LINE]) -> Option<[u8; LINE]>
+fn given(line: [u8; LINE]) -> Option<[u8; LINE]>
     ensures { result ≡ cond (is_line line) (Some line) None }
 {
     (0 < byte(&line, 0)).then_some(line)
@@ -58,7 +58,7 @@ fn had(line: [u8; LINE]) -> Option<[u8; LINE]>
 pub fn next() -> Option<[u8; LINE]>
     ensures { IfSome result (λ line. (line ≡ ended line) × (is_line line ≡ true)) }
 {
-    had(read())
+    given(read())
 }
 
 // The lines of the input; no text has as many as are left at first.

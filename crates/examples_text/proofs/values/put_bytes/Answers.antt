@@ -2,12 +2,11 @@ use mathlib.Core.Path.{◌≡◌, sym, ap, ◌∙◌}
 use mathlib.Core.List.{◌∷◌}
 use Prim.Native.Nat.{ℕ}
 use native.Mathlib.Omega.{arith}
-use lib.ListN.{length, get_or}
+use lib.ListN.{get_or}
 use Rattle.std.specs.Slice.Iter.{chunks_rest}
-use Rattle.std.proofs.lemmas.List.{nil_from_length}
 use Rattle.examples_text.specs.Lines.{after_spaces}
 use Rattle.examples_text.specs.Values.{byte_room, bytes_of, pair_of}
-use Rattle.examples_text.proofs.ValueLaws.{value_or_zero, bytes_piece, bytes_piece_low, bytes_end, left_next, left_none, left_full}
+use Rattle.examples_text.proofs.ValueLaws.{value_or_zero, bytes_piece, bytes_piece_low, bytes_none, left_next, left_none, left_full}
 use Rattle.examples_text.proofs.values.put_bytes.Goals as goal
 
 pub returns-then-byte-le-NEWLINE : goal.returns-then-byte-le-NEWLINE
@@ -46,5 +45,4 @@ returns c =
     let l = c.loop-word in
     let a = c.args in
     let s = chunks_rest l.word-iterator in
-    let none = nil_from_length s c.in-None.ensures.steps.1.0 in
-    left_none byte_room a.area.now a.at (bytes_of (after_spaces a.k a.line.now)) l.area l.to (bytes_of s) l.invariant.1 (bytes_end s 0 (omega (arith, ap length none)))
+    left_none byte_room a.area.now a.at (bytes_of (after_spaces a.k a.line.now)) l.area l.to (bytes_of s) l.invariant.1 (bytes_none s c.in-None.ensures.steps.1.0)
