@@ -27,19 +27,19 @@ fn print_bytes(bytes: &[u8], n: usize) {
     io::write_all(1, b"\n");
 }
 
-// The bytes written, or the refusal.
-fn show(written: Written, bytes: &[u8]) -> usize {
+// The bytes written, or the refusal; answers those bytes.
+fn show(written: Written, bytes: &[u8]) -> Option<&[u8]> {
     match written {
         Written::Refused(why) => {
             print(b"refusal ", u32::from(why));
             io::write_all(1, b"\n");
-            0
+            None
         }
         Written::Bytes(n) => {
             io::print_decimal(1, n as u64);
             io::write_all(1, b" bytes ");
             print_bytes(bytes, n);
-            n
+            bytes.get(..n)
         }
     }
 }
@@ -122,8 +122,7 @@ pub(crate) fn packet(settings: Settings, mode_request: u8, counts: &[u32], rows:
         &bytes,
         &mut out,
     );
-    let n = show(written, &out);
-    if 0 < n && n <= out.len() {
-        read_back(settings, &out[..n]);
+    if let Some(packet) = show(written, &out) {
+        read_back(settings, packet);
     }
 }
