@@ -1,20 +1,15 @@
 // A source, its packets and reports, printed.
+use examples_text::printing::print;
 use report::calls;
 use report::calls::{PacketAnswer, ReportAnswer, ReportBlock};
 use report::record::Reception;
-use report_loss::signed;
-
-fn print(text: &[u8], value: u32) {
-    io::write_all(1, text);
-    io::print_decimal(1, value as u64);
-}
 
 fn print_signed(text: &[u8], value: i32) {
     io::write_all(1, text);
     if value < 0 {
         io::write_all(1, b"-");
     }
-    io::print_decimal(1, signed::size(value) as u64);
+    io::print_decimal(1, value.unsigned_abs() as u64);
 }
 
 // A fresh record, under a label.
@@ -55,22 +50,21 @@ pub(crate) fn number(source: Reception, sequence: u16) -> Reception {
     hear(source, sequence, 0, 0)
 }
 
-pub(crate) fn three(source: Reception, a: u16, b: u16, c: u16) -> Reception {
-    let first = number(source, a);
-    let second = number(first, b);
-    number(second, c)
+// One such packet after the other.
+pub(crate) fn numbers(source: Reception, sequences: &[u16]) -> Reception {
+    let mut reached = source;
+    for sequence in sequences {
+        reached = number(reached, *sequence);
+    }
+    reached
 }
 
 fn hear_row(source: Reception, from: u16, step: u16, count: u32) -> Reception {
     let mut reached = source;
     let mut sequence = from;
-    let mut left = count;
-    while left > 0 {
-        let heard = calls::packet(reached, sequence, 0, 0);
-        let next = heard.reception;
-        reached = next;
-        sequence = std::num::wrapping_add_u16(sequence, step);
-        left -= 1;
+    for _ in 0..count {
+        reached = calls::packet(reached, sequence, 0, 0).reception;
+        sequence = sequence.wrapping_add(step);
     }
     reached
 }
