@@ -9,7 +9,7 @@ ghost use Rattle.log_writer.specs.Writings.{row_fits, row_bytes, rows_bytes, log
 ghost use Rattle.log_writer.specs.Room.{rows_size, RowRoom, RowsRoom, LogRoom};
 
 use crate::field_bytes;
-use crate::field_bytes::{FRAME_START, LAST_SIZE, LogWritten, MAX_FRAMES};
+use crate::field_bytes::{FRAME_START, LAST_SIZE, MAX_FRAMES};
 use log_fields::fields;
 use log_fields::fields::FIRST_SIZE;
 use row_tags::tagging;
@@ -111,26 +111,26 @@ fn lay_log(asked: Settings, rows: &[u32], bytes: &[u8], inner: usize, out: &mut 
 }
 
 // The log of the rows, whose frames lie in `bytes`, over the front of the area; or a refusal and the area unchanged.
-pub fn write(asked: Settings, rows: &[u32], bytes: &[u8], out: &mut [u8]) -> LogWritten
+pub fn write(asked: Settings, rows: &[u32], bytes: &[u8], out: &mut [u8]) -> Result<usize, Refusal>
     ensures { (written_numbers result ≡
         put_numbers (writing current asked rows.now bytes.now (length out.old)))
         × (out.new ≡ over
         (put_bytes (writing current asked rows.now bytes.now (length out.old))) out.old) }
 {
     if !settings::in_range(asked) {
-        return LogWritten::Refused(Refusal::SettingsOutOfRange);
+        return Err(Refusal::SettingsOutOfRange);
     }
     if lists::any_outside(rows, bytes.len()) {
-        return LogWritten::Refused(Refusal::RowOutsideBytes);
+        return Err(Refusal::RowOutsideBytes);
     }
     if !can_log(asked, rows) {
-        return LogWritten::Refused(Refusal::NotAllowed);
+        return Err(Refusal::NotAllowed);
     }
     let inner = rows_size(rows);
     let size = FIRST_SIZE + inner + LAST_SIZE;
     if out.len() < size {
-        return LogWritten::Refused(Refusal::AreaTooShort);
+        return Err(Refusal::AreaTooShort);
     }
     lay_log(asked, rows, bytes, inner, out);
-    LogWritten::Bytes(size)
+    Ok(size)
 }
