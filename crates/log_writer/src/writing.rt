@@ -33,13 +33,10 @@ fn row_fits(asked: Settings, row: RowWords) -> bool
 fn all_fit(asked: Settings, rows: &[u32]) -> bool
     ensures { result ≡ all_fit asked (rows_in rows.now) }
 {
-    let mut at = 0;
-    while ROW_WIDTH <= rows.len() - at {
-        let row = lists::first_row(&rows[at..]);
-        if !row_fits(asked, row) {
+    for words in rows.chunks_exact(ROW_WIDTH) {
+        if !row_fits(asked, lists::first_row(words)) {
             return false;
         }
-        at += ROW_WIDTH;
     }
     true
 }
@@ -62,11 +59,9 @@ fn rows_size(rows: &[u32]) -> usize
     requires { rows_size (rows_in rows.now) < 2 ^ 63 }
     ensures { result ≡ rows_size (rows_in rows.now) }
 {
-    let mut at = 0;
     let mut size = 0;
-    while ROW_WIDTH <= rows.len() - at {
-        size += FRAME_START + rows[at + 3] as usize;
-        at += ROW_WIDTH;
+    for words in rows.chunks_exact(ROW_WIDTH) {
+        size += FRAME_START + words[3] as usize;
     }
     size
 }
@@ -88,13 +83,11 @@ fn lay_rows(rows: &[u32], bytes: &[u8], out: &mut [u8])
     requires { RowsRoom (rows_in rows.now) (length bytes.now) (length out.old) }
     ensures { out.new ≡ over (rows_bytes bytes.now (rows_in rows.now)) out.old }
 {
-    let mut at = 0;
     let mut place = 0;
-    while ROW_WIDTH <= rows.len() - at {
-        let row = lists::first_row(&rows[at..]);
+    for words in rows.chunks_exact(ROW_WIDTH) {
+        let row = lists::first_row(words);
         lay_row(row, bytes, &mut out[place..]);
         place += FRAME_START + row.length as usize;
-        at += ROW_WIDTH;
     }
 }
 
