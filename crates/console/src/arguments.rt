@@ -89,6 +89,11 @@ impl<'a> Program<'a> {
         self.say(format_args!("standard input: {why}"));
     }
 
+    // .. and that standard output did not take all.
+    pub fn say_not_written(self) {
+        self.say("standard output: not all is written");
+    }
+
     // What is wrong with the arguments, and how the program is called.
     fn complain(self, fault: impl Display + Drop) {
         self.say(fault);

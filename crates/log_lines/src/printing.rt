@@ -64,8 +64,7 @@ pub fn print_from(cursor: Cursor, log: &[u8]) -> Result<usize, NotWritten>
             StepAnswer::Refused(fault) => return print_fault(fault, frames),
             StepAnswer::Frame(frame) => print_shown(frame, log)?,
         }
-        let next = stepped.cursor;
-        reached = next;
+        reached = stepped.cursor;
     }
     Ok(log.len() + 1)
 }
