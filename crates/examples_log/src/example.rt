@@ -1,7 +1,6 @@
 // Logs read and written, and printed.
 use log_lines::printing;
 use log_walk::opening::Cursor;
-use log_writer::field_bytes::LogWritten;
 use log_writer::writing;
 use rtp::refusal::Refusal;
 use rtp::settings::Settings;
@@ -28,10 +27,10 @@ pub(crate) fn read_on(cursor: Cursor, bytes: &[u8], n: usize) {
 }
 
 // The log that is written, read, or the refusal.
-fn show(written: LogWritten, out: &[u8]) {
+fn show(written: Result<usize, Refusal>, out: &[u8]) {
     match written {
-        LogWritten::Bytes(n) => read(out, n),
-        LogWritten::Refused(why) => printing::print_refusal(why),
+        Ok(n) => read(out, n),
+        Err(why) => printing::print_refusal(why),
     }
 }
 
@@ -42,11 +41,11 @@ fn write_into(
     bytes: &[u8],
     out: &mut [u8],
     room: usize,
-) -> LogWritten {
+) -> Result<usize, Refusal> {
     if room <= out.len() {
         return writing::write(settings, rows, bytes, &mut out[..room]);
     }
-    LogWritten::Refused(Refusal::AreaTooShort)
+    Err(Refusal::AreaTooShort)
 }
 
 // The log of the first k words of rows, whose frames lie in the first n bytes.

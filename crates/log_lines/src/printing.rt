@@ -5,8 +5,7 @@ use crate::words;
 use console_text::STDOUT_FILENO;
 use console_text::lines::{Line, NotWritten};
 use log_walk::frames::Shown;
-use log_walk::opening::{Cursor, OpenAnswer};
-use log_walk::stepping::StepAnswer;
+use log_walk::opening::Cursor;
 use log_walk::{opening, stepping};
 use rtp::refusal::{Fault, Refusal};
 use rtp::settings::Settings;
@@ -58,11 +57,10 @@ pub fn print_from(cursor: Cursor, log: &[u8]) -> Result<usize, NotWritten>
     let mut reached = cursor;
     for frames in 0..log.len() + 1 {
         let stepped = stepping::step(reached, log);
-        let answer = stepped.answer;
-        match answer {
-            StepAnswer::End => return print_end(reached.count, frames),
-            StepAnswer::Refused(fault) => return print_fault(fault, frames),
-            StepAnswer::Frame(frame) => print_shown(frame, log)?,
+        match stepped.answer {
+            Ok(Some(frame)) => print_shown(frame, log)?,
+            Ok(None) => return print_end(reached.count, frames),
+            Err(fault) => return print_fault(fault, frames),
         }
         reached = stepped.cursor;
     }
@@ -74,13 +72,11 @@ pub fn print_log(log: &[u8]) -> Result<usize, NotWritten>
     ensures { AllPrinted result (frames_of log.now) }
 {
     let opened = opening::open(log);
-    let cursor = opened.cursor;
-    let answer = opened.answer;
-    match answer {
-        OpenAnswer::Refused(why) => print_fault(Fault::from(why), 0),
-        OpenAnswer::Opened(settings) => {
+    match opened.answer {
+        Ok(settings) => {
             print_settings(settings)?;
-            print_from(cursor, log)
+            print_from(opened.cursor, log)
         }
+        Err(why) => print_fault(Fault::from(why), 0),
     }
 }

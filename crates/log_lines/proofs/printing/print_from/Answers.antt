@@ -1,3 +1,4 @@
+use Rattle.std.specs.Prelude.{Ok}
 use mathlib.Core.Path.{◌≡◌, ap, subst, ◌∙◌}
 use Prim.Native.Nat.{◌+◌}
 use lib.ListN.{length}
@@ -10,22 +11,22 @@ pub loop-frames-init : goal.loop-frames-init
 loop-frames-init c =
     counts_start c.args.cursor c.args.log.now
 
-pub returns-in-End : goal.returns-in-End
-returns-in-End c =
+pub returns-in-Ok-None : goal.returns-in-Ok-None
+returns-in-Ok-None c =
     let a = c.args in
     let v = c.loop-frames in
     let s = c.step-stepped in
     let log = a.log.now in
-    let none = counts_none v.frames v.reached s.result.cursor log s.result.answer (omega arith) s.ensures (ap is_frame c.in-End.is) in
+    let none = counts_none v.frames v.reached s.result.cursor log s.result.answer (omega arith) s.ensures (ap is_frame (c.in-Ok-None.is ∙ ap Ok (rw c.in-Ok-None.is at c.in-Ok-None.field-0-is))) in
     subst (AllPrinted c.print_end.result) (none ∙ v.invariant) c.print_end.ensures
 
-pub returns-in-Refused : goal.returns-in-Refused
-returns-in-Refused c =
+pub returns-in-Err : goal.returns-in-Err
+returns-in-Err c =
     let a = c.args in
     let v = c.loop-frames in
     let s = c.step-stepped in
     let log = a.log.now in
-    let none = counts_none v.frames v.reached s.result.cursor log s.result.answer (omega arith) s.ensures (ap is_frame c.in-Refused.is) in
+    let none = counts_none v.frames v.reached s.result.cursor log s.result.answer (omega arith) s.ensures (ap is_frame c.in-Err.is) in
     subst (AllPrinted c.print_fault.result) (none ∙ v.invariant) c.print_fault.ensures
 
 pub loop-frames-preserved : goal.loop-frames-preserved
@@ -34,7 +35,7 @@ loop-frames-preserved c =
     let v = c.loop-frames in
     let s = c.step-stepped in
     let log = a.log.now in
-    let one = counts_frame v.frames v.reached s.result.cursor log s.result.answer (omega arith) s.ensures (ap is_frame c.in-Frame.is) in
+    let one = counts_frame v.frames v.reached s.result.cursor log s.result.answer (omega arith) s.ensures (ap is_frame (c.in-Ok-Some.is ∙ ap Ok (rw c.in-Ok-Some.is at c.in-Ok-Some.field-0-is))) in
     one ∙ v.invariant
 
 pub returns : goal.returns
