@@ -30,7 +30,7 @@ impl Display for Class {
 }
 
 // The frame type, in a format whose codes are a type and a quality bit: it follows from class and length.
-pub(crate) fn type_of(format: u8, class: u32, n: u32) -> Option<u8> {
+pub(crate) fn type_of(format: u8, class: u32, n: u32) -> Option<u32> {
     if facts::format_of(format).graded {
         return Some(coding::code_for(format, class, n) / 2);
     }
