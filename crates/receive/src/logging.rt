@@ -6,7 +6,7 @@ use console_text::lines::NotWritten;
 use console_text::{STDOUT_FILENO, lines};
 use log_fields::fields::{FRAME_HEAD, HEAD_SIZE};
 use log_writer::field_bytes;
-use log_writer::field_bytes::LogWritten;
+use rtp::refusal::Refusal;
 use rtp::settings::Settings;
 
 // The bytes of the longest frame's field, which is the longest field.
@@ -14,10 +14,10 @@ const FIELD_SIZE: usize = HEAD_SIZE + FRAME_HEAD + SLOT_SIZE;
 
 // The field at the front of the area. One that is refused is said, and left out: it never is, but for the end of a log of more frames than it
 // can count.
-fn write(put: LogWritten, area: &[u8]) -> Result<(), NotWritten> {
+fn write(put: Result<usize, Refusal>, area: &[u8]) -> Result<(), NotWritten> {
     match put {
-        LogWritten::Bytes(n) => lines::write(STDOUT_FILENO, area.get(..n).ok_or(NotWritten)?),
-        LogWritten::Refused(why) => {
+        Ok(n) => lines::write(STDOUT_FILENO, area.get(..n).ok_or(NotWritten)?),
+        Err(why) => {
             printing::say_left_out(why);
             Ok(())
         }

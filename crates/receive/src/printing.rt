@@ -10,7 +10,7 @@ use console_text::lines::{Line, NotWritten};
 use console_text::words::Count;
 use console_text::{STDERR_FILENO, STDOUT_FILENO, lines};
 use report::calls;
-use report::calls::{ReportAnswer, ReportBlock};
+use report::calls::ReportBlock;
 use report::record::Reception;
 use row_tags::tagging::PRIMARY;
 use rtp::refusal::{Fault, Refusal};
@@ -136,11 +136,9 @@ fn print_block(fd: i32, block: ReportBlock) -> Result<(), NotWritten> {
 
 // The report on the first source. It is never refused: the record comes from the calls.
 fn print_report(fd: i32, heard: Reception) -> Result<(), NotWritten> {
-    let reported = calls::report(heard);
-    let answer = reported.answer;
-    match answer {
-        ReportAnswer::Block(block) => print_block(fd, block),
-        ReportAnswer::Refused(_) => Ok(()),
+    match calls::report(heard).answer {
+        Ok(block) => print_block(fd, block),
+        Err(_) => Ok(()),
     }
 }
 
