@@ -15,14 +15,14 @@ fn area() -> [u8; AREA] {
 // The log of the first n bytes.
 pub(crate) fn read(bytes: &[u8], n: usize) {
     if n <= bytes.len() {
-        printing::print_log(&bytes[..n]);
+        let _ = printing::print_log(&bytes[..n]);
     }
 }
 
 // .. from a record on.
 pub(crate) fn read_on(cursor: Cursor, bytes: &[u8], n: usize) {
     if n <= bytes.len() {
-        printing::print_from(cursor, &bytes[..n]);
+        let _ = printing::print_from(cursor, &bytes[..n]);
     }
 }
 
