@@ -36,7 +36,7 @@ impl Case {
             count: values::number(line, 2) as usize,
         };
         if let Some(log) = self.bytes.get(..self.size) {
-            printing::print_from(cursor, log);
+            let _ = printing::print_from(cursor, log);
         }
     }
 

@@ -1,6 +1,5 @@
 // Logs read and written, and printed.
 use log_lines::printing;
-use log_writer::field_bytes::LogWritten;
 use log_writer::writing;
 use rtp::refusal::Refusal;
 use rtp::settings::Settings;
@@ -11,15 +10,15 @@ pub(crate) const AREA: usize = 1024;
 // The log of the first n bytes.
 pub(crate) fn read(bytes: &[u8], n: usize) {
     if let Some(log) = bytes.get(..n) {
-        printing::print_log(log);
+        let _ = printing::print_log(log);
     }
 }
 
 // The log that is written, read, or the refusal.
-fn show(written: LogWritten, out: &[u8]) {
+fn show(written: Result<usize, Refusal>, out: &[u8]) {
     match written {
-        LogWritten::Bytes(n) => read(out, n),
-        LogWritten::Refused(why) => printing::print_refusal(why),
+        Ok(n) => read(out, n),
+        Err(why) => printing::print_refusal(why),
     }
 }
 
@@ -30,11 +29,9 @@ fn write_into(
     bytes: &[u8],
     out: &mut [u8],
     room: usize,
-) -> LogWritten {
-    match out.get_mut(..room) {
-        Some(area) => writing::write(settings, rows, bytes, area),
-        None => LogWritten::Refused(Refusal::AreaTooShort),
-    }
+) -> Result<usize, Refusal> {
+    let area = out.get_mut(..room).ok_or(Refusal::AreaTooShort)?;
+    writing::write(settings, rows, bytes, area)
 }
 
 // The same, and what it came to shown.

@@ -1,8 +1,9 @@
 // A source, its packets and reports, printed.
 use examples_text::printing::print;
 use report::calls;
-use report::calls::{PacketAnswer, ReportAnswer, ReportBlock};
+use report::calls::ReportBlock;
 use report::record::Reception;
+use rtp::refusal::Refusal;
 
 fn print_signed(text: &[u8], value: i32) {
     io::write_all(1, text);
@@ -19,15 +20,15 @@ pub(crate) fn begin(label: &[u8]) -> Reception {
     calls::new()
 }
 
-fn print_answer(answer: PacketAnswer) {
+fn print_answer(answer: Result<bool, Refusal>) {
     match answer {
-        PacketAnswer::Valid => {
+        Ok(true) => {
             io::write_all(1, b": valid\n");
         }
-        PacketAnswer::Invalid => {
+        Ok(false) => {
             io::write_all(1, b": not valid\n");
         }
-        PacketAnswer::Refused(why) => {
+        Err(why) => {
             print(b": refusal ", u32::from(why));
             io::write_all(1, b"\n");
         }
@@ -40,8 +41,7 @@ pub(crate) fn hear(source: Reception, sequence: u16, timestamp: u32, arrival: u3
     print(b" at ", timestamp);
     print(b", arrived ", arrival);
     let heard = calls::packet(source, sequence, timestamp, arrival);
-    let answer = heard.answer;
-    print_answer(answer);
+    print_answer(heard.answer);
     heard.reception
 }
 
@@ -88,10 +88,9 @@ fn print_block(block: ReportBlock) {
 // A report.
 pub(crate) fn tell(source: Reception) -> Reception {
     let told = calls::report(source);
-    let answer = told.answer;
-    match answer {
-        ReportAnswer::Block(block) => print_block(block),
-        ReportAnswer::Refused(why) => print(b"report: refusal ", u32::from(why)),
+    match told.answer {
+        Ok(block) => print_block(block),
+        Err(why) => print(b"report: refusal ", u32::from(why)),
     }
     io::write_all(1, b"\n");
     told.reception

@@ -19,15 +19,10 @@ pub struct Cursor {
     pub count: usize,
 }
 
+// What a call answers, and the record that it leaves.
 #[derive(Clone, Copy)]
-pub enum OpenAnswer {
-    Opened(Settings),
-    Refused(Refusal),
-}
-
-#[derive(Clone, Copy)]
-pub struct Opened {
-    pub answer: OpenAnswer,
+pub struct Answered<A> {
+    pub answer: A,
     pub cursor: Cursor,
 }
 
@@ -45,37 +40,37 @@ fn settings_in(s: &[u8]) -> Settings
 }
 
 // A whole field with the settings' tag and so many bytes of content.
-fn settings_field(s: &[u8], n: u16) -> OpenAnswer
+fn settings_field(s: &[u8], n: u16) -> Result<Settings, Refusal>
     requires { head_size + n ≤ length s.now }
     ensures { result ≡ settings_field current s.now n }
 {
     if n as usize != SETTINGS_SIZE {
-        return OpenAnswer::Refused(Refusal::NotAllowed);
+        return Err(Refusal::NotAllowed);
     }
     let found = settings_in(s);
     if settings::in_range(found) {
-        return OpenAnswer::Opened(found);
+        return Ok(found);
     }
-    OpenAnswer::Refused(Refusal::NotAllowed)
+    Err(Refusal::NotAllowed)
 }
 
 // What the first field comes to.
-fn first_field(s: &[u8]) -> OpenAnswer
+fn first_field(s: &[u8]) -> Result<Settings, Refusal>
     ensures { result ≡ opening current s.now }
 {
     match fields::field_of(s) {
-        Field::Stopped => OpenAnswer::Refused(Refusal::MisplacedTag),
+        Field::Stopped => Err(Refusal::MisplacedTag),
         Field::Cut(tag) => {
             if tag == SETTINGS_TAG {
-                return OpenAnswer::Refused(Refusal::CutField);
+                return Err(Refusal::CutField);
             }
-            OpenAnswer::Refused(Refusal::MisplacedTag)
+            Err(Refusal::MisplacedTag)
         }
         Field::Whole(head) => {
             if head.tag == SETTINGS_TAG {
                 return settings_field(s, head.length);
             }
-            OpenAnswer::Refused(Refusal::MisplacedTag)
+            Err(Refusal::MisplacedTag)
         }
     }
 }
@@ -97,20 +92,20 @@ fn no_cursor() -> Cursor
 }
 
 // Opens a log: the record behind its settings, or a refusal and a record of zeros.
-pub fn open(log: &[u8]) -> Opened
+pub fn open(log: &[u8]) -> Answered<Result<Settings, Refusal>>
     ensures { record { answer = open_numbers result.answer; cursor = result.cursor } ≡ open_call current log.now }
 {
     match first_field(log) {
-        OpenAnswer::Opened(settings) => Opened {
-            answer: OpenAnswer::Opened(settings),
+        Ok(settings) => Answered {
+            answer: Ok(settings),
             cursor: Cursor {
                 settings,
                 place: FIRST_SIZE,
                 count: 0,
             },
         },
-        OpenAnswer::Refused(refusal) => Opened {
-            answer: OpenAnswer::Refused(refusal),
+        Err(refusal) => Answered {
+            answer: Err(refusal),
             cursor: no_cursor(),
         },
     }

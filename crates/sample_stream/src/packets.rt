@@ -22,7 +22,7 @@ fn agreed() -> Settings {
 
 fn write_lists(k: u8, counts: &[u32], rows: &[u32], out: &mut [u8]) -> usize {
     let bytes = frames::sound(k);
-    let sequence = std::num::wrapping_add_u16(FIRST_SEQUENCE, k as u16);
+    let sequence = FIRST_SEQUENCE.wrapping_add(k as u16);
     match packets::write_packet(
         agreed(),
         NO_REQUEST,
