@@ -1,5 +1,7 @@
 -- The tests of the entries, as the code asks them in turn.
 use Prim.Native.Nat.{ℕ, zero, suc, ◌+◌, ◌-◌, ◌≤◌, ◌<◌, Ordering}
+use Rattle.std.specs.declared.cmp.Ordering.{Ordering as Side}
+use Rattle.std.specs.declared.cmp.Ordering.TheVariants.{Less, Equal, Greater}
 use mathlib.Core.Path.{◌≡◌, refl, ap, ◌∙◌}
 use mathlib.Core.List.{List}
 use mathlib.Core.Bool.{Bool, true, false, cond, ◌&&◌}
@@ -13,7 +15,6 @@ use Rattle.frame_codes.specs.Allowed.{allowed}
 use Rattle.row_tags.specs.Tags.{tag_class, tag_channel}
 use Rattle.buffer_copies.specs.Sizes.{slots}
 use Rattle.buffer_copies.specs.Pairs.{half, ahead, order, is_after, side_of}
-use Rattle.buffer_copies.specs.declared.order.Side.{Side}
 use Rattle.buffer_copies.specs.Entries.{Entry}
 use Rattle.buffer_layout.specs.declared.buffer.Buffer.{Buffer}
 use Rattle.buffer_layout.specs.declared.buffer.Fixed.{Fixed}
@@ -102,9 +103,9 @@ module _ (ts gs ls ss ws : List ℕ) (f : Fixed) where
 
 -- the side on which a pair lies, as the code matches it
 abbrev pub is_after_side : Side → Bool
-is_after_side Side.Before = false
-is_after_side Side.Same = false
-is_after_side Side.After = true
+is_after_side Less = false
+is_after_side Equal = false
+is_after_side Greater = true
 
 pub after_is : (s : Side) (o : Ordering) → s ≡ side_of o → is_after_side s ≡ is_after o
 after_is s Ordering.lt e = ap is_after_side e

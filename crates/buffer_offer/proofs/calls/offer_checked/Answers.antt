@@ -1,5 +1,5 @@
 use Rattle.rtp.specs.Editions.{current}
-use Rattle.buffer_offer.specs.declared.calls.OfferAnswer.{OfferAnswer}
+use Rattle.std.specs.Prelude.{Err}
 use mathlib.Core.Path.{◌≡◌, sym, ◌∙◌, ap}
 use mathlib.Core.List.{List}
 use mathlib.Core.Bool.{true}
@@ -87,7 +87,7 @@ returns-in-Refused c =
     let e : reading_numbers (Reading.Refused c.in-Refused.fault) ≡ outcome_numbers o = ap reading_numbers (sym c.in-Refused.is) ∙ c.read.ensures.0 in
     let z : a.rows.now ≡ c.read.new.rows = sym (c.read.ensures.1 ∙ ap (λ (x : List ℕ). over x a.rows.now) (refused_words o c.in-Refused.fault e) ∙ over_none a.rows.now) in
     ap (outcome c.read.new.rows a.store.now) c.refuse_offer-in-Refused.ensures
-    ∙ sym (ap (λ (x : List ℕ). outcome x a.store.now (record { answer = OfferAnswer.Refused c.in-Refused.fault; buffer = a.buffer })) z)
+    ∙ sym (ap (λ (x : List ℕ). outcome x a.store.now (record { answer = Err c.in-Refused.fault; buffer = a.buffer })) z)
     ∙ refused_offer_lem a.buffer a.packet.now a.rows.now a.store.now o c.in-Refused.fault e
     ∙ sym (offer_reads current a.buffer a.packet.now a.rows.now a.store.now c.requires (fine-at (goal.at.returns-in-Refused c).Else-not-well_formed) c.if-rows-lt-ROW_AREA.false c.if-store-lt-STORE_SIZE.false)
 
