@@ -36,20 +36,22 @@ pub struct Fixed {
     pub settings: Settings,
 }
 
+// What a call on a buffer answers, and the buffer after it.
+#[derive(Clone, Copy)]
+pub struct Answered<A> {
+    pub answer: A,
+    pub buffer: Buffer,
+}
+
 pub fn fresh_buffer(settings: Settings) -> Buffer
     ensures { result ≡ fresh settings }
 {
-    let times = [0u32; SLOTS];
-    let tags = [0u32; SLOTS];
-    let lengths = [0u32; SLOTS];
-    let slots = [0u32; SLOTS];
-    let occupied = [0u64; 3];
     Buffer {
-        times,
-        tags,
-        lengths,
-        slots,
-        occupied,
+        times: [0; SLOTS],
+        tags: [0; SLOTS],
+        lengths: [0; SLOTS],
+        slots: [0; SLOTS],
+        occupied: [0; 3],
         last_time: 0,
         last_channel: 0,
         drawn: 0,
