@@ -1,5 +1,5 @@
 // The reorder buffer's layout.
-ghost use Rattle.std.specs.Prelude.{◌≡◌};
+ghost use Rattle.std.specs.Prelude.{◌≡◌, Err};
 ghost use Rattle.buffer_layout.specs.Layout.{fresh};
 
 use buffer_slots::bits::SLOTS;
@@ -41,6 +41,18 @@ pub struct Fixed {
 pub struct Answered<A> {
     pub answer: A,
     pub buffer: Buffer,
+}
+
+impl<T, E> Answered<Result<T, E>> {
+    // A call that is refused, and the buffer as it stood.
+    pub fn refused(reason: E, buffer: Buffer) -> Answered<Result<T, E>>
+        ensures { result ≡ record { answer = Err reason; buffer = buffer } }
+    {
+        Answered {
+            answer: Err(reason),
+            buffer,
+        }
+    }
 }
 
 pub fn fresh_buffer(settings: Settings) -> Buffer

@@ -1,5 +1,5 @@
 -- Document 01, "The take": the calls new and offer, between a buffer and its model. Each definition is the whole meaning of a call, refusals included: answer, buffer and every lent area.
-use Rattle.std.specs.Prelude.{ℕ, List, cond, length, Err, Ok}
+use Rattle.std.specs.Prelude.{ℕ, List, cond, length, Err, Ok, Result as Answer}
 use Rattle.buffer_insert.specs.declared.tally.Tally.{Tally}
 use Rattle.rtp.specs.Editions.{Edition}
 use Rattle.rtp.specs.Ranges.{in_range}
@@ -24,7 +24,7 @@ abbrev pub no_settings : Settings
 no_settings = record { format = 0; channels = 0; payload_type = 0; redundancy_type = 0 }
 
 -- the refusal number or 0
-abbrev pub new_number : Result Unit Refusal → ℕ
+abbrev pub new_number : Answer Unit Refusal → ℕ
 new_number (Ok tt) = 0
 new_number (Err r) = number r
 
@@ -56,7 +56,7 @@ abbrev pub count_numbers : Counts → OfferNumbers
 count_numbers n = record { refusal = 0; offset = 0; late = n.late; far = n.far; repeated = n.repeated; better = n.better; no_room = n.no_room; inserted = n.inserted }
 
 -- of the code's answer, case by case
-abbrev pub offer_numbers : Result Tally Fault → OfferNumbers
+abbrev pub offer_numbers : Answer Tally Fault → OfferNumbers
 offer_numbers (Err f) = fault_numbers f
 offer_numbers (Ok t) = record {
   refusal = 0;

@@ -12,7 +12,6 @@ ghost use Rattle.buffer_offer.specs.Rows.{first_row, rest_words};
 ghost use Rattle.buffer_offer.specs.Judging.{is_late_of, is_far_of, Judgeable, Timely, JudgedAs, RowsJudgeable, RowsJudged, RowJudged};
 
 use buffer_columns::columns;
-use buffer_columns::columns::Place;
 use buffer_copies::verdict::Verdict;
 use buffer_insert::laying::FrameHead;
 use buffer_insert::tally::Tally;
@@ -25,14 +24,14 @@ use row_tags::tagging;
 use rtp::sizes::ROW_WIDTH;
 
 // The verdict on a frame, and the occupied slots after it.
-#[derive(Clone, Copy)]
+#[derive(Clone, Copy, Debug, PartialEq, Eq)]
 pub struct Step {
     pub verdict: Verdict,
     pub occupied: [u64; 3],
 }
 
 // What judging rows comes to.
-#[derive(Clone, Copy)]
+#[derive(Clone, Copy, Debug, PartialEq, Eq)]
 pub struct Judged {
     pub tally: Tally,
     pub occupied: [u64; 3],
@@ -94,11 +93,11 @@ fn lay_copy(
     let search = columns::find_place(times, tags, n, head.time, channel);
     let place = search.place;
     match place {
-        Place::FoundAt(at) => Step {
+        Ok(at) => Step {
             verdict: laying::replace_copy(tags, lengths, slots, at, head, frame, store),
             occupied,
         },
-        Place::InsertAt(at) => {
+        Err(at) => {
             if SLOTS <= n {
                 return Step {
                     verdict: Verdict::NoRoom,
