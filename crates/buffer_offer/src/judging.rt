@@ -51,11 +51,9 @@ pub(crate) fn none_judged(occupied: [u64; 3]) -> Judged
 fn is_late(fixed: Fixed, head: FrameHead) -> bool
     ensures { result ≡ is_late_of fixed head }
 {
-    if fixed.drawn == 1 {
-        let channel = tagging::tag_channel(head.tag);
-        return !well_formed::pair_after(head.time, channel, fixed.last_time, fixed.last_channel);
-    }
-    false
+    let channel = tagging::tag_channel(head.tag);
+    fixed.drawn == 1
+        && !well_formed::pair_after(head.time, channel, fixed.last_time, fixed.last_channel)
 }
 
 // Whether nothing was drawn, and the first n times with this one fit in no stretch.
@@ -63,10 +61,7 @@ fn is_far(times: &[u32; SLOTS], n: usize, fixed: Fixed, time: u32) -> bool
     requires { n ≤ slot_count }
     ensures { result ≡ is_far_of times.now n fixed time }
 {
-    if fixed.drawn == 0 {
-        return !columns::in_stretch(times, n, time);
-    }
-    false
+    fixed.drawn == 0 && !columns::in_stretch(times, n, time)
 }
 
 // A frame neither late nor far, laid where its pair is held or belongs.

@@ -8,7 +8,6 @@ use Rattle.buffer_layout.specs.declared.buffer.Buffer.{Buffer}
 use Rattle.buffer_layout.specs.declared.buffer.Answered.{Answered}
 use Rattle.buffer_offer.specs.Calls.{NewOutcome, new_number}
 use Rattle.buffer_offer.proofs.CallLaws.{new_in, new_out}
-use borrow.Author.Rules.{rules}
 use Rattle.buffer_offer.proofs.calls.new.Goals as goal
 
 -- an outcome by its buffer

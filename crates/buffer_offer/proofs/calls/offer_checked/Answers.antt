@@ -17,7 +17,6 @@ use Rattle.buffer_layout.specs.Arrays.{Machine}
 use Rattle.buffer_offer.proofs.CallLaws.{outcome, outcome_refused, offer_malformed, offer_rows, offer_store, offer_reads}
 use Rattle.buffer_layout.proofs.MachineLaws.{owned_machine}
 use Rattle.buffer_offer.proofs.OfferLaws.{refused_words, refused_offer_lem, words_fit, offer_asks, offer_gives}
-use borrow.Author.Rules.{rules}
 use Rattle.buffer_offer.proofs.calls.offer_checked.Goals.{Else-not-well_formed, In-Read, then-rows-lt-ROW_AREA-via-then-rows-lt-ROW_AREA, then-rows-lt-ROW_AREA-via-else-rows-lt-ROW_AREA+then-store-lt-STORE_SIZE}
 use Rattle.buffer_offer.proofs.calls.offer_checked.Goals as goal
 
@@ -48,7 +47,8 @@ pub returns-then-rows-lt-ROW_AREA : goal.returns-then-rows-lt-ROW_AREA
 returns-then-rows-lt-ROW_AREA c =
     let a = c.args in
     let fine = fine-at (goal.at.returns-then-rows-lt-ROW_AREA c).Else-not-well_formed in
-    ? ∙ elim c.then-rows-lt-ROW_AREA.branch [
+    outcome_refused a.rows.now a.store.now a.buffer _ _ _ c.refused-then-rows-lt-ROW_AREA.ensures c.from-then-rows-lt-ROW_AREA.ensures
+    ∙ elim c.then-rows-lt-ROW_AREA.branch [
       | then-rows-lt-ROW_AREA-via-then-rows-lt-ROW_AREA w ↦ sym (offer_rows current a.buffer a.packet.now a.rows.now a.store.now c.requires fine w.if-rows-lt-ROW_AREA.true)
       | then-rows-lt-ROW_AREA-via-else-rows-lt-ROW_AREA+then-store-lt-STORE_SIZE w ↦
           sym (offer_store current a.buffer a.packet.now a.rows.now a.store.now c.requires fine w.if-rows-lt-ROW_AREA.false w.if-store-lt-STORE_SIZE.true)

@@ -5,7 +5,6 @@ use mir.Syntax.{w32}
 use lib.ListN.{length}
 use Rattle.rtp.specs.Editions.{current}
 use Rattle.buffer_copies.specs.Sizes.{slot_size}
-use Rattle.buffer_layout.specs.declared.buffer.Buffer.{Buffer}
 use Rattle.buffer_columns.specs.Places.{Parted, place_from}
 use Rattle.buffer_layout.specs.Layout.{assembled}
 use Rattle.buffer_insert.specs.Laying.{class_in, channel_in, copy_in}
