@@ -1,5 +1,5 @@
 -- Document 01, "The take": the call draw, between a buffer and its model. The definition is the whole meaning of the call, refusals included: answer, buffer and lent area.
-use Rattle.std.specs.Prelude.{ℕ, List, cond, length, Err, None, Ok, Option, Some}
+use Rattle.std.specs.Prelude.{ℕ, List, cond, length, Err, None, Ok, Option, Some, Result as Answer}
 use Rattle.buffer_draw.specs.declared.draws.DrawnFrame.{DrawnFrame}
 use Rattle.std.proofs.Math.Option.{none, some}
 use Rattle.rtp.specs.Editions.{Edition}
@@ -27,7 +27,7 @@ abbrev pub no_frame : ℕ → ℕ → DrawNumbers
 no_frame r empty = record { refusal = r; empty = empty; time = 0; channel = 0; class = 0; length = 0; primary = 0 }
 
 -- of the code's answer, case by case
-abbrev pub draw_numbers : Result (Option DrawnFrame) Refusal → DrawNumbers
+abbrev pub draw_numbers : Answer (Option DrawnFrame) Refusal → DrawNumbers
 draw_numbers (Err r) = no_frame (number r) 0
 draw_numbers (Ok None) = no_frame 0 1
 draw_numbers (Ok (Some f)) = record { refusal = 0; empty = 0; time = f.time; channel = f.channel; class = f.class; length = f.length; primary = f.primary }

@@ -25,11 +25,13 @@ pub struct DrawnFrame {
     pub primary: u32,
 }
 
-// The frame that is handed out, None from an empty buffer; or a refusal.
-pub type DrawAnswer = Result<Option<DrawnFrame>, Refusal>;
-
 // The first of n entries handed out: its frame to the front of the area, its slot free, its pair the last drawn.
-fn draw_first(mut buffer: Buffer, n: usize, store: &[u8], area: &mut [u8]) -> Answered<DrawAnswer>
+fn draw_first(
+    mut buffer: Buffer,
+    n: usize,
+    store: &[u8],
+    area: &mut [u8],
+) -> Answered<Result<Option<DrawnFrame>, Refusal>>
     requires { Drawable buffer n store.now area.old }
     ensures { record { answer = draw_numbers result.answer; buffer = result.buffer; area = area.new }
         ≡ draw_done buffer area.old (done (earliest store.now (decode buffer).entries)) }
@@ -66,7 +68,11 @@ fn draw_first(mut buffer: Buffer, n: usize, store: &[u8], area: &mut [u8]) -> An
 }
 
 // A draw under settings in range.
-fn draw_checked(buffer: Buffer, store: &[u8], area: &mut [u8]) -> Answered<DrawAnswer>
+fn draw_checked(
+    buffer: Buffer,
+    store: &[u8],
+    area: &mut [u8],
+) -> Answered<Result<Option<DrawnFrame>, Refusal>>
     requires { in_range current buffer.settings ≡ true }
     ensures { record { answer = draw_numbers result.answer; buffer = result.buffer; area = area.new }
         ≡ draw_call current buffer store.now area.old }
@@ -100,7 +106,11 @@ fn draw_checked(buffer: Buffer, store: &[u8], area: &mut [u8]) -> Answered<DrawA
 }
 
 // The earliest frame handed out, or that the buffer is empty; or a refusal, and everything as it stood.
-pub fn draw(buffer: Buffer, store: &[u8], area: &mut [u8]) -> Answered<DrawAnswer>
+pub fn draw(
+    buffer: Buffer,
+    store: &[u8],
+    area: &mut [u8],
+) -> Answered<Result<Option<DrawnFrame>, Refusal>>
     ensures { record { answer = draw_numbers result.answer; buffer = result.buffer; area = area.new }
         ≡ draw_call current buffer store.now area.old }
 {
