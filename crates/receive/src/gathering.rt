@@ -5,15 +5,16 @@ use crate::sources::Sources;
 use crate::totals::Totals;
 use crate::{gaps, logging, printing, room, sources, totals};
 use buffer_draw::draws;
-use buffer_draw::draws::{DrawAnswer, DrawnFrame};
+use buffer_draw::draws::DrawnFrame;
+use buffer_insert::tally::Tally;
 use buffer_layout::buffer::{Buffer, SLOT_SIZE, STORE_SIZE};
 use buffer_offer::calls;
-use buffer_offer::calls::{NewAnswer, OfferAnswer};
 use buffer_slots::bits::SLOTS;
 use console::stream::{AREA, Input};
 use console::{arguments, stream};
 use console_text::{STDERR_FILENO, STDOUT_FILENO};
 use formats::frames;
+use rtp::refusal::Fault;
 use rtp::settings::Settings;
 use rtp::sizes::ROW_AREA;
 use std::io::Read;
@@ -118,9 +119,9 @@ fn draw_one(state: State, store: &[u8]) -> State {
     let drawn = draws::draw(state.buffer, store, &mut area);
     let answer = drawn.answer;
     match answer {
-        DrawAnswer::Frame(frame) => add_drawn(state, drawn.buffer, frame, &area),
-        DrawAnswer::Empty => state,
-        DrawAnswer::Refused(_) => state,
+        Ok(Some(frame)) => add_drawn(state, drawn.buffer, frame, &area),
+        Ok(None) => state,
+        Err(_) => state,
     }
 }
 
@@ -129,7 +130,7 @@ fn draw_earlier(state: State, wanted: Wanted, store: &[u8]) -> Advance {
     let mut area = zero_frame();
     let drawn = draws::draw(state.buffer, store, &mut area);
     let answer = drawn.answer;
-    if let DrawAnswer::Frame(frame) = answer {
+    if let Ok(Some(frame)) = answer {
         if room::comes_first(frame.time, wanted) {
             return Advance {
                 state: add_drawn(state, drawn.buffer, frame, &area),
@@ -205,10 +206,10 @@ fn words_of(state: State) -> i32 {
 }
 
 // The line of the last packet, if it was refused.
-fn print_answer(state: State, answer: OfferAnswer) -> State {
+fn print_answer(state: State, answer: Result<Tally, Fault>) -> State {
     match answer {
-        OfferAnswer::Judged(_) => state,
-        OfferAnswer::Refused(fault) => {
+        Ok(_) => state,
+        Err(fault) => {
             if printing::print_fault(words_of(state), state.totals.packets, fault) {
                 return state;
             }
@@ -336,7 +337,7 @@ pub(crate) fn open(rt: &(impl Eprint + std::io::Input), asked: Settings, log: bo
     let fresh = calls::new(asked);
     let answer = fresh.answer;
     match answer {
-        NewAnswer::Accepted => receive_stream(rt, fresh.buffer, frames::step_of(asked.format), log),
-        NewAnswer::Refused(_) => {}
+        Ok(()) => receive_stream(rt, fresh.buffer, frames::step_of(asked.format), log),
+        Err(_) => {}
     }
 }

@@ -1,8 +1,6 @@
 // Room for a packet's frames. A packet can bring more frames than are free, and even more than the buffer has slots (document 02, P12).
 use buffer_columns::columns;
-use buffer_columns::columns::Place;
 use buffer_copies::order;
-use buffer_copies::order::Side;
 use buffer_layout::buffer::Buffer;
 use buffer_slots::bits;
 use buffer_slots::bits::SLOTS;
@@ -29,14 +27,8 @@ fn read_rows(settings: Settings, packet: &[u8], rows: &mut [u32; ROW_AREA]) -> u
 }
 
 fn is_late(buffer: Buffer, time: u32, channel: u32) -> bool {
-    if buffer.drawn == 0 {
-        return false;
-    }
-    match order::side_of(time, channel, buffer.last_time, buffer.last_channel) {
-        Side::Before => true,
-        Side::Same => true,
-        Side::After => false,
-    }
+    buffer.drawn != 0
+        && order::side_of(time, channel, buffer.last_time, buffer.last_channel).is_le()
 }
 
 fn is_held(buffer: Buffer, time: u32, channel: u32) -> bool {
@@ -44,12 +36,9 @@ fn is_held(buffer: Buffer, time: u32, channel: u32) -> bool {
     let tags = buffer.tags;
     let occupied = buffer.occupied;
     let n = bits::held_in(occupied);
-    let search = columns::find_place(&times, &tags, n, time, channel);
-    let place = search.place;
-    match place {
-        Place::FoundAt(_) => true,
-        Place::InsertAt(_) => false,
-    }
+    columns::find_place(&times, &tags, n, time, channel)
+        .place
+        .is_ok()
 }
 
 // Whether a row's frame needs a slot.

@@ -1,8 +1,7 @@
 // What was counted over the whole stream.
 use buffer_insert::tally::Tally;
-use buffer_offer::calls::OfferAnswer;
 use row_tags::tagging::PRIMARY;
-use rtp::refusal::Refusal;
+use rtp::refusal::{Fault, Refusal};
 
 // Refusal numbers are below this.
 pub(crate) const REFUSALS: usize = 16;
@@ -67,24 +66,18 @@ fn add_refusal(totals: Totals, why: Refusal) -> Totals {
 }
 
 // With the answer to one more packet.
-pub(crate) fn add_packet(totals: Totals, answer: OfferAnswer) -> Totals {
+pub(crate) fn add_packet(totals: Totals, answer: Result<Tally, Fault>) -> Totals {
     let mut next = totals;
     next.packets = plus(totals.packets, 1);
     match answer {
-        OfferAnswer::Judged(tally) => add_tally(next, tally),
-        OfferAnswer::Refused(fault) => {
-            let why = fault.refusal;
-            add_refusal(next, why)
-        }
+        Ok(tally) => add_tally(next, tally),
+        Err(fault) => add_refusal(next, fault.refusal),
     }
 }
 
 // Whether the packet was read, so that its frames were judged.
-pub(crate) fn was_read(answer: OfferAnswer) -> bool {
-    match answer {
-        OfferAnswer::Judged(_) => true,
-        OfferAnswer::Refused(_) => false,
-    }
+pub(crate) fn was_read(answer: Result<Tally, Fault>) -> bool {
+    answer.is_ok()
 }
 
 // With one more frame drawn, heard first-hand or by redundancy only.
