@@ -17,7 +17,7 @@ const COUNT: u32 = SLOTS as u32;
 const SIZE: u32 = SLOT_SIZE as u32;
 
 // A frame that is offered, its bytes aside: the first two words of its row.
-#[derive(Clone, Copy)]
+#[derive(Clone, Copy, Debug, PartialEq, Eq)]
 pub struct FrameHead {
     pub time: u32,
     pub tag: u32,
@@ -33,19 +33,11 @@ fn can_replace(
 ) -> bool
     ensures { result ≡ can_replace lengths.now slots.now at size room }
 {
-    if SLOTS <= at {
-        return false;
-    }
-    if COUNT <= slots[at] {
-        return false;
-    }
-    if SIZE < lengths[at] {
-        return false;
-    }
-    if SLOT_SIZE < size {
-        return false;
-    }
-    STORE_SIZE <= room
+    at < SLOTS
+        && slots[at] < COUNT
+        && lengths[at] <= SIZE
+        && size <= SLOT_SIZE
+        && STORE_SIZE <= room
 }
 
 // A frame whose pair is held, as the entry at a place: a better copy replaces it in its slot, and the entry is marked if either is.
@@ -90,19 +82,7 @@ pub fn replace_copy(
 fn can_insert(slot: usize, n: usize, at: usize, size: usize, room: usize) -> bool
     ensures { result ≡ can_insert slot n at size room }
 {
-    if SLOTS <= slot {
-        return false;
-    }
-    if SLOTS <= n {
-        return false;
-    }
-    if n < at {
-        return false;
-    }
-    if SLOT_SIZE < size {
-        return false;
-    }
-    STORE_SIZE <= room
+    slot < SLOTS && n < SLOTS && at <= n && size <= SLOT_SIZE && STORE_SIZE <= room
 }
 
 // A frame whose pair is not held, laid into the lowest free slot, its entry at a place: the occupied slots then.

@@ -1,6 +1,6 @@
 -- Laws of an offer whose packet was read, or not.
 use mathlib.Core.Path.{◌≡◌, refl, ap, ap₂, sym, ◌∙◌, subst}
-use Rattle.std.specs.Prelude.{Ok}
+use Rattle.std.specs.Prelude.{Ok, Result}
 use mathlib.Core.List.{List, [], ◌∷◌}
 use mathlib.Core.Bool.{true}
 use Prim.Native.Nat.{ℕ, ◌*◌, ◌≤◌}
@@ -26,7 +26,6 @@ use Rattle.read_packet.proofs.RowFactLaws.{rows_fine}
 use Rattle.buffer_copies.specs.Sizes.{store_size}
 use Rattle.buffer_copies.specs.Verdicts.{no_counts, tally, Gathered, judge_all}
 use Rattle.buffer_layout.specs.declared.buffer.Buffer.{Buffer}
-use Rattle.buffer_offer.specs.declared.calls.OfferAnswer.{OfferAnswer}
 use Rattle.buffer_offer.specs.declared.judging.Judged.{Judged}
 use Rattle.buffer_insert.specs.declared.tally.Tally.{Tally}
 use Rattle.buffer_layout.specs.Layout.{encode, decode}
@@ -73,7 +72,7 @@ is_read (read_as h rs request) p e = record { head = h; rows = rs; request = req
 -- the rows of an offer judged, from none judged
 pub rows_offer : (at : List ℕ → Buffer) (occupied : List ℕ) (sum : Judged) → sum ≡ record { tally = no_tally; occupied = occupied }
     → (b' : Buffer) (packet : List ℕ) (rs : List Row) (t : Tally) (store store' : List ℕ) → RowsJudged (at sum.occupied) b' packet rs sum.tally t store store'
-    → OfferJudged (at occupied) b' packet rs (OfferAnswer.Judged t) store store'
+    → OfferJudged (at occupied) b' packet rs (Ok t) store store'
 rows_offer at occupied sum e b' packet rs t store store' k =
     let j = subst (λ (x : Judged). RowsJudged (at x.occupied) b' packet rs x.tally t store store') e k in
     record { answer = ap count_numbers j.counts; buffer = j.buffer; store_left = j.store_left }
@@ -128,7 +127,7 @@ module _ (ed : Edition) (b : Buffer) (packet rows store : List ℕ) (h : in_rang
         room = room;
       })
 
-  pub offer_gives : (a : OfferAnswer) (b' : Buffer) (store' : List ℕ) → OfferJudged b b' packet (rows_in (take (row_width * p.rows) rows')) a store store'
+  pub offer_gives : (a : Result Tally Fault) (b' : Buffer) (store' : List ℕ) → OfferJudged b b' packet (rows_in (take (row_width * p.rows) rows')) a store store'
       → record { answer = offer_numbers a; buffer = b'; rows = rows'; store = store' } ≡ offer_call ed b packet rows store
   offer_gives a b' store' j =
       let g : judge_all (decode b) store (received_in packet (rows_in (take (row_width * p.rows) rows'))) ≡ judge_all (decode b) store (received_in packet rs) =

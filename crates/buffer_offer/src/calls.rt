@@ -2,7 +2,6 @@
 ghost use Rattle.std.specs.Prelude.{◌≡◌, true};
 ghost use Rattle.rtp.specs.Editions.{current};
 ghost use Rattle.rtp.specs.Ranges.{in_range};
-ghost use Rattle.rtp.specs.Faults.{fault_at};
 ghost use Rattle.read_rows.specs.Rows.{rows_in};
 ghost use Rattle.buffer_layout.specs.Layout.{assembled};
 ghost use Rattle.buffer_insert.specs.Tallies.{no_tally};
@@ -12,46 +11,21 @@ ghost use Rattle.buffer_offer.specs.Offers.{OfferJudged};
 
 use crate::judging;
 use buffer_insert::tally::Tally;
-use buffer_layout::buffer::{Buffer, Fixed, STORE_SIZE};
+use buffer_layout::buffer::{Answered, Buffer, Fixed, STORE_SIZE};
 use buffer_layout::{buffer, well_formed};
 use read_packet::reading;
-use read_packet::reading::Reading;
 use rtp::refusal::{Fault, Refusal};
 use rtp::settings;
 use rtp::settings::Settings;
 use rtp::sizes::{ROW_AREA, ROW_WIDTH};
 
-#[derive(Clone, Copy)]
-pub enum NewAnswer {
-    Accepted,
-    Refused(Refusal),
-}
-
-#[derive(Clone, Copy)]
-pub struct Fresh {
-    pub answer: NewAnswer,
-    pub buffer: Buffer,
-}
-
-#[derive(Clone, Copy)]
-pub enum OfferAnswer {
-    Judged(Tally),
-    Refused(Fault),
-}
-
-#[derive(Clone, Copy)]
-pub struct Offered {
-    pub answer: OfferAnswer,
-    pub buffer: Buffer,
-}
-
 // A fresh buffer. Settings out of range are refused, and the buffer is all zero.
-pub fn new(settings: Settings) -> Fresh
+pub fn new(settings: Settings) -> Answered<Result<(), Refusal>>
     ensures { record { refusal = new_number result.answer; buffer = result.buffer } ≡ new_call current settings }
 {
     if settings::in_range(settings) {
-        return Fresh {
-            answer: NewAnswer::Accepted,
+        return Answered {
+            answer: Ok(()),
             buffer: buffer::fresh_buffer(settings),
         };
     }
@@ -61,19 +35,7 @@ pub fn new(settings: Settings) -> Fresh
         payload_type: 0,
         redundancy_type: 0,
     };
-    Fresh {
-        answer: NewAnswer::Refused(Refusal::SettingsOutOfRange),
-        buffer: buffer::fresh_buffer(none),
-    }
-}
-
-fn refuse_offer(refusal: Refusal, offset: usize, buffer: Buffer) -> Offered
-    ensures { result ≡ record { answer = OfferAnswer.Refused (fault_at offset refusal); buffer = buffer } }
-{
-    Offered {
-        answer: OfferAnswer::Refused(Fault { refusal, offset }),
-        buffer,
-    }
+    Answered::refused(Refusal::SettingsOutOfRange, buffer::fresh_buffer(none))
 }
 
 // An offer whose packet was read into these rows.
@@ -83,7 +45,7 @@ fn offer_rows(
     packet: &[u8],
     rows: &[u32],
     store: &mut [u8],
-) -> Offered
+) -> Answered<Result<Tally, Fault>>
     requires { RowsJudgeable current (assembled buffer.times buffer.tags buffer.lengths buffer.slots buffer.occupied fixed)
         packet.now (rows_in rows.now) no_tally store.old }
     ensures { OfferJudged (assembled buffer.times buffer.tags buffer.lengths buffer.slots buffer.occupied fixed) result.buffer
@@ -108,8 +70,8 @@ fn offer_rows(
     let next = judged.occupied;
     let tally = judged.tally;
     let settings = fixed.settings;
-    Offered {
-        answer: OfferAnswer::Judged(tally),
+    Answered {
+        answer: Ok(tally),
         buffer: Buffer {
             times,
             tags,
@@ -125,7 +87,12 @@ fn offer_rows(
 }
 
 // An offer under settings in range.
-fn offer_checked(buffer: Buffer, packet: &[u8], rows: &mut [u32], store: &mut [u8]) -> Offered
+fn offer_checked(
+    buffer: Buffer,
+    packet: &[u8],
+    rows: &mut [u32],
+    store: &mut [u8],
+) -> Answered<Result<Tally, Fault>>
     requires { in_range current buffer.settings ≡ true }
     ensures { record { answer = offer_numbers result.answer; buffer = result.buffer; rows = rows.new; store = store.new }
         ≡ offer_call current buffer packet.now rows.old store.old }
@@ -143,20 +110,14 @@ fn offer_checked(buffer: Buffer, packet: &[u8], rows: &mut [u32], store: &mut [u
         settings,
     };
     if !well_formed::well_formed(&times, &tags, &lengths, &slots, occupied, fixed) {
-        return refuse_offer(Refusal::Malformed, 0, buffer);
+        return Answered::refused(Fault::from(Refusal::Malformed), buffer);
     }
-    if rows.len() < ROW_AREA {
-        return refuse_offer(Refusal::AreaTooShort, 0, buffer);
-    }
-    if store.len() < STORE_SIZE {
-        return refuse_offer(Refusal::AreaTooShort, 0, buffer);
+    if rows.len() < ROW_AREA || store.len() < STORE_SIZE {
+        return Answered::refused(Fault::from(Refusal::AreaTooShort), buffer);
     }
     match reading::read(settings, packet, rows) {
-        Reading::Refused(fault) => {
-            let refusal = fault.refusal;
-            refuse_offer(refusal, fault.offset, buffer)
-        }
-        Reading::Read(head) => {
+        Err(fault) => Answered::refused(fault, buffer),
+        Ok(head) => {
             let words = ROW_WIDTH * (head.rows as usize);
             offer_rows(buffer, fixed, packet, &rows[..words], store)
         }
@@ -164,7 +125,12 @@ fn offer_checked(buffer: Buffer, packet: &[u8], rows: &mut [u32], store: &mut [u
 }
 
 // A packet offered: its rows are read into the row area and judged in order; or a refusal, and everything as it stood.
-pub fn offer(buffer: Buffer, packet: &[u8], rows: &mut [u32], store: &mut [u8]) -> Offered
+pub fn offer(
+    buffer: Buffer,
+    packet: &[u8],
+    rows: &mut [u32],
+    store: &mut [u8],
+) -> Answered<Result<Tally, Fault>>
     ensures { record { answer = offer_numbers result.answer; buffer = result.buffer; rows = rows.new; store = store.new }
         ≡ offer_call current buffer packet.now rows.old store.old }
 {
@@ -172,5 +138,5 @@ pub fn offer(buffer: Buffer, packet: &[u8], rows: &mut [u32], store: &mut [u8]) 
     if settings::in_range(settings) {
         return offer_checked(buffer, packet, rows, store);
     }
-    refuse_offer(Refusal::SettingsOutOfRange, 0, buffer)
+    Answered::refused(Fault::from(Refusal::SettingsOutOfRange), buffer)
 }

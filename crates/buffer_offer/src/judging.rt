@@ -12,7 +12,6 @@ ghost use Rattle.buffer_offer.specs.Rows.{first_row, rest_words};
 ghost use Rattle.buffer_offer.specs.Judging.{is_late_of, is_far_of, Judgeable, Timely, JudgedAs, RowsJudgeable, RowsJudged, RowJudged};
 
 use buffer_columns::columns;
-use buffer_columns::columns::Place;
 use buffer_copies::verdict::Verdict;
 use buffer_insert::laying::FrameHead;
 use buffer_insert::tally::Tally;
@@ -25,14 +24,14 @@ use row_tags::tagging;
 use rtp::sizes::ROW_WIDTH;
 
 // The verdict on a frame, and the occupied slots after it.
-#[derive(Clone, Copy)]
+#[derive(Clone, Copy, Debug, PartialEq, Eq)]
 pub struct Step {
     pub verdict: Verdict,
     pub occupied: [u64; 3],
 }
 
 // What judging rows comes to.
-#[derive(Clone, Copy)]
+#[derive(Clone, Copy, Debug, PartialEq, Eq)]
 pub struct Judged {
     pub tally: Tally,
     pub occupied: [u64; 3],
@@ -52,11 +51,9 @@ pub(crate) fn none_judged(occupied: [u64; 3]) -> Judged
 fn is_late(fixed: Fixed, head: FrameHead) -> bool
     ensures { result ≡ is_late_of fixed head }
 {
-    if fixed.drawn == 1 {
-        let channel = tagging::tag_channel(head.tag);
-        return !well_formed::pair_after(head.time, channel, fixed.last_time, fixed.last_channel);
-    }
-    false
+    let channel = tagging::tag_channel(head.tag);
+    fixed.drawn == 1
+        && !well_formed::pair_after(head.time, channel, fixed.last_time, fixed.last_channel)
 }
 
 // Whether nothing was drawn, and the first n times with this one fit in no stretch.
@@ -64,10 +61,7 @@ fn is_far(times: &[u32; SLOTS], n: usize, fixed: Fixed, time: u32) -> bool
     requires { n ≤ slot_count }
     ensures { result ≡ is_far_of times.now n fixed time }
 {
-    if fixed.drawn == 0 {
-        return !columns::in_stretch(times, n, time);
-    }
-    false
+    fixed.drawn == 0 && !columns::in_stretch(times, n, time)
 }
 
 // A frame neither late nor far, laid where its pair is held or belongs.
@@ -94,11 +88,11 @@ fn lay_copy(
     let search = columns::find_place(times, tags, n, head.time, channel);
     let place = search.place;
     match place {
-        Place::FoundAt(at) => Step {
+        Ok(at) => Step {
             verdict: laying::replace_copy(tags, lengths, slots, at, head, frame, store),
             occupied,
         },
-        Place::InsertAt(at) => {
+        Err(at) => {
             if SLOTS <= n {
                 return Step {
                     verdict: Verdict::NoRoom,

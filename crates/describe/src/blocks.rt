@@ -3,7 +3,7 @@ use crate::words;
 use console_text::STDOUT_FILENO;
 use console_text::lines::{Line, NotWritten};
 use read_headers::redundancy;
-use read_headers::redundancy::{BlockHeader, HeadersRead, Redundant};
+use read_headers::redundancy::{BlockHeader, Redundant};
 use rtp::time;
 use std::fmt;
 use std::fmt::Write;
@@ -31,8 +31,8 @@ fn print_redundant(payload_type: u8, timestamp: u32, block: Redundant) -> Result
 // The bytes that are left for the primary block of the payload s.
 fn put_rest(line: &mut Line, s: &[u8]) -> fmt::Result {
     match redundancy::read_headers(s) {
-        HeadersRead::Refused(_) => Ok(()),
-        HeadersRead::Headers(sizes) => {
+        Err(_) => Ok(()),
+        Ok(sizes) => {
             let before = sizes.size.wrapping_add(sizes.redundant);
             if before <= s.len() {
                 return write!(line, ", {}", words::bytes(s.len() - before));
@@ -70,16 +70,16 @@ fn print_block(
     s: &[u8],
 ) -> Result<bool, NotWritten> {
     match redundancy::read_block_header(headers) {
-        BlockHeader::Refused(_) => {
+        Err(_) => {
             let n = words::bytes(headers.len());
             words::print(format_args!("  block header cut off after {n}"))?;
             Ok(false)
         }
-        BlockHeader::Primary(block_type) => {
+        Ok(BlockHeader::Primary(block_type)) => {
             print_primary(payload_type, timestamp, block_type, s)?;
             Ok(false)
         }
-        BlockHeader::Redundant(block) => {
+        Ok(BlockHeader::Redundant(block)) => {
             print_redundant(payload_type, timestamp, block)?;
             Ok(true)
         }

@@ -4,7 +4,6 @@ use console::refusals;
 use console_text::lines::NotWritten;
 use formats::facts;
 use read_packet::reading;
-use read_packet::reading::Reading;
 use read_payload::reading::NO_REQUEST;
 use rtp::refusal::Fault;
 use rtp::settings::Settings;
@@ -41,8 +40,8 @@ fn print_request(format: u8, mode_request: u8) -> Result<(), NotWritten> {
 fn print_reading(settings: Settings, bytes: &[u8]) -> Result<(), NotWritten> {
     let mut rows = zero_rows();
     match reading::read(settings, bytes, &mut rows) {
-        Reading::Refused(fault) => print_refusal(fault, bytes),
-        Reading::Read(answer) => {
+        Err(fault) => print_refusal(fault, bytes),
+        Ok(answer) => {
             print_request(settings.format, answer.mode_request)?;
             frames::print(settings.format, &rows, answer.rows)
         }

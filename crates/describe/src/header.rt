@@ -4,7 +4,7 @@ use console_text::STDOUT_FILENO;
 use console_text::lines::{Line, NotWritten};
 use console_text::words::Count;
 use read_headers::header;
-use read_headers::header::{Header, HeaderRead};
+use read_headers::header::Header;
 use rtp::settings::Settings;
 use std::fmt::Write;
 
@@ -67,8 +67,8 @@ pub(crate) fn print(settings: Settings, bytes: &[u8]) -> Result<(), NotWritten> 
     }
     let first = bytes[0];
     match header::read_header(bytes) {
-        HeaderRead::Refused(_) => Ok(()),
-        HeaderRead::Header(head) => {
+        Err(_) => Ok(()),
+        Ok(head) => {
             print_fields(head)?;
             print_parts(first, bytes.len(), head)?;
             print_blocks(settings, head, bytes)

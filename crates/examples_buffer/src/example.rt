@@ -1,10 +1,9 @@
 // Packets offered to a buffer and frames drawn from it, printed; and packets of interleaved mono, made up.
 use buffer_draw::draws;
-use buffer_draw::draws::{DrawAnswer, DrawnFrame};
+use buffer_draw::draws::DrawnFrame;
 use buffer_insert::tally::Tally;
 use buffer_layout::buffer::{Buffer, SLOT_SIZE, STORE_SIZE};
 use buffer_offer::calls;
-use buffer_offer::calls::OfferAnswer;
 use examples_text::printing::print;
 use row_tags::tagging::PRIMARY;
 use rtp::refusal::Fault;
@@ -35,8 +34,7 @@ fn print_tally(tally: Tally) {
 }
 
 fn print_fault(fault: Fault) {
-    let why = fault.refusal;
-    print(b" refusal ", u32::from(why));
+    print(b" refusal ", u32::from(fault.refusal));
     io::write_all(1, b" offset ");
     io::print_decimal(1, fault.offset as u64);
     io::write_all(1, b"\n");
@@ -48,8 +46,8 @@ pub(crate) fn offer(buffer: Buffer, store: &mut [u8; STORE_SIZE], packet: &[u8])
     let offered = calls::offer(buffer, packet, &mut rows, store);
     let answer = offered.answer;
     match answer {
-        OfferAnswer::Refused(fault) => print_fault(fault),
-        OfferAnswer::Judged(tally) => print_tally(tally),
+        Err(fault) => print_fault(fault),
+        Ok(tally) => print_tally(tally),
     }
     offered.buffer
 }
@@ -77,11 +75,11 @@ fn draw_and_show<F: FnOnce(DrawnFrame, &[u8; SLOT_SIZE])>(
     let drawn = draws::draw(buffer, store, &mut area);
     let answer = drawn.answer;
     match answer {
-        DrawAnswer::Refused(why) => print(b" refusal ", u32::from(why)),
-        DrawAnswer::Empty => {
+        Err(why) => print(b" refusal ", u32::from(why)),
+        Ok(None) => {
             io::write_all(1, b" empty");
         }
-        DrawAnswer::Frame(frame) => show(frame, &area),
+        Ok(Some(frame)) => show(frame, &area),
     }
     drawn.buffer
 }

@@ -2,7 +2,7 @@
 use examples_text::printing::print;
 use examples_text::values::ROOM;
 use read_packet::reading;
-use read_packet::reading::{Packet, Reading};
+use read_packet::reading::Packet;
 use row_tags::tagging;
 use rtp::payload_format::PayloadFormat;
 use rtp::settings::Settings;
@@ -46,14 +46,14 @@ fn print_offset(offset: usize) {
     io::write_all(1, b"\n");
 }
 
-fn print_reading(format: u8, answer: Reading, rows: &[u32; ROW_AREA]) {
+fn print_reading(format: u8, answer: Result<Packet, Fault>, rows: &[u32; ROW_AREA]) {
     match answer {
-        Reading::Refused(fault) => {
+        Err(fault) => {
             let why = fault.refusal;
             print(b"refusal ", u32::from(why));
             print_offset(fault.offset);
         }
-        Reading::Read(packet) => {
+        Ok(packet) => {
             print_header(format, packet);
             print_rows(rows, packet.rows);
         }
@@ -67,7 +67,7 @@ fn read_part(
     size: usize,
     area: &mut [u32],
     words: usize,
-) -> Reading {
+) -> Result<Packet, Fault> {
     let n = size.min(bytes.len());
     let m = words.min(area.len());
     reading::read(settings, &bytes[..n], &mut area[..m])

@@ -1,7 +1,7 @@
 // Lists of frames written and printed.
 use examples_text::printing::print;
 use read_packet::reading;
-use read_packet::reading::{Packet, Reading};
+use read_packet::reading::Packet;
 use row_tags::tagging;
 use rtp::payload_format::PayloadFormat;
 use rtp::settings::Settings;
@@ -96,12 +96,12 @@ fn print_head(format: u8, head: Packet) {
 fn read_back(settings: Settings, packet: &[u8]) {
     let mut rows = [0; ROW_AREA];
     match reading::read(settings, packet, &mut rows) {
-        Reading::Refused(fault) => {
+        Err(fault) => {
             let why = fault.refusal;
             print(b"read back: refusal ", u32::from(why));
             io::write_all(1, b"\n");
         }
-        Reading::Read(head) => {
+        Ok(head) => {
             print_head(settings.format, head);
             print_rows(&rows, head.rows, packet);
         }

@@ -5,10 +5,9 @@ use crate::sources::Sources;
 use crate::totals::Totals;
 use crate::{RECEIVE, logging, printing};
 use buffer_draw::draws;
-use buffer_draw::draws::{DrawAnswer, DrawnFrame};
+use buffer_draw::draws::DrawnFrame;
 use buffer_layout::buffer::{Buffer, SLOT_SIZE, STORE_SIZE};
 use buffer_offer::calls;
-use buffer_offer::calls::{NewAnswer, OfferAnswer};
 use buffer_slots::bits::SLOTS;
 use console::stream;
 use console_text::lines::NotWritten;
@@ -73,7 +72,7 @@ impl State {
         let mut area = [0u8; SLOT_SIZE];
         let drawn = draws::draw(self.buffer, store, &mut area);
         let answer = drawn.answer;
-        if let DrawAnswer::Frame(frame) = answer {
+        if let Ok(Some(frame)) = answer {
             let comes_first = match wanted {
                 Some(wanted) => wanted.all_after(frame.time),
                 None => true,
@@ -116,11 +115,11 @@ impl State {
         self.buffer = offered.buffer;
         self.totals.add_packet(answer);
         match answer {
-            OfferAnswer::Judged(_) => {
+            Ok(_) => {
                 self.sources.add(self.totals.packets, packet);
                 Ok(())
             }
-            OfferAnswer::Refused(fault) => printing::print_fault(
+            Err(fault) => printing::print_fault(
                 self.words(),
                 self.totals.packets,
                 fault,
@@ -177,7 +176,7 @@ pub(crate) fn receive(rt: &impl Input, asked: Settings, log: bool) -> Result<(),
     let fresh = calls::new(asked);
     let answer = fresh.answer;
     match answer {
-        NewAnswer::Accepted => {
+        Ok(()) => {
             let mut state = State {
                 buffer: fresh.buffer,
                 step: frames::step_of(asked.format),
@@ -189,6 +188,6 @@ pub(crate) fn receive(rt: &impl Input, asked: Settings, log: bool) -> Result<(),
             let mut input = rt.reader();
             state.receive_stream(&mut input)
         }
-        NewAnswer::Refused(_) => Ok(()),
+        Err(_) => Ok(()),
     }
 }

@@ -1,14 +1,11 @@
 // Room for a packet's frames. A packet can bring more frames than are free, and even more than the buffer has slots (document 02, P12).
 use buffer_columns::columns;
-use buffer_columns::columns::Place;
 use buffer_copies::order;
-use buffer_copies::order::Side;
 use buffer_layout::buffer::Buffer;
 use buffer_slots::bits;
 use buffer_slots::bits::SLOTS;
 use formats::frames::NO_DATA;
 use read_packet::reading;
-use read_packet::reading::Reading;
 use row_tags::tagging;
 use rtp::settings::Settings;
 use rtp::sizes::{MAX_ROWS, ROW_AREA, ROW_WIDTH};
@@ -23,23 +20,21 @@ pub(crate) struct Wanted {
 // The rows of a packet at the front of the area; answers how many they are, 0 if the packet is refused.
 fn read_rows(settings: Settings, packet: &[u8], rows: &mut [u32; ROW_AREA]) -> usize {
     match reading::read(settings, packet, rows) {
-        Reading::Read(head) => head.rows as usize,
-        Reading::Refused(_) => 0,
+        Ok(head) => head.rows as usize,
+        Err(_) => 0,
     }
 }
 
 fn is_late(buffer: &Buffer, time: u32, channel: u32) -> bool {
-    if buffer.drawn == 0 {
-        return false;
-    }
-    let side = order::side_of(time, channel, buffer.last_time, buffer.last_channel);
-    !matches!(side, Side::After)
+    buffer.drawn != 0
+        && order::side_of(time, channel, buffer.last_time, buffer.last_channel).is_le()
 }
 
 fn is_held(buffer: &Buffer, time: u32, channel: u32) -> bool {
     let n = bits::held_in(buffer.occupied);
-    let search = columns::find_place(&buffer.times, &buffer.tags, n, time, channel);
-    matches!(search.place, Place::FoundAt(_))
+    columns::find_place(&buffer.times, &buffer.tags, n, time, channel)
+        .place
+        .is_ok()
 }
 
 // Whether a row's frame needs a slot.

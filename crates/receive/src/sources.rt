@@ -1,7 +1,7 @@
 // The sources (SSRC) of the packets that were read.
 use crate::printing;
 use read_headers::header;
-use read_headers::header::{Header, HeaderRead};
+use read_headers::header::Header;
 use report::calls;
 use report::record::Reception;
 
@@ -44,9 +44,8 @@ impl Sources {
 
     // A packet that was read, the one of this number.
     pub(crate) fn add(&mut self, number: u64, packet: &[u8]) {
-        match header::read_header(packet) {
-            HeaderRead::Refused(_) => {}
-            HeaderRead::Header(head) => self.add_header(number, head),
+        if let Ok(head) = header::read_header(packet) {
+            self.add_header(number, head);
         }
     }
 }

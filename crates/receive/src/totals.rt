@@ -1,8 +1,7 @@
 // What was counted over the whole stream.
 use buffer_insert::tally::Tally;
-use buffer_offer::calls::OfferAnswer;
 use row_tags::tagging::PRIMARY;
-use rtp::refusal::Refusal;
+use rtp::refusal::{Fault, Refusal};
 
 // Refusal numbers are below this.
 const REFUSALS: usize = 16;
@@ -63,11 +62,11 @@ impl Totals {
     }
 
     // The answer to one more packet.
-    pub(crate) fn add_packet(&mut self, answer: OfferAnswer) {
+    pub(crate) fn add_packet(&mut self, answer: Result<Tally, Fault>) {
         add(&mut self.packets, 1);
         match answer {
-            OfferAnswer::Judged(tally) => self.add_tally(tally),
-            OfferAnswer::Refused(fault) => self.add_refusal(fault.refusal),
+            Ok(tally) => self.add_tally(tally),
+            Err(fault) => self.add_refusal(fault.refusal),
         }
     }
 

@@ -8,7 +8,6 @@ use Rattle.buffer_offer.specs.declared.judging.Judged.{Judged}
 use Rattle.buffer_layout.specs.Layout.{assembled}
 use Rattle.buffer_offer.specs.Judging.{RowsJudgeable}
 use Rattle.buffer_offer.proofs.OfferLaws.{rows_offer}
-use borrow.Author.Rules.{rules}
 use Rattle.buffer_offer.proofs.calls.offer_rows.Goals as goal
 
 pub returns : goal.returns

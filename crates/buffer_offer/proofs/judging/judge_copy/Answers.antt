@@ -1,14 +1,11 @@
 use mathlib.Core.Path.{◌≡◌, sym, ◌∙◌}
 use mathlib.Core.Bool.{false}
 use Rattle.rtp.specs.Editions.{current}
-use Rattle.buffer_copies.specs.Copies.{Copy}
 use Rattle.buffer_copies.specs.Verdicts.{is_late, is_far}
-use Rattle.buffer_layout.specs.declared.buffer.Buffer.{Buffer}
 use Rattle.buffer_layout.specs.Layout.{decode, assembled}
 use Rattle.buffer_insert.specs.Laying.{copy_in}
 use Rattle.buffer_offer.specs.Judging.{Judgeable}
 use Rattle.buffer_offer.proofs.VerdictLaws.{step_late, far_is, step_far}
-use borrow.Author.Rules.{rules}
 use Rattle.buffer_offer.proofs.judging.judge_copy.Goals.{After-is_far, Else-is_late}
 use Rattle.buffer_offer.proofs.judging.judge_copy.Goals as goal
 

@@ -7,13 +7,10 @@ use Rattle.rtp.specs.Editions.{current}
 use Rattle.formats.specs.Frames.{no_data}
 use Rattle.row_tags.specs.Tags.{tag_class}
 use Rattle.read_rows.specs.Rows.{Row, rows_in}
-use Rattle.buffer_layout.specs.declared.buffer.Buffer.{Buffer}
-use Rattle.buffer_insert.specs.declared.laying.FrameHead.{FrameHead}
 use Rattle.buffer_layout.specs.Layout.{assembled}
 use Rattle.buffer_offer.specs.Rows.{first_row, rest_words}
 use Rattle.buffer_offer.specs.Judging.{RowsJudgeable}
 use Rattle.buffer_offer.proofs.RowStepLaws.{rows_split, skip_asks, skip_gives, copy_asks, next_asks, next_gives}
-use borrow.Author.Rules.{rules}
 use Rattle.buffer_offer.proofs.judging.judge_row.Goals.{Else-tag_class-eq0}
 use Rattle.buffer_offer.proofs.judging.judge_row.Goals as goal
 

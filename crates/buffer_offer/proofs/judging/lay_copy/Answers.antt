@@ -5,8 +5,6 @@ use mir.Syntax.{w32}
 use lib.ListN.{length}
 use Rattle.rtp.specs.Editions.{current}
 use Rattle.buffer_copies.specs.Sizes.{slot_size}
-use Rattle.buffer_layout.specs.declared.buffer.Buffer.{Buffer}
-use Rattle.buffer_columns.specs.declared.columns.Place.{Place}
 use Rattle.buffer_columns.specs.Places.{Parted, place_from}
 use Rattle.buffer_layout.specs.Layout.{assembled}
 use Rattle.buffer_insert.specs.Laying.{class_in, channel_in, copy_in}
@@ -34,23 +32,23 @@ pub returns-then-n-ge-SLOTS : goal.returns-then-n-ge-SLOTS
 returns-then-n-ge-SLOTS c g t =
     let a = c.args in
     step_full ((let a = c.args in assembled a.times.now a.tags.now a.lengths.now a.slots.now a.occupied a.fixed)) g.machine g.fine a.head a.frame.now a.store.now t.not_late a.n c.requires.0
-    c.in-InsertAt.at (sym c.in-InsertAt.is ∙ found_at (goal.at.returns-then-n-ge-SLOTS c).After-find_place-search g t) t.not_far c.if-n-ge-SLOTS.true
+    c.in-Err.at (sym c.in-Err.is ∙ found_at (goal.at.returns-then-n-ge-SLOTS c).After-find_place-search g t) t.not_far c.if-n-ge-SLOTS.true
 
-pub returns-in-FoundAt : goal.returns-in-FoundAt
-returns-in-FoundAt c g t =
+pub returns-in-Ok : goal.returns-in-Ok
+returns-in-Ok c g t =
     let short-at : (let a = c.args in Judgeable current ((let a = c.args in assembled a.times.now a.tags.now a.lengths.now a.slots.now a.occupied a.fixed)) a.head a.frame.now a.store.now) → length c.args.frame.now ≤ slot_size = λ g. let a = c.args in (allowed_frame a.fixed.settings.format (class_in a.head) (length a.frame.now) g.class).1 in
     let a = c.args in
-    let q = sym c.in-FoundAt.is ∙ found_at (goal.at.returns-in-FoundAt c).After-find_place-search g t in
-    step_found ((let a = c.args in assembled a.times.now a.tags.now a.lengths.now a.slots.now a.occupied a.fixed)) g.machine g.fine a.head a.frame.now a.store.now t.not_late a.n c.requires.0 c.in-FoundAt.at q t.not_far _ _ _ _
+    let q = sym c.in-Ok.is ∙ found_at (goal.at.returns-in-Ok c).After-find_place-search g t in
+    step_found ((let a = c.args in assembled a.times.now a.tags.now a.lengths.now a.slots.now a.occupied a.fixed)) g.machine g.fine a.head a.frame.now a.store.now t.not_late a.n c.requires.0 c.in-Ok.at q t.not_far _ _ _ _
     (c.replace_copy.ensures.replaced
-    (held_at ((let a = c.args in assembled a.times.now a.tags.now a.lengths.now a.slots.now a.occupied a.fixed)) g.machine g.fine a.head a.frame.now a.store.now t.not_late a.n c.requires.0 c.in-FoundAt.at q (short-at g) g.room))
+    (held_at ((let a = c.args in assembled a.times.now a.tags.now a.lengths.now a.slots.now a.occupied a.fixed)) g.machine g.fine a.head a.frame.now a.store.now t.not_late a.n c.requires.0 c.in-Ok.at q (short-at g) g.room))
 
 pub returns-else-n-ge-SLOTS : goal.returns-else-n-ge-SLOTS
 returns-else-n-ge-SLOTS c g t =
     let short-at : (let a = c.args in Judgeable current ((let a = c.args in assembled a.times.now a.tags.now a.lengths.now a.slots.now a.occupied a.fixed)) a.head a.frame.now a.store.now) → length c.args.frame.now ≤ slot_size = λ g. let a = c.args in (allowed_frame a.fixed.settings.format (class_in a.head) (length a.frame.now) g.class).1 in
     let a = c.args in
-    let q = sym c.in-InsertAt.is ∙ found_at (goal.at.returns-else-n-ge-SLOTS c).After-find_place-search g t in
+    let q = sym c.in-Err.is ∙ found_at (goal.at.returns-else-n-ge-SLOTS c).After-find_place-search g t in
     let l = c.if-n-ge-SLOTS.false in
-    step_new ((let a = c.args in assembled a.times.now a.tags.now a.lengths.now a.slots.now a.occupied a.fixed)) g.machine g.fine a.head a.frame.now a.store.now t.not_late a.n c.requires.0 c.in-InsertAt.at q l t.not_far _ _ _ _ _ _
+    step_new ((let a = c.args in assembled a.times.now a.tags.now a.lengths.now a.slots.now a.occupied a.fixed)) g.machine g.fine a.head a.frame.now a.store.now t.not_late a.n c.requires.0 c.in-Err.at q l t.not_far _ _ _ _ _ _
     (c.insert_copy-next.ensures.laid
-    (free_at ((let a = c.args in assembled a.times.now a.tags.now a.lengths.now a.slots.now a.occupied a.fixed)) g.machine g.fine a.head a.frame.now a.store.now t.not_late a.n c.requires.0 c.in-InsertAt.at q l (short-at g) g.room))
+    (free_at ((let a = c.args in assembled a.times.now a.tags.now a.lengths.now a.slots.now a.occupied a.fixed)) g.machine g.fine a.head a.frame.now a.store.now t.not_late a.n c.requires.0 c.in-Err.at q l (short-at g) g.room))

@@ -1,7 +1,6 @@
 use mathlib.Core.Path.{ap}
 use mathlib.Core.List.{List}
 use Prim.Native.Nat.{ℕ}
-use borrow.Author.Rules.{rules}
 use Rattle.buffer_insert.specs.declared.tally.Tally.{Tally}
 use Rattle.buffer_offer.specs.declared.judging.Judged.{Judged}
 use Rattle.buffer_offer.proofs.judging.none_judged.Goals as goal
