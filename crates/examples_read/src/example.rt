@@ -5,6 +5,7 @@ use read_packet::reading;
 use read_packet::reading::Packet;
 use row_tags::tagging;
 use rtp::payload_format::PayloadFormat;
+use rtp::refusal::Fault;
 use rtp::settings::Settings;
 use rtp::sizes::{ROW_AREA, ROW_WIDTH};
 
