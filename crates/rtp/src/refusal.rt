@@ -71,15 +71,24 @@ impl From<Refusal> for Fault {
     }
 }
 
+impl Fault {
+    // The fault as seen from so many bytes before.
+    pub fn shifted(self, by: usize) -> Fault
+        ensures { by + self.offset < 2 ^ 64 → result ≡ shifted by self }
+    {
+        Fault {
+            refusal: self.refusal,
+            offset: self.offset.saturating_add(by),
+        }
+    }
+}
+
 // What is said of a part that stands so many bytes on, as seen from the front of the whole.
 pub fn shifted<T>(answer: Result<T, Fault>, by: usize) -> Result<T, Fault>
     ensures { MatchResult answer (λ x. result ≡ Ok x) (λ fault. by + fault.offset < 2 ^ 64 → result ≡ Err (shifted by fault)) }
 {
     match answer {
         Ok(value) => Ok(value),
-        Err(fault) => Err(Fault {
-            refusal: fault.refusal,
-            offset: fault.offset.saturating_add(by),
-        }),
+        Err(fault) => Err(fault.shifted(by)),
     }
 }
