@@ -29,12 +29,7 @@ pub fn new(settings: Settings) -> Answered<Result<(), Refusal>>
             buffer: buffer::fresh_buffer(settings),
         };
     }
-    let none = Settings {
-        format: 0,
-        channels: 0,
-        payload_type: 0,
-        redundancy_type: 0,
-    };
+    let none = Settings::default();
     Answered::refused(Refusal::SettingsOutOfRange, buffer::fresh_buffer(none))
 }
 

@@ -2,7 +2,7 @@
 ghost use Rattle.std.specs.Prelude.{◌≡◌, ◌+◌, ◌≤◌, length};
 ghost use Rattle.rtp.specs.Editions.{current};
 ghost use Rattle.log_fields.specs.Fields.{head_size, first_size, settings_in};
-ghost use Rattle.log_walk.specs.Opening.{settings_field, opening, no_cursor, open_numbers, open_call};
+ghost use Rattle.log_walk.specs.Opening.{settings_field, opening, open_numbers, open_call};
 
 use log_fields::fields;
 use log_fields::fields::{FIRST_SIZE, Field, SETTINGS_SIZE, SETTINGS_TAG};
@@ -12,7 +12,7 @@ use rtp::settings::Settings;
 
 // What the log reader's record keeps beside the log: settings, the place of the next field, and the number of frames shown.
 #[repr(C)]
-#[derive(Clone, Copy)]
+#[derive(Clone, Copy, Debug, Default, PartialEq, Eq)]
 pub struct Cursor {
     pub settings: Settings,
     pub place: usize,
@@ -20,7 +20,7 @@ pub struct Cursor {
 }
 
 // What a call answers, and the record that it leaves.
-#[derive(Clone, Copy)]
+#[derive(Clone, Copy, Debug, PartialEq, Eq)]
 pub struct Answered<A> {
     pub answer: A,
     pub cursor: Cursor,
@@ -75,22 +75,6 @@ fn first_field(s: &[u8]) -> Result<Settings, Refusal>
     }
 }
 
-// The record before any first field, and after a refused one.
-fn no_cursor() -> Cursor
-    ensures { result ≡ no_cursor }
-{
-    Cursor {
-        settings: Settings {
-            format: 0,
-            channels: 0,
-            payload_type: 0,
-            redundancy_type: 0,
-        },
-        place: 0,
-        count: 0,
-    }
-}
-
 // Opens a log: the record behind its settings, or a refusal and a record of zeros.
 pub fn open(log: &[u8]) -> Answered<Result<Settings, Refusal>>
     ensures { record { answer = open_numbers result.answer; cursor = result.cursor } ≡ open_call current log.now }
@@ -106,7 +90,7 @@ pub fn open(log: &[u8]) -> Answered<Result<Settings, Refusal>>
         },
         Err(refusal) => Answered {
             answer: Err(refusal),
-            cursor: no_cursor(),
+            cursor: Cursor::default(),
         },
     }
 }

@@ -14,7 +14,7 @@ pub const NO_REDUNDANCY: u8 = 128;
 
 // Laid out as C's hsp_settings.
 #[repr(C)]
-#[derive(Clone, Copy, Debug, PartialEq, Eq)]
+#[derive(Clone, Copy, Debug, PartialEq, Eq, Default)]
 pub struct Settings {
     pub format: u8,
     pub channels: u8,
