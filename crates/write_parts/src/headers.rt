@@ -14,27 +14,10 @@ fn second_byte(marker: u8, packet_type: u8) -> u8
     ensures { result ≡ marker_bit marker + packet_type }
 {
     if marker == 0 {
-        return packet_type;
+        packet_type
+    } else {
+        128 + packet_type
     }
-    128 + packet_type
-}
-
-// A timestamp and a source.
-fn put_stamps(out: &mut [u8], time: u32, source: u32)
-    requires { 8 ≤ length out.old }
-    ensures { out.new ≡ over (four time ++ four source) out.old }
-{
-    bytes::put_u32(out, time);
-    bytes::put_u32(&mut out[4..], source);
-}
-
-// A sequence number before them.
-fn put_fields(out: &mut [u8], sequence: u16, time: u32, source: u32)
-    requires { 10 ≤ length out.old }
-    ensures { out.new ≡ over (two sequence ++ (four time ++ four source)) out.old }
-{
-    bytes::put_u16(out, sequence);
-    put_stamps(&mut out[2..], time, source);
 }
 
 // The twelve bytes of a header with no CC, X or P; a type of more than 7 bits or an area too short leaves the area as it stood.
@@ -57,7 +40,9 @@ pub fn put_header(
     }
     out[0] = 128;
     out[1] = second_byte(marker, packet_type);
-    put_fields(&mut out[2..], sequence, time, source);
+    bytes::put_u16(&mut out[2..], sequence);
+    bytes::put_u32(&mut out[4..], time);
+    bytes::put_u32(&mut out[8..], source);
 }
 
 // The four bytes of a redundant block's header; numbers of too many bits or an area too short leave the area as it stood.
