@@ -28,8 +28,8 @@ returns c =
     let b = c.second_byte.result in
     let long = c.if-out-lt-MIN_PACKET.false in
     let front = over_two l 128 b (omega (arith, long)) in
-    let numbered = fitted_part (128 ∷ b ∷ []) (two a.sequence) l _ _ 2 refl (omega (arith, long)) front c.put_u16.ensures in
-    let stamped = fitted_part (128 ∷ b ∷ two a.sequence) (four a.time) l _ _ 4 refl (omega (arith, long)) numbered c.put_u32.ensures in
-    fitted_part (128 ∷ b ∷ (two a.sequence ++ four a.time)) (four a.source) l _ _ 8 refl (omega (arith, long)) stamped c.put_u32-2.ensures
-    ∙ ap (λ (n : ℕ). over (128 ∷ n ∷ (two a.sequence ++ (four a.time ++ four a.source))) l) c.second_byte.ensures
-    ∙ sym (header_in (record { marker = a.marker; sequence = a.sequence; source = a.source }) a.packet_type a.time l (omega (arith, c.if-packet_type-gt127.false)) long)
+    let numbered = fitted_part (128 ∷ b ∷ []) (two a.heading.sequence) l _ _ 2 refl (omega (arith, long)) front c.put_u16.ensures in
+    let stamped = fitted_part (128 ∷ b ∷ two a.heading.sequence) (four a.time) l _ _ 4 refl (omega (arith, long)) numbered c.put_u32.ensures in
+    fitted_part (128 ∷ b ∷ (two a.heading.sequence ++ four a.time)) (four a.heading.source) l _ _ 8 refl (omega (arith, long)) stamped c.put_u32-2.ensures
+    ∙ ap (λ (n : ℕ). over (128 ∷ n ∷ (two a.heading.sequence ++ (four a.time ++ four a.heading.source))) l) c.second_byte.ensures
+    ∙ sym (header_in a.heading a.packet_type a.time l (omega (arith, c.if-packet_type-gt127.false)) long)
