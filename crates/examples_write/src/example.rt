@@ -2,11 +2,11 @@
 use read_packet::reading;
 use read_packet::reading::{Packet, Reading};
 use row_tags::tagging;
+use rtp::refusal::Refusal;
 use rtp::settings::{AMR, Settings};
 use rtp::sizes::{MAX_PACKET, MAX_ROWS, ROW_AREA};
 use write_packet::packets;
 use write_payload::writing;
-use write_sizes::measuring::Written;
 
 fn print(text: &[u8], value: u32) {
     io::write_all(1, text);
@@ -54,14 +54,14 @@ fn print_bytes(bytes: &[u8], n: usize) {
 }
 
 // The bytes written, or the refusal.
-fn show(written: Written, bytes: &[u8]) -> usize {
+fn show(written: Result<usize, Refusal>, bytes: &[u8]) -> usize {
     match written {
-        Written::Refused(why) => {
+        Err(why) => {
             print(b"refusal ", u32::from(why));
             io::write_all(1, b"\n");
             0
         }
-        Written::Bytes(n) => {
+        Ok(n) => {
             io::print_decimal(1, n as u64);
             io::write_all(1, b" bytes ");
             print_bytes(bytes, n);

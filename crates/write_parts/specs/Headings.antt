@@ -3,7 +3,7 @@ use Rattle.std.specs.Prelude.{ℕ, ◌+◌, ◌*◌, ◌/◌, ◌%◌, List, [],
 use Rattle.rtp.specs.Numbers.{two, four}
 use Rattle.rtp.specs.Areas.{fitted}
 use Rattle.write_parts.specs.Parts.{max_offset, max_block}
-pub use Rattle.write_parts.specs.declared.headers.Heading.{Heading}
+use Rattle.write_parts.specs.declared.headers.Heading.{Heading}
 
 abbrev pub marker_bit : ℕ → ℕ
 marker_bit m = cond (eqb m 0) 0 128
