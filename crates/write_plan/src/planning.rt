@@ -6,7 +6,7 @@ ghost use Rattle.formats.specs.Formats.{format_of, step_of, max_gap};
 ghost use Rattle.write_plan.specs.Entries.{first_blocks};
 ghost use Rattle.write_plan.specs.Lists.{rows_in};
 ghost use Rattle.write_plan.specs.Plans.{ticks_after, gap_between, next_channel, starts, continues, follows, joins_run, plan_from, plan};
-ghost use Rattle.write_plan.specs.Room.{row_as, run_size, plan_answer, attach_plan, attached, Attachable, list_plan_numbers, list_numbers};
+ghost use Rattle.write_plan.specs.Room.{row_as, run_size, plan_answer, single_plan, attach_plan, attached, Attachable, list_plan_numbers, list_numbers};
 
 use crate::lists;
 use crate::lists::RowWords;
@@ -143,6 +143,21 @@ fn run_size(format: u8, blocks: usize) -> usize
     first + entries::entry_size(format, blocks - FIRST_PART)
 }
 
+// The plan of one frame-block by itself, whose frames take so many bytes.
+fn single_block(format: u8, row: RowWords, gap: u32, frames: usize) -> Plan
+    ensures { result ≡ single_plan format (row_as row) gap frames }
+{
+    Plan {
+        class: tagging::tag_class(row.tag),
+        length: row.length,
+        gap,
+        blocks: 1,
+        run: run_size(format, 1),
+        others: 0,
+        frames,
+    }
+}
+
 // A frame-block before a plan, or before no run at all; none where the run cannot follow it.
 fn attach_block(
     format: u8,
@@ -154,20 +169,9 @@ fn attach_block(
     requires { Attachable current format channels (row_as row) (Some rest) }
     ensures { attached result ≡ attach_plan format channels (row_as row) gap (Some rest) }
 {
-    let class = tagging::tag_class(row.tag);
-    let length = row.length;
-    let frames = (channels as usize) * (length as usize);
-    let single = Plan {
-        class,
-        length,
-        gap,
-        blocks: 1,
-        run: run_size(format, 1),
-        others: 0,
-        frames,
-    };
+    let frames = (channels as usize) * (row.length as usize);
     let Some(plan) = rest else {
-        return Some(single);
+        return Some(single_block(format, row, gap, frames));
     };
     let frames = frames + plan.frames;
     if joins_run(format, row, plan.class, plan.length, plan.gap) {
@@ -183,11 +187,8 @@ fn attach_block(
     }
     if plan.gap <= max_gap(format) {
         let others = plan.run + plan.others;
-        return Some(Plan {
-            others,
-            frames,
-            ..single
-        });
+        let single = single_block(format, row, gap, frames);
+        return Some(Plan { others, ..single });
     }
     None
 }

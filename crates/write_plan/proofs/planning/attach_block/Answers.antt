@@ -47,9 +47,13 @@ pub returns-then-joins_run : goal.returns-then-joins_run
 returns-then-joins_run c =
     simp (c.in-Some.is, ← c.joins_run.ensures, c.if-joins_run.true, ← c.run_size-run.ensures)
 
+pub returns-in_default : goal.returns-in_default
+returns-in_default c =
+    simp (c.in_default.is, c.single_block.ensures)
+
 pub returns-then-plan-max_gap : goal.returns-then-plan-max_gap
 returns-then-plan-max_gap c =
-    simp (c.in-Some.is, c.tag_class-class.ensures, ← c.joins_run.ensures, c.if-joins_run.false, le-leb _ _ (near_at (goal.at.returns-then-plan-max_gap c).Then-plan-max_gap), ← c.run_size.ensures)
+    simp (c.in-Some.is, c.single_block-single.ensures, ← c.joins_run.ensures, c.if-joins_run.false, le-leb _ _ (near_at (goal.at.returns-then-plan-max_gap c).Then-plan-max_gap))
 
 pub returns : goal.returns
 returns c =
