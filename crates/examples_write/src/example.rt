@@ -4,11 +4,11 @@ use read_packet::reading;
 use read_packet::reading::Packet;
 use row_tags::tagging;
 use rtp::payload_format::PayloadFormat;
+use rtp::refusal::Refusal;
 use rtp::settings::Settings;
 use rtp::sizes::{MAX_PACKET, ROW_AREA, ROW_WIDTH};
 use write_packet::packets;
 use write_payload::writing;
-use write_sizes::measuring::Written;
 
 // The frames' bytes: each its own place modulo 251.
 const FRAME_BYTES: usize = 512;
@@ -29,14 +29,14 @@ fn print_bytes(bytes: &[u8], n: usize) {
 }
 
 // The bytes written, or the refusal; answers those bytes.
-fn show(written: Written, bytes: &[u8]) -> Option<&[u8]> {
+fn show(written: Result<usize, Refusal>, bytes: &[u8]) -> Option<&[u8]> {
     match written {
-        Written::Refused(why) => {
+        Err(why) => {
             print(b"refusal ", u32::from(why));
             io::write_all(1, b"\n");
             None
         }
-        Written::Bytes(n) => {
+        Ok(n) => {
             io::print_decimal(1, n as u64);
             io::write_all(1, b" bytes ");
             print_bytes(bytes, n);

@@ -14,7 +14,8 @@ use Rattle.read_headers.specs.declared.header.Header.{Header}
 use Rattle.rtp.proofs.TestLaws.{by-test}
 use Rattle.rtp.proofs.ByteLaws.{two_back, four_back}
 use Rattle.read_packet.specs.Readings.{payload_in}
-use Rattle.write_parts.specs.Headings.{Heading, marker_bit, header_bytes}
+use Rattle.write_parts.specs.Headings.{marker_bit, header_bytes}
+use Rattle.write_parts.specs.declared.headers.Heading.{Heading}
 
 marker_back : (m type : ℕ) → type < 128 → (marker_bit m + type) / 128 ≡ marker_bit m / 128
 marker_back m type h = by-test (eqb m 0) (λ a. rw a (omega arith)) (λ a. rw a (omega arith))

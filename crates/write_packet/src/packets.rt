@@ -12,11 +12,11 @@ ghost use Rattle.write_packet.specs.Room.{list_bytes, lists_payloads, list_heade
 use rtp::refusal::Refusal;
 use rtp::settings::Settings;
 use rtp::sizes::MIN_PACKET;
+use write_parts::headers::Heading;
 use write_parts::{headers, sizes};
 use write_payload::writing;
 use write_plan::lists;
 use write_sizes::asking;
-use write_sizes::measuring::Written;
 
 // A list's payload; answers its bytes.
 fn put_list(asked: Settings, mode_request: u8, rows: &[u32], bytes: &[u8], out: &mut [u8]) -> usize
@@ -24,10 +24,8 @@ fn put_list(asked: Settings, mode_request: u8, rows: &[u32], bytes: &[u8], out: 
     ensures { (result ≡ length (list_bytes current asked mode_request bytes.now rows.now))
         × (out.new ≡ over (list_bytes current asked mode_request bytes.now rows.now) out.old) }
 {
-    match writing::write_payload(asked, mode_request, rows, bytes, out) {
-        Written::Bytes(size) => size,
-        Written::Refused(_) => 0,
-    }
+    let written = writing::write_payload(asked, mode_request, rows, bytes, out);
+    written.unwrap_or(0)
 }
 
 // A redundant list: its block header at the front of the area, its payload at `start`; answers the payload's bytes.
@@ -90,27 +88,25 @@ fn put_blocks(
 fn put_packet(
     asked: Settings,
     mode_request: u8,
-    marker: u8,
-    sequence: u16,
-    source: u32,
+    heading: Heading,
     time: u32,
     counts: &[u32],
     rows: &[u32],
     bytes: &[u8],
     out: &mut [u8],
 )
-    requires { PacketRoom current asked mode_request (record { marker = marker; sequence = sequence; source = source }) time bytes.now counts.now rows.now
+    requires { PacketRoom current asked mode_request heading time bytes.now counts.now rows.now
         (length out.old) }
     ensures { out.new ≡
-        over (encoded_bytes (assembled_from asked (record { marker = marker; sequence = sequence; source = source }) time
+        over (encoded_bytes (assembled_from asked heading time
         (parts current asked mode_request bytes.now time counts.now (rows_in rows.now)))) out.old }
 {
     if counts.len() < 2 {
-        headers::put_header(out, marker, sequence, source, asked.payload_type, time);
+        headers::put_header(out, heading, asked.payload_type, time);
         put_list(asked, mode_request, rows, bytes, &mut out[MIN_PACKET..]);
         return;
     }
-    headers::put_header(out, marker, sequence, source, asked.redundancy_type, time);
+    headers::put_header(out, heading, asked.redundancy_type, time);
     put_blocks(
         asked,
         mode_request,
@@ -134,7 +130,7 @@ pub fn write_packet(
     rows: &[u32],
     bytes: &[u8],
     out: &mut [u8],
-) -> Written
+) -> Result<usize, Refusal>
     ensures { (written_numbers result ≡
         encoded_numbers (sending current asked mode_request (record { marker = marker; sequence = sequence; source = source }) counts.now rows.now
         bytes.now (length out.old)))
@@ -142,37 +138,27 @@ pub fn write_packet(
         (encoded_bytes (sending current asked mode_request (record { marker = marker; sequence = sequence; source = source }) counts.now rows.now
         bytes.now (length out.old))) out.old) }
 {
-    if asking::in_range(asked, mode_request) {
-        if lists::any_outside(rows, bytes.len()) {
-            return Written::Refused(Refusal::RowOutsideBytes);
-        }
-        if sizes::counts_fit(counts, rows) {
-            let time = sizes::primary_time(counts, rows);
-            match sizes::packet_size(asked, time, counts, rows) {
-                Written::Refused(_) => Written::Refused(Refusal::Unwritable),
-                Written::Bytes(size) => {
-                    if out.len() < size {
-                        return Written::Refused(Refusal::AreaTooShort);
-                    }
-                    put_packet(
-                        asked,
-                        mode_request,
-                        marker,
-                        sequence,
-                        source,
-                        time,
-                        counts,
-                        rows,
-                        bytes,
-                        out,
-                    );
-                    Written::Bytes(size)
-                }
-            }
-        } else {
-            Written::Refused(Refusal::Unwritable)
-        }
-    } else {
-        Written::Refused(Refusal::SettingsOutOfRange)
+    if !asking::in_range(asked, mode_request) {
+        return Err(Refusal::SettingsOutOfRange);
     }
+    if lists::any_outside(rows, bytes.len()) {
+        return Err(Refusal::RowOutsideBytes);
+    }
+    if !sizes::counts_fit(counts, rows) {
+        return Err(Refusal::Unwritable);
+    }
+    let time = sizes::primary_time(counts, rows);
+    let Ok(size) = sizes::packet_size(asked, time, counts, rows) else {
+        return Err(Refusal::Unwritable);
+    };
+    if out.len() < size {
+        return Err(Refusal::AreaTooShort);
+    }
+    let heading = Heading {
+        marker,
+        sequence,
+        source,
+    };
+    put_packet(asked, mode_request, heading, time, counts, rows, bytes, out);
+    Ok(size)
 }

@@ -15,10 +15,8 @@ use rtp::refusal::Refusal;
 use rtp::settings::Settings;
 use rtp::sizes::ROW_WIDTH;
 use rtp::time;
-use write_plan::planning::ListPlan;
 use write_plan::{lists, planning};
 use write_sizes::asking;
-use write_sizes::measuring::Written;
 
 // A planned list, whose table takes so many bytes: its table, then its frames.
 fn put_list(format: u8, channels: usize, table: usize, rows: &[u32], bytes: &[u8], out: &mut [u8])
@@ -58,40 +56,35 @@ pub fn write_payload(
     rows: &[u32],
     bytes: &[u8],
     out: &mut [u8],
-) -> Written
+) -> Result<usize, Refusal>
     ensures { (written_numbers result ≡
         encoded_numbers (writing current asked mode_request rows.now bytes.now (length out.old)))
         × (out.new ≡ over
         (encoded_bytes (writing current asked mode_request rows.now bytes.now (length out.old))) out.old) }
 {
-    if asking::in_range(asked, mode_request) {
-        if lists::any_outside(rows, bytes.len()) {
-            return Written::Refused(Refusal::RowOutsideBytes);
-        }
-        if rows.len() % ROW_WIDTH == 0 {
-            match planning::plan_list(asked.format, asked.channels, rows) {
-                ListPlan::Unwritable => Written::Refused(Refusal::Unwritable),
-                ListPlan::Fits(sizes) => {
-                    let size = sizes.payload;
-                    if out.len() < size {
-                        return Written::Refused(Refusal::AreaTooShort);
-                    }
-                    put_payload(
-                        asked.format,
-                        mode_request,
-                        asked.channels as usize,
-                        sizes.table,
-                        rows,
-                        bytes,
-                        out,
-                    );
-                    Written::Bytes(size)
-                }
-            }
-        } else {
-            Written::Refused(Refusal::Unwritable)
-        }
-    } else {
-        Written::Refused(Refusal::SettingsOutOfRange)
+    if !asking::in_range(asked, mode_request) {
+        return Err(Refusal::SettingsOutOfRange);
     }
+    if lists::any_outside(rows, bytes.len()) {
+        return Err(Refusal::RowOutsideBytes);
+    }
+    if rows.len() % ROW_WIDTH != 0 {
+        return Err(Refusal::Unwritable);
+    }
+    let plan = planning::plan_list(asked.format, asked.channels, rows);
+    let sizes = plan.ok_or(Refusal::Unwritable)?;
+    let size = sizes.payload;
+    if out.len() < size {
+        return Err(Refusal::AreaTooShort);
+    }
+    put_payload(
+        asked.format,
+        mode_request,
+        asked.channels as usize,
+        sizes.table,
+        rows,
+        bytes,
+        out,
+    );
+    Ok(size)
 }
