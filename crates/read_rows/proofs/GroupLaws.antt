@@ -18,20 +18,19 @@ pub size_more : (format m n : ℕ) → m ≤ n → entry_size format m ≤ entry
 unfolding entry_size gaps_size
 size_more format m n h = by-test (format_of format).displaced (λ a. rw a (omega arith)) (λ a. rw a (omega arith))
 
-module _ (k n ch class start len area : ℕ) (r : GroupRoom k n ch class start len area) (h : n ≡ 0 → ⊥) where
+module _ (k n ch start len area : ℕ) (r : GroupRoom k n ch start len area) (h : n ≡ 0 → ⊥) where
   pub group_area : row_width * ch ≤ area
   group_area = omega (arith, one_more n ch h)
 
   pub group_frames : start + ch * len < 2 ^ 32
   group_frames = omega (arith, one_more_frames n ch len h)
 
-  pub group_block : BlockRoom ch 0 class start len area
-  group_block = record { area_fits = group_area; kinds = r.kinds; channels = omega arith; frames_fit = group_frames }
+  pub group_block : BlockRoom ch 0 start len area
+  group_block = record { area_fits = group_area; channels = omega arith; frames_fit = group_frames }
 
-  pub group_next : GroupRoom (k + 1) (n - 1) ch class (start + ch * len) len (area - row_width * ch)
+  pub group_next : GroupRoom (k + 1) (n - 1) ch (start + ch * len) len (area - row_width * ch)
   group_next = record {
     area_fits = omega (arith, one_more n ch h);
-    kinds = r.kinds;
     channels = r.channels;
     frames_fit = omega (arith, one_more_frames n ch len h);
     few = omega arith;

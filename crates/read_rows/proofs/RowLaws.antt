@@ -38,12 +38,12 @@ pub one_more : (n k : ℕ) → (n ≡ 0 → ⊥) → n * k ≡ (n - 1) * k + k
 one_more zero k h = absurd (h refl)
 one_more (suc n) k h = rw (sub-one, suc-mul)
 
-module _ (n c class start len area : ℕ) (r : BlockRoom n c class start len area) (h : n ≡ 0 → ⊥) where
-  pub block_row : RowRoom c class start len area
-  block_row = record { area_fits = omega arith; kinds = r.kinds; channels = omega arith; frames_fit = omega (arith, one_more n len h) }
+module _ (n c start len area : ℕ) (r : BlockRoom n c start len area) (h : n ≡ 0 → ⊥) where
+  pub block_row : RowRoom c start len area
+  block_row = record { area_fits = omega arith; channels = omega arith; frames_fit = omega (arith, one_more n len h) }
 
-  pub block_rest : BlockRoom (n - 1) (c + 1) class (start + len) len (area - row_width)
-  block_rest = record { area_fits = omega arith; kinds = r.kinds; channels = omega arith; frames_fit = omega (arith, one_more n len h) }
+  pub block_rest : BlockRoom (n - 1) (c + 1) (start + len) len (area - row_width)
+  block_rest = record { area_fits = omega arith; channels = omega arith; frames_fit = omega (arith, one_more n len h) }
 
 block_more : (mark n c time class start len : ℕ) → (n ≡ 0 → ⊥)
     → words (marked mark (block_rows n c time class start len))

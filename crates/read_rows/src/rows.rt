@@ -1,5 +1,5 @@
 // Frame rows, written into a row area.
-ghost use Rattle.std.specs.Prelude.{◌≡◌, ◌*◌, ◌/◌, ◌%◌, ◌<◌, ◌≤◌, length};
+ghost use Rattle.std.specs.Prelude.{◌≡◌, ◌*◌, ◌<◌, ◌≤◌, length};
 ghost use Rattle.rtp.specs.Editions.{current};
 ghost use Rattle.rtp.specs.Areas.{over};
 ghost use Rattle.formats.specs.Frames.{step_of};
@@ -16,85 +16,84 @@ use rtp::refusal::{Fault, Refusal};
 use rtp::sizes::{MAX_PACKET, ROW_AREA, ROW_WIDTH};
 use rtp::time;
 
-// A row at the front of the area. Its kind is 256 * mark + class: whether it was heard first-hand, and its class, in one number.
-fn put_row(rows: &mut [u32], time: u32, kind: usize, channel: usize, start: usize, size: usize)
-    requires { RowRoom channel kind start size (length rows.old) }
-    ensures { rows.new ≡
-        over (row_words (record { time = time; class = kind % 256; channel = channel; start = start; length = size; primary = kind / 256 })) rows.old }
-{
-    rows[0] = time;
-    rows[1] = tagging::pack_tag((kind / 256) as u8, (kind % 256) as u8, channel as u8);
-    rows[2] = start as u32;
-    rows[3] = size as u32;
+// What is one for a whole payload: the mark that it was heard with, its format and its channels.
+#[derive(Clone, Copy, Debug, PartialEq, Eq)]
+struct Payload {
+    mark: u8,
+    format: u8,
+    channels: usize,
 }
 
-// The rows of `count` channels of a frame-block, from `channel` on.
-fn put_block(
-    rows: &mut [u32],
-    count: usize,
-    channel: usize,
+// A frame: its time, its class, and where it stands in the packet.
+#[derive(Clone, Copy, Debug, PartialEq, Eq)]
+struct Frame {
     time: u32,
-    kind: usize,
+    class: u8,
     start: usize,
     size: usize,
-)
-    requires { BlockRoom count channel kind start size (length rows.old) }
-    ensures { rows.new ≡ over (words (marked (kind / 256) (block_rows count channel time (kind % 256) start size))) rows.old }
+}
+
+// A frame's row at the front of the area.
+fn put_row(rows: &mut [u32], mark: u8, channel: usize, frame: Frame)
+    requires { RowRoom channel frame.start frame.size (length rows.old) }
+    ensures { rows.new ≡
+        over (row_words (record { time = frame.time; class = frame.class; channel = channel; start = frame.start; length = frame.size; primary = mark })) rows.old }
+{
+    rows[0] = frame.time;
+    rows[1] = tagging::pack_tag(mark, frame.class, channel as u8);
+    rows[2] = frame.start as u32;
+    rows[3] = frame.size as u32;
+}
+
+// The rows of `count` channels of a frame-block, from `channel` on: its frame comes first, and theirs follow it.
+fn put_block(rows: &mut [u32], mark: u8, count: usize, channel: usize, frame: Frame)
+    requires { BlockRoom count channel frame.start frame.size (length rows.old) }
+    ensures { rows.new ≡ over (words (marked mark (block_rows count channel frame.time frame.class frame.start frame.size))) rows.old }
 {
     if count == 0 {
         return;
     }
-    put_row(rows, time, kind, channel, start, size);
-    put_block(
-        &mut rows[ROW_WIDTH..],
-        count - 1,
-        channel + 1,
-        time,
-        kind,
-        start + size,
-        size,
-    );
+    put_row(rows, mark, channel, frame);
+    let next = Frame {
+        start: frame.start + frame.size,
+        ..frame
+    };
+    put_block(&mut rows[ROW_WIDTH..], mark, count - 1, channel + 1, next);
 }
 
-// The rows of `count` frame-blocks from the k-th on of the entry at the front of s; answers the time of the place after them.
+// The rows of `count` frame-blocks from the k-th on of the entry at the front of s. The frame is the first one, but for its time, which is that of the place
+// before the k-th gap; answers the time of the place after them.
 fn put_group(
     rows: &mut [u32],
     s: &[u8],
-    format: u8,
-    channels: usize,
+    payload: Payload,
     k: usize,
     count: usize,
-    time: u32,
-    kind: usize,
-    start: usize,
-    size: usize,
+    frame: Frame,
 ) -> u32
-    requires { GroupRoom k count channels kind start size (length rows.old) }
-    ensures { (result ≡ time_after (step_of format) time (gaps_from format s.now k count))
+    requires { GroupRoom k count payload.channels frame.start frame.size (length rows.old) }
+    ensures { (result ≡ time_after (step_of payload.format) frame.time (gaps_from payload.format s.now k count))
         × (rows.new ≡
-        over (words (marked (kind / 256) (group_rows (step_of format) channels time (kind % 256) start size (gaps_from format s.now k count)))) rows.old) }
+        over (words (marked payload.mark (group_rows (step_of payload.format) payload.channels frame.time frame.class frame.start frame.size (gaps_from payload.format s.now k count)))) rows.old) }
 {
     if count == 0 {
-        return time;
+        return frame.time;
     }
-    let step = frames::step_of(format);
-    let skipped = entries::gap(format, s, k) * step;
-    let here = std::num::wrapping_add_u32(time, skipped);
-    put_block(rows, channels, 0, here, kind, start, size);
-    let next = std::num::wrapping_add_u32(here, step);
-    let width = ROW_WIDTH * channels;
-    put_group(
-        &mut rows[width..],
-        s,
-        format,
-        channels,
-        k + 1,
-        count - 1,
-        next,
-        kind,
-        start + channels * size,
-        size,
-    )
+    let step = frames::step_of(payload.format);
+    let skipped = entries::gap(payload.format, s, k) * step;
+    let here = std::num::wrapping_add_u32(frame.time, skipped);
+    let block = Frame {
+        time: here,
+        ..frame
+    };
+    put_block(rows, payload.mark, payload.channels, 0, block);
+    let next = Frame {
+        time: std::num::wrapping_add_u32(here, step),
+        start: frame.start + payload.channels * frame.size,
+        ..frame
+    };
+    let width = ROW_WIDTH * payload.channels;
+    put_group(&mut rows[width..], s, payload, k + 1, count - 1, next)
 }
 
 // The time from which the rows of a payload at `time` are counted: its first entry's DIS1 is passed over.
@@ -107,43 +106,26 @@ fn origin(format: u8, time: u32, s: &[u8]) -> u32
 
 // The rows of the table at the front of s, where `done` rows came before it, its frame-blocks are counted from `time` and its
 // frames start at `start`.
-fn put_contents(
-    rows: &mut [u32],
-    mark: u8,
-    s: &[u8],
-    format: u8,
-    channels: usize,
-    done: usize,
-    time: u32,
-    start: usize,
-)
-    requires { TableRoom channels start (length rows.old) (sizes_answer format channels (contents current format channels done s.now)) }
-    ensures { rows.new ≡ over (contents_words mark format channels time start (contents current format channels done s.now)) rows.old }
+fn put_contents(rows: &mut [u32], s: &[u8], payload: Payload, done: usize, time: u32, start: usize)
+    requires { TableRoom payload.channels start (length rows.old) (sizes_answer payload.format payload.channels (contents current payload.format payload.channels done s.now)) }
+    ensures { rows.new ≡ over (contents_words payload.mark payload.format payload.channels time start (contents current payload.format payload.channels done s.now)) rows.old }
 {
-    if let Ok(entry) = entries::read_entry(format, &s[0..]) {
-        let kind = 256 * (mark as usize) + entry.class;
-        let next = put_group(
-            rows,
-            &s[0..],
-            format,
-            channels,
-            0,
-            entry.blocks,
+    if let Ok(entry) = entries::read_entry(payload.format, &s[0..]) {
+        let frame = Frame {
             time,
-            kind,
+            class: entry.class as u8,
             start,
-            entry.length,
-        );
+            size: entry.length,
+        };
+        let next = put_group(rows, &s[0..], payload, 0, entry.blocks, frame);
         if entry.more {
-            let here = entry.blocks * channels;
+            let here = entry.blocks * payload.channels;
             let width = ROW_WIDTH * here;
             let size = entry.size;
             put_contents(
                 &mut rows[width..],
-                mark,
                 &s[size..],
-                format,
-                channels,
+                payload,
                 done + here,
                 next,
                 start + here * entry.length,
@@ -181,12 +163,15 @@ pub fn put_table(
             offset: sizes.size,
         });
     }
+    let payload = Payload {
+        mark,
+        format,
+        channels: channels as usize,
+    };
     put_contents(
         area,
-        mark,
         &s[0..],
-        format,
-        channels as usize,
+        payload,
         done as usize,
         origin(format, time, &s[0..]),
         (at as usize) + sizes.size,
