@@ -25,8 +25,8 @@ module _ (k n ch start len area : ℕ) (r : GroupRoom k n ch start len area) (h 
   pub group_frames : start + ch * len < 2 ^ 32
   group_frames = omega (arith, one_more_frames n ch len h)
 
-  pub group_block : BlockRoom ch 0 start len area
-  group_block = record { area_fits = group_area; channels = omega arith; frames_fit = group_frames }
+  pub group_block : BlockRoom ch start len area
+  group_block = record { area_fits = group_area; channels_fit = omega arith; frames_fit = group_frames }
 
   pub group_next : GroupRoom (k + 1) (n - 1) ch (start + ch * len) len (area - row_width * ch)
   group_next = record {

@@ -13,10 +13,10 @@ pub record RowRoom (channel start size area : ℕ) : Type 0 where
   pub channels : channel < 256
   pub frames_fit : start + size < 2 ^ 32
 
-pub record BlockRoom (count channel start size area : ℕ) : Type 0 where
-  pub area_fits : row_width * count ≤ area
-  pub channels : channel + count ≤ 256
-  pub frames_fit : start + count * size < 2 ^ 32
+pub record BlockRoom (channels start size area : ℕ) : Type 0 where
+  pub area_fits : row_width * channels ≤ area
+  pub channels_fit : channels ≤ 256
+  pub frames_fit : start + channels * size < 2 ^ 32
 
 pub record GroupRoom (k count ch start size area : ℕ) : Type 0 where
   pub area_fits : row_width * (count * ch) ≤ area

@@ -45,20 +45,19 @@ fn put_row(rows: &mut [u32], mark: u8, channel: usize, frame: Frame)
     rows[3] = frame.size as u32;
 }
 
-// The rows of `count` channels of a frame-block, from `channel` on: its frame comes first, and theirs follow it.
-fn put_block(rows: &mut [u32], mark: u8, count: usize, channel: usize, frame: Frame)
-    requires { BlockRoom count channel frame.start frame.size (length rows.old) }
-    ensures { rows.new ≡ over (words (marked mark (block_rows count channel frame.time frame.class frame.start frame.size))) rows.old }
+// The rows of a frame-block: the first channel's frame is this one, and the others' follow it.
+fn put_block(rows: &mut [u32], mark: u8, channels: usize, frame: Frame)
+    requires { BlockRoom channels frame.start frame.size (length rows.old) }
+    ensures { rows.new ≡ over (words (marked mark (block_rows channels 0 frame.time frame.class frame.start frame.size))) rows.old }
 {
-    if count == 0 {
-        return;
+    for channel in 0..channels {
+        let place = ROW_WIDTH * channel;
+        let here = Frame {
+            start: frame.start + channel * frame.size,
+            ..frame
+        };
+        put_row(&mut rows[place..], mark, channel, here);
     }
-    put_row(rows, mark, channel, frame);
-    let next = Frame {
-        start: frame.start + frame.size,
-        ..frame
-    };
-    put_block(&mut rows[ROW_WIDTH..], mark, count - 1, channel + 1, next);
 }
 
 // The rows of `count` frame-blocks from the k-th on of the entry at the front of s. The frame is the first one, but for its time, which is that of the place
@@ -86,7 +85,7 @@ fn put_group(
         time: here,
         ..frame
     };
-    put_block(rows, payload.mark, payload.channels, 0, block);
+    put_block(rows, payload.mark, payload.channels, block);
     let next = Frame {
         time: std::num::wrapping_add_u32(here, step),
         start: frame.start + payload.channels * frame.size,
