@@ -1,5 +1,5 @@
 -- Laws of rows, and of a frame-block's.
-use Rattle.std.proofs.Common.{◌≡◌, ℕ, zero, suc, ◌+◌, ◌-◌, ◌*◌, ◌/◌, ◌<◌, ◌≤◌, List, [], ◌∷◌, ◌++◌, length, get_or, take, drop, sym, refl, ap, ◌∙◌, suc-mul, sub-one, add-one, arith}
+use Rattle.std.proofs.Common.{◌≡◌, ℕ, zero, suc, ◌+◌, ◌-◌, ◌*◌, ◌/◌, ◌<◌, ◌≤◌, List, [], ◌∷◌, ◌++◌, length, get_or, take, drop, sym, refl, ap, ◌∙◌, suc-mul, add-one, arith}
 use borrow.Rule.Slice.PartMut.{put_mid}
 use Rattle.rtp.specs.Sizes.{row_width}
 use Rattle.rtp.specs.Areas.{over}
@@ -33,10 +33,6 @@ pub length_block : (n c time class start len : ℕ) → length (block_rows n c t
 unfolding block_rows
 length_block zero c time class start len = refl
 length_block (suc n) c time class start len = ap suc (length_block n (c + 1) time class (start + len) len)
-
-pub one_more : (n k : ℕ) → (n ≡ 0 → ⊥) → n * k ≡ (n - 1) * k + k
-one_more zero k h = absurd (h refl)
-one_more (suc n) k h = rw (sub-one, suc-mul)
 
 -- a frame-block with one channel more
 block_more : (n c time class start len : ℕ) → block_rows (suc n) c time class start len

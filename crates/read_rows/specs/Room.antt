@@ -18,11 +18,10 @@ pub record BlockRoom (channels start size area : ℕ) : Type 0 where
   pub channels_fit : channels ≤ 256
   pub frames_fit : start + channels * size < 2 ^ 32
 
-pub record GroupRoom (k count ch start size area : ℕ) : Type 0 where
-  pub area_fits : row_width * (count * ch) ≤ area
-  pub channels : ch ≤ 256
-  pub frames_fit : start + count * ch * size < 2 ^ 32
-  pub few : k + count < 256
+pub record GroupRoom (blocks ch start size area : ℕ) : Type 0 where
+  pub area_fits : row_width * (blocks * ch) ≤ area
+  pub channels_fit : ch ≤ 256
+  pub frames_fit : start + blocks * ch * size < 2 ^ 32
 
 abbrev pub TableRoom : ℕ → ℕ → ℕ → Result Sizes Fault → Type 0
 TableRoom ch start area (Err r) = ⊥

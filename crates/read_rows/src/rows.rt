@@ -60,39 +60,30 @@ fn put_block(rows: &mut [u32], mark: u8, channels: usize, frame: Frame)
     }
 }
 
-// The rows of `count` frame-blocks from the k-th on of the entry at the front of s. The frame is the first one, but for its time, which is that of the place
-// before the k-th gap; answers the time of the place after them.
-fn put_group(
-    rows: &mut [u32],
-    s: &[u8],
-    payload: Payload,
-    k: usize,
-    count: usize,
-    frame: Frame,
-) -> u32
-    requires { GroupRoom k count payload.channels frame.start frame.size (length rows.old) }
-    ensures { (result ≡ time_after (step_of payload.format) frame.time (gaps_from payload.format s.now k count))
+// The rows of the frame-blocks of the entry at the front of s. The frame is the first one, but for its time, which is that of the place before the first gap;
+// answers the time of the place after them.
+fn put_group(rows: &mut [u32], s: &[u8], payload: Payload, blocks: usize, frame: Frame) -> u32
+    requires { GroupRoom blocks payload.channels frame.start frame.size (length rows.old) }
+    ensures { (result ≡ time_after (step_of payload.format) frame.time (gaps_from payload.format s.now 0 blocks))
         × (rows.new ≡
-        over (words (marked payload.mark (group_rows (step_of payload.format) payload.channels frame.time frame.class frame.start frame.size (gaps_from payload.format s.now k count)))) rows.old) }
+        over (words (marked payload.mark (group_rows (step_of payload.format) payload.channels frame.time frame.class frame.start frame.size (gaps_from payload.format s.now 0 blocks)))) rows.old) }
 {
-    if count == 0 {
-        return frame.time;
-    }
     let step = frames::step_of(payload.format);
-    let skipped = entries::gap(payload.format, s, k) * step;
-    let here = std::num::wrapping_add_u32(frame.time, skipped);
-    let block = Frame {
-        time: here,
-        ..frame
-    };
-    put_block(rows, payload.mark, payload.channels, block);
-    let next = Frame {
-        time: std::num::wrapping_add_u32(here, step),
-        start: frame.start + payload.channels * frame.size,
-        ..frame
-    };
-    let width = ROW_WIDTH * payload.channels;
-    put_group(&mut rows[width..], s, payload, k + 1, count - 1, next)
+    let mut time = frame.time;
+    for k in 0..blocks {
+        let skipped = entries::gap(payload.format, s, k) * step;
+        let here = std::num::wrapping_add_u32(time, skipped);
+        let before = k * payload.channels;
+        let block = Frame {
+            time: here,
+            start: frame.start + before * frame.size,
+            ..frame
+        };
+        let place = ROW_WIDTH * before;
+        put_block(&mut rows[place..], payload.mark, payload.channels, block);
+        time = std::num::wrapping_add_u32(here, step);
+    }
+    time
 }
 
 // The time from which the rows of a payload at `time` are counted: its first entry's DIS1 is passed over.
@@ -109,14 +100,14 @@ fn put_contents(rows: &mut [u32], s: &[u8], payload: Payload, done: usize, time:
     requires { TableRoom payload.channels start (length rows.old) (sizes_answer payload.format payload.channels (contents current payload.format payload.channels done s.now)) }
     ensures { rows.new ≡ over (contents_words payload.mark payload.format payload.channels time start (contents current payload.format payload.channels done s.now)) rows.old }
 {
-    if let Ok(entry) = entries::read_entry(payload.format, &s[0..]) {
+    if let Ok(entry) = entries::read_entry(payload.format, s) {
         let frame = Frame {
             time,
             class: entry.class as u8,
             start,
             size: entry.length,
         };
-        let next = put_group(rows, &s[0..], payload, 0, entry.blocks, frame);
+        let next = put_group(rows, s, payload, entry.blocks, frame);
         if entry.more {
             let here = entry.blocks * payload.channels;
             let width = ROW_WIDTH * here;
@@ -155,7 +146,7 @@ pub fn put_table(
     if MAX_PACKET < (at as usize) + s.len() {
         return Err(Fault::from(Refusal::PacketLength));
     }
-    let sizes = entries::read_contents(format, channels, done, &s[0..])?;
+    let sizes = entries::read_contents(format, channels, done, s)?;
     if sizes.size + sizes.frames != s.len() {
         return Err(Fault {
             refusal: Refusal::LengthMismatch,
@@ -169,10 +160,10 @@ pub fn put_table(
     };
     put_contents(
         area,
-        &s[0..],
+        s,
         payload,
         done as usize,
-        origin(format, time, &s[0..]),
+        origin(format, time, s),
         (at as usize) + sizes.size,
     );
     Ok(sizes)

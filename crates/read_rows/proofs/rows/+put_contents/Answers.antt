@@ -1,7 +1,7 @@
 use Rattle.rtp.specs.Editions.{current}
 use Rattle.std.specs.Prelude.{Ok}
 use Rattle.formats.specs.Frames.{max_class}
-use Rattle.std.proofs.Common.{◌≡◌, ℕ, ◌+◌, ◌-◌, ◌*◌, ◌<◌, ◌≤◌, true, length, take, drop, sym, ap, ◌∙◌, arith}
+use Rattle.std.proofs.Common.{◌≡◌, ℕ, ◌+◌, ◌-◌, ◌*◌, ◌<◌, ◌≤◌, true, length, take, drop, sym, ◌∙◌, arith}
 use Rattle.rtp.specs.Sizes.{row_width, max_rows}
 use Rattle.rtp.proofs.AreaLaws.{part_length, part_to_end}
 use Rattle.read_contents.specs.Contents.{entry_of, contents, sizes_answer}
@@ -16,16 +16,16 @@ use Rattle.read_rows.proofs.rows.+put_contents.Goals as goal
 -- the entry that was read, and the room that is there
 read_at : (t : ℕ) (c : In-Ok t) → entry_of c.args.payload.format c.args.s.now ≡ Ok c.in-Ok.entry
 read_at t c =
-    sym (same_entry _ _ c.read_entry.ensures ∙ ap (entry_of c.args.payload.format) (part_to_end 0 c.args.s.now)) ∙ c.in-Ok.is
+    sym (same_entry _ _ c.read_entry.ensures) ∙ c.in-Ok.is
 
 few-at : (t : ℕ) (c : In-Ok t) → let a = c.args in a.done + c.in-Ok.entry.blocks * a.payload.channels ≤ max_rows current
 few-at t c =
     let a = c.args in room_few current a.payload.format a.payload.channels a.done a.start (length a.rows.now) a.s.now _ (read_at t c) c.requires
 
 room_at : (t : ℕ) (c : In-Ok t) → let a = c.args in let e = c.in-Ok.entry in
-    GroupRoom 0 e.blocks a.payload.channels a.start e.length (length a.rows.now)
+    GroupRoom e.blocks a.payload.channels a.start e.length (length a.rows.now)
 room_at t c =
-    let a = c.args in room_group current a.payload.format a.payload.channels a.done a.start (length a.rows.now) a.s.now _ (read_at t c) c.requires (λ i. (c.shared_slice_known-1.given i).fits)
+    let a = c.args in room_group current a.payload.format a.payload.channels a.done a.start (length a.rows.now) a.s.now _ (read_at t c) c.requires
 
 rest_at : (t : ℕ) (c : In-Ok t) → c.in-Ok.entry.more ≡ true → let a = c.args in let e = c.in-Ok.entry in
     TableRoom a.payload.channels (a.start + e.blocks * a.payload.channels * e.length) (length a.rows.now - row_width * (e.blocks * a.payload.channels))
@@ -98,17 +98,17 @@ put_contents-requires t c =
 
 pub returns-in_default : goal.returns-in_default
 returns-in_default t c =
-    let a = c.args in put_refused current a.payload.mark a.payload.format a.payload.channels a.time a.start a.done a.s.now a.rows.now _ (sym (same_entry _ _ c.read_entry.ensures ∙ ap (entry_of c.args.payload.format) (part_to_end 0 c.args.s.now)) ∙ c.in_default.is)
+    let a = c.args in put_refused current a.payload.mark a.payload.format a.payload.channels a.time a.start a.done a.s.now a.rows.now _ (sym (same_entry _ _ c.read_entry.ensures) ∙ c.in_default.is)
 
 pub returns-then-entry : goal.returns-then-entry
 returns-then-entry t c =
     let a = c.args in
     let e = c.in-Ok.entry in
-    put_more current a.payload.mark a.payload.format a.payload.channels a.time a.start a.done a.s.now a.rows.now e (read_at t (goal.at.returns-then-entry t c).In-Ok) (few-at t (goal.at.returns-then-entry t c).In-Ok) _ (rw (part_to_end 0 a.s.now) at c.put_group-next.ensures.1)
-    c.if-entry.true _ c.put_group-next.result _ (rest_at t (goal.at.returns-then-entry t c).In-Ok c.if-entry.true) (rw (part_to_end 0 a.s.now) at c.put_group-next.ensures.0) c.put_contents.ensures
+    put_more current a.payload.mark a.payload.format a.payload.channels a.time a.start a.done a.s.now a.rows.now e (read_at t (goal.at.returns-then-entry t c).In-Ok) (few-at t (goal.at.returns-then-entry t c).In-Ok) _ c.put_group-next.ensures.1
+    c.if-entry.true _ c.put_group-next.result _ (rest_at t (goal.at.returns-then-entry t c).In-Ok c.if-entry.true) c.put_group-next.ensures.0 c.put_contents.ensures
 
 pub returns-else-entry : goal.returns-else-entry
 returns-else-entry t c =
     let a = c.args in
     let e = c.in-Ok.entry in
-    put_last current a.payload.mark a.payload.format a.payload.channels a.time a.start a.done a.s.now a.rows.now e (read_at t (goal.at.returns-else-entry t c).In-Ok) (few-at t (goal.at.returns-else-entry t c).In-Ok) _ (rw (part_to_end 0 a.s.now) at c.put_group-next.ensures.1) c.if-entry.false
+    put_last current a.payload.mark a.payload.format a.payload.channels a.time a.start a.done a.s.now a.rows.now e (read_at t (goal.at.returns-else-entry t c).In-Ok) (few-at t (goal.at.returns-else-entry t c).In-Ok) _ c.put_group-next.ensures.1 c.if-entry.false
