@@ -62,11 +62,11 @@ fn put_block(rows: &mut [u32], mark: u8, channels: usize, frame: Frame)
 
 // The rows of the frame-blocks of the entry at the front of s. The frame is the first one, but for its time, which is that of the place before the first gap;
 // answers the time of the place after them.
-fn put_group(rows: &mut [u32], s: &[u8], payload: Payload, blocks: usize, frame: Frame) -> u32
-    requires { GroupRoom blocks payload.channels frame.start frame.size (length rows.old) }
-    ensures { (result ≡ time_after (step_of payload.format) frame.time (gaps_from payload.format s.now 0 blocks))
+fn put_group(rows: &mut [u32], s: &[u8], payload: &Payload, blocks: usize, frame: Frame) -> u32
+    requires { GroupRoom blocks payload.now.channels frame.start frame.size (length rows.old) }
+    ensures { (result ≡ time_after (step_of payload.now.format) frame.time (gaps_from payload.now.format s.now 0 blocks))
         × (rows.new ≡
-        over (words (marked payload.mark (group_rows (step_of payload.format) payload.channels frame.time frame.class frame.start frame.size (gaps_from payload.format s.now 0 blocks)))) rows.old) }
+        over (words (marked payload.now.mark (group_rows (step_of payload.now.format) payload.now.channels frame.time frame.class frame.start frame.size (gaps_from payload.now.format s.now 0 blocks)))) rows.old) }
 {
     let step = frames::step_of(payload.format);
     let mut time = frame.time;
@@ -96,9 +96,9 @@ fn origin(format: u8, time: u32, s: &[u8]) -> u32
 
 // The rows of the table at the front of s, where `done` rows came before it, its frame-blocks are counted from `time` and its
 // frames start at `start`.
-fn put_contents(rows: &mut [u32], s: &[u8], payload: Payload, done: usize, time: u32, start: usize)
-    requires { TableRoom payload.channels start (length rows.old) (sizes_answer payload.format payload.channels (contents current payload.format payload.channels done s.now)) }
-    ensures { rows.new ≡ over (contents_words payload.mark payload.format payload.channels time start (contents current payload.format payload.channels done s.now)) rows.old }
+fn put_contents(rows: &mut [u32], s: &[u8], payload: &Payload, done: usize, time: u32, start: usize)
+    requires { TableRoom payload.now.channels start (length rows.old) (sizes_answer payload.now.format payload.now.channels (contents current payload.now.format payload.now.channels done s.now)) }
+    ensures { rows.new ≡ over (contents_words payload.now.mark payload.now.format payload.now.channels time start (contents current payload.now.format payload.now.channels done s.now)) rows.old }
 {
     if let Ok(entry) = entries::read_entry(payload.format, s) {
         let frame = Frame {
@@ -161,7 +161,7 @@ pub fn put_table(
     put_contents(
         area,
         s,
-        payload,
+        &payload,
         done as usize,
         origin(format, time, s),
         (at as usize) + sizes.size,

@@ -14,24 +14,24 @@ use Rattle.read_rows.proofs.rows.+put_contents.Goals.{In-Ok}
 use Rattle.read_rows.proofs.rows.+put_contents.Goals as goal
 
 -- the entry that was read, and the room that is there
-read_at : (t : ℕ) (c : In-Ok t) → entry_of c.args.payload.format c.args.s.now ≡ Ok c.in-Ok.entry
+read_at : (t : ℕ) (c : In-Ok t) → entry_of c.args.payload.now.format c.args.s.now ≡ Ok c.in-Ok.entry
 read_at t c =
     sym (same_entry _ _ c.read_entry.ensures) ∙ c.in-Ok.is
 
-few-at : (t : ℕ) (c : In-Ok t) → let a = c.args in a.done + c.in-Ok.entry.blocks * a.payload.channels ≤ max_rows current
+few-at : (t : ℕ) (c : In-Ok t) → let a = c.args in a.done + c.in-Ok.entry.blocks * a.payload.now.channels ≤ max_rows current
 few-at t c =
-    let a = c.args in room_few current a.payload.format a.payload.channels a.done a.start (length a.rows.now) a.s.now _ (read_at t c) c.requires
+    let a = c.args in room_few current a.payload.now.format a.payload.now.channels a.done a.start (length a.rows.now) a.s.now _ (read_at t c) c.requires
 
 room_at : (t : ℕ) (c : In-Ok t) → let a = c.args in let e = c.in-Ok.entry in
-    GroupRoom e.blocks a.payload.channels a.start e.length (length a.rows.now)
+    GroupRoom e.blocks a.payload.now.channels a.start e.length (length a.rows.now)
 room_at t c =
-    let a = c.args in room_group current a.payload.format a.payload.channels a.done a.start (length a.rows.now) a.s.now _ (read_at t c) c.requires
+    let a = c.args in room_group current a.payload.now.format a.payload.now.channels a.done a.start (length a.rows.now) a.s.now _ (read_at t c) c.requires
 
 rest_at : (t : ℕ) (c : In-Ok t) → c.in-Ok.entry.more ≡ true → let a = c.args in let e = c.in-Ok.entry in
-    TableRoom a.payload.channels (a.start + e.blocks * a.payload.channels * e.length) (length a.rows.now - row_width * (e.blocks * a.payload.channels))
-    (sizes_answer a.payload.format a.payload.channels (contents current a.payload.format a.payload.channels (a.done + e.blocks * a.payload.channels) (drop e.size a.s.now)))
+    TableRoom a.payload.now.channels (a.start + e.blocks * a.payload.now.channels * e.length) (length a.rows.now - row_width * (e.blocks * a.payload.now.channels))
+    (sizes_answer a.payload.now.format a.payload.now.channels (contents current a.payload.now.format a.payload.now.channels (a.done + e.blocks * a.payload.now.channels) (drop e.size a.s.now)))
 rest_at t c m =
-    let a = c.args in room_rest current a.payload.format a.payload.channels a.done a.start (length a.rows.now) a.s.now _ (read_at t c) c.requires m
+    let a = c.args in room_rest current a.payload.now.format a.payload.now.channels a.done a.start (length a.rows.now) a.s.now _ (read_at t c) c.requires m
 
 -- the entry's class is one of the paper's
 class-at : (t : ℕ) (c : In-Ok t) → c.in-Ok.entry.class ≤ max_class
@@ -91,24 +91,24 @@ put_contents-requires t c =
     let a = c.args in
     let e = c.in-Ok.entry in
     let q : length (take (length a.s.now - e.size) (drop e.size a.s.now)) < length a.s.now =
-    rw part_to_end (shorter a.payload.format a.s.now e (read_at t (goal.at.put_contents-requires t c).In-Ok)) in (
+    rw part_to_end (shorter a.payload.now.format a.s.now e (read_at t (goal.at.put_contents-requires t c).In-Ok)) in (
       omega (arith, q),
-      rw (part_length c.put_group-next.new.rows a.rows.now (row_width * (e.blocks * a.payload.channels)) c.put_group-next.auto.rows, part_to_end e.size a.s.now) (rest_at t (goal.at.put_contents-requires t c).In-Ok c.if-entry.true),
+      rw (part_length c.put_group-next.new.rows a.rows.now (row_width * (e.blocks * a.payload.now.channels)) c.put_group-next.auto.rows, part_to_end e.size a.s.now) (rest_at t (goal.at.put_contents-requires t c).In-Ok c.if-entry.true),
     )
 
 pub returns-in_default : goal.returns-in_default
 returns-in_default t c =
-    let a = c.args in put_refused current a.payload.mark a.payload.format a.payload.channels a.time a.start a.done a.s.now a.rows.now _ (sym (same_entry _ _ c.read_entry.ensures) ∙ c.in_default.is)
+    let a = c.args in put_refused current a.payload.now.mark a.payload.now.format a.payload.now.channels a.time a.start a.done a.s.now a.rows.now _ (sym (same_entry _ _ c.read_entry.ensures) ∙ c.in_default.is)
 
 pub returns-then-entry : goal.returns-then-entry
 returns-then-entry t c =
     let a = c.args in
     let e = c.in-Ok.entry in
-    put_more current a.payload.mark a.payload.format a.payload.channels a.time a.start a.done a.s.now a.rows.now e (read_at t (goal.at.returns-then-entry t c).In-Ok) (few-at t (goal.at.returns-then-entry t c).In-Ok) _ c.put_group-next.ensures.1
+    put_more current a.payload.now.mark a.payload.now.format a.payload.now.channels a.time a.start a.done a.s.now a.rows.now e (read_at t (goal.at.returns-then-entry t c).In-Ok) (few-at t (goal.at.returns-then-entry t c).In-Ok) _ c.put_group-next.ensures.1
     c.if-entry.true _ c.put_group-next.result _ (rest_at t (goal.at.returns-then-entry t c).In-Ok c.if-entry.true) c.put_group-next.ensures.0 c.put_contents.ensures
 
 pub returns-else-entry : goal.returns-else-entry
 returns-else-entry t c =
     let a = c.args in
     let e = c.in-Ok.entry in
-    put_last current a.payload.mark a.payload.format a.payload.channels a.time a.start a.done a.s.now a.rows.now e (read_at t (goal.at.returns-else-entry t c).In-Ok) (few-at t (goal.at.returns-else-entry t c).In-Ok) _ c.put_group-next.ensures.1 c.if-entry.false
+    put_last current a.payload.now.mark a.payload.now.format a.payload.now.channels a.time a.start a.done a.s.now a.rows.now e (read_at t (goal.at.returns-else-entry t c).In-Ok) (few-at t (goal.at.returns-else-entry t c).In-Ok) _ c.put_group-next.ensures.1 c.if-entry.false

@@ -9,7 +9,7 @@ use Rattle.read_rows.proofs.rows.put_group.Goals as goal
 pub loop-k-init : goal.loop-k-init
 loop-k-init c =
     let a = c.args in
-    let p = a.payload in
+    let p = a.payload.now in
     let f = a.frame in
     record {
       counted = time_none p.mark p.format (step_of p.format) p.channels f.time f.class f.start f.size a.s.now a.rows.now;
@@ -18,13 +18,13 @@ loop-k-init c =
 
 pub overflow_mul-skipped : goal.overflow_mul-skipped
 overflow_mul-skipped c =
-    let s : c.step_of-step.result ≤ max_step = omega (arith, c.step_of-step.ensures, (step_fine c.args.payload.format).small) in
+    let s : c.step_of-step.result ≤ max_step = omega (arith, c.step_of-step.ensures, (step_fine c.args.payload.now.format).small) in
     omega (arith, mul-le-mul_left c.gap.result s, c.gap.ensures.1)
 
 pub loop-k-preserved : goal.loop-k-preserved
 loop-k-preserved c =
     let a = c.args in
-    let p = a.payload in
+    let p = a.payload.now in
     let f = a.frame in
     let k = c.loop-k.k in
     let here = c.wrapping_add_u32-here.result in
