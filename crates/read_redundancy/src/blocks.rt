@@ -18,6 +18,22 @@ use rtp::settings::Settings;
 use rtp::sizes::{MAX_PACKET, ROW_AREA, ROW_WIDTH};
 use rtp::{refusal, time};
 
+// What is known of a block from its header: its payload type, how long before the packet's time it stands, and the mark of its rows.
+#[derive(Clone, Copy, Debug, PartialEq, Eq)]
+struct Header {
+    payload_type: u8,
+    offset: u32,
+    mark: u8,
+}
+
+// Where a block stands in its packet: after how many rows, under which timestamp, and at which byte.
+#[derive(Clone, Copy, Debug, PartialEq, Eq)]
+struct Place {
+    done: u32,
+    time: u32,
+    at: u32,
+}
+
 // The rows of one block after `done` rows: none of another type, and none of an empty block.
 fn check_block(settings: Settings, done: u32, block_type: u8, s: &[u8]) -> Result<u32, Fault>
     ensures { result ≡ rows_answer (asked_block current redundant_mark settings done (row_area current) 0 block_type 0 0 s.now) }
@@ -31,32 +47,28 @@ fn check_block(settings: Settings, done: u32, block_type: u8, s: &[u8]) -> Resul
     Ok(0)
 }
 
-// The same of a block at `at` in the packet, heard with this mark, with its rows written at the front of the area.
+// The same of a block at this place in the packet, with its rows written at the front of the area.
 fn put_block(
     settings: Settings,
-    done: u32,
-    time: u32,
-    block_type: u8,
-    offset: u32,
-    at: u32,
-    mark: u8,
+    header: Header,
+    place: Place,
     s: &[u8],
     rows: &mut [u32],
 ) -> Result<u32, Fault>
-    ensures { (result ≡ rows_answer (asked_block current mark settings done (length rows.old) time block_type offset at s.now))
+    ensures { (result ≡ rows_answer (asked_block current header.mark settings place.done (length rows.old) place.time header.payload_type header.offset place.at s.now))
         × (rows.new ≡
-        over (rows_words (asked_block current mark settings done (length rows.old) time block_type offset at s.now)) rows.old) }
+        over (rows_words (asked_block current header.mark settings place.done (length rows.old) place.time header.payload_type header.offset place.at s.now)) rows.old) }
 {
-    if block_type == settings.payload_type {
+    if header.payload_type == settings.payload_type {
         if s.len() == 0 {
             return Ok(0);
         }
         return reading::read_payload(
             settings,
-            done,
-            time::difference(time, offset),
-            at,
-            mark,
+            place.done,
+            time::difference(place.time, header.offset),
+            place.at,
+            header.mark,
             s,
             rows,
         );
@@ -84,43 +96,38 @@ fn check_blocks(settings: Settings, done: u32, headers: &[u8], s: &[u8]) -> Resu
     }
 }
 
-// The rows of the same blocks, written into the area; s stands at `at` in the packet.
-fn put_blocks(
-    settings: Settings,
-    done: u32,
-    time: u32,
-    at: u32,
-    headers: &[u8],
-    s: &[u8],
-    rows: &mut [u32],
-)
-    requires { BlocksRoom current settings done time at headers.now s.now (length rows.old) }
-    ensures { rows.new ≡ over (rows_words (blocks_from current settings done time at headers.now s.now)) rows.old }
+// The rows of the same blocks, written into the area; s stands at this place in the packet.
+fn put_blocks(settings: Settings, place: Place, headers: &[u8], s: &[u8], rows: &mut [u32])
+    requires { BlocksRoom current settings place.done place.time place.at headers.now s.now (length rows.old) }
+    ensures { rows.new ≡ over (rows_words (blocks_from current settings place.done place.time place.at headers.now s.now)) rows.old }
 {
     match redundancy::read_block_header(headers) {
         Err(_) => {}
         Ok(BlockHeader::Primary(block_type)) => {
-            let _ = put_block(settings, done, time, block_type, 0, at, PRIMARY, s, rows);
+            let header = Header {
+                payload_type: block_type,
+                offset: 0,
+                mark: PRIMARY,
+            };
+            let _ = put_block(settings, header, place, s, rows);
         }
         Ok(BlockHeader::Redundant(block)) => {
             let length = block.length;
-            if let Ok(here) = put_block(
-                settings,
-                done,
-                time,
-                block.payload_type,
-                block.offset,
-                at,
-                REDUNDANT,
-                &s[..length],
-                rows,
-            ) {
+            let header = Header {
+                payload_type: block.payload_type,
+                offset: block.offset,
+                mark: REDUNDANT,
+            };
+            if let Ok(here) = put_block(settings, header, place, &s[..length], rows) {
                 let width = ROW_WIDTH * (here as usize);
+                let next = Place {
+                    done: place.done + here,
+                    at: place.at + (length as u32),
+                    ..place
+                };
                 put_blocks(
                     settings,
-                    done + here,
-                    time,
-                    at + (length as u32),
+                    next,
                     &headers[4..],
                     &s[length..],
                     &mut rows[width..],
@@ -152,15 +159,12 @@ fn read_blocks(
         });
     }
     let count = refusal::shifted(check_blocks(settings, 0, s, &s[size..]), front)?;
-    put_blocks(
-        settings,
-        0,
-        timestamp,
-        at + (size as u32),
-        s,
-        &s[size..],
-        rows,
-    );
+    let first = Place {
+        done: 0,
+        time: timestamp,
+        at: at + (size as u32),
+    };
+    put_blocks(settings, first, s, &s[size..], rows);
     Ok(count)
 }
 

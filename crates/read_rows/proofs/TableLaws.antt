@@ -1,5 +1,5 @@
 -- Laws of a table's rows, and of the room that they need.
-use Rattle.std.proofs.Common.{◌≡◌, ℕ, ◌+◌, ◌-◌, ◌*◌, ◌/◌, ◌%◌, ◌^◌, ◌<◌, ◌≤◌, true, false, ltb, List, [], ◌∷◌, ◌++◌, length, take, drop, sym, ap, ◌∙◌, subst, append-nil, arith, ltb-false, ltb-true}
+use Rattle.std.proofs.Common.{◌≡◌, ℕ, ◌+◌, ◌-◌, ◌*◌, ◌^◌, ◌<◌, ◌≤◌, true, false, ltb, List, [], ◌∷◌, ◌++◌, length, take, drop, sym, ap, ◌∙◌, subst, append-nil, arith, ltb-false, ltb-true}
 use Rattle.std.specs.Prelude.{Err, Ok, Result}
 use Rattle.read_contents.specs.declared.entries.Sizes.{Sizes}
 use Rattle.rtp.specs.declared.refusal.Fault.{Fault}
@@ -9,14 +9,12 @@ use Rattle.rtp.specs.Sizes.{row_width, max_rows}
 use Rattle.rtp.specs.Areas.{over}
 use Rattle.rtp.specs.declared.refusal.Refusal.{Refusal}
 use Rattle.rtp.proofs.TestLaws.{by-test}
-use Rattle.rtp.proofs.ByteLaws.{Bytes}
 use Rattle.rtp.proofs.AreaLaws.{over_none, over_part, part_to_end}
 use Rattle.read_contents.specs.declared.entries.Entry.{Entry}
-use Rattle.formats.specs.Frames.{step_of, max_class}
+use Rattle.formats.specs.Frames.{step_of}
 use Rattle.read_contents.specs.Contents.{entry_of, gaps_from, Contents, refused, groups, meaning, prepend, contents, sizes_answer}
 use Rattle.read_rows.specs.Rows.{words, time_after, group_rows, table_rows, marked}
 use Rattle.read_rows.specs.Room.{GroupRoom, TableRoom, contents_words}
-use Rattle.read_contents.proofs.EntryLaws.{fair}
 use Rattle.read_contents.proofs.ContentsLaws.{contents_refused, contents_last, contents_more, length_gaps, at_many, at_last, at_more, ahead}
 use Rattle.read_rows.proofs.RowLaws.{length_words, words_append, length_marked, marked_append}
 use Rattle.read_rows.proofs.GroupLaws.{length_group}
@@ -55,26 +53,11 @@ module _ (ed : Edition) (format ch rows start area : ℕ) (s : List ℕ) (e : En
       ch_of (Err n) z = absurd z
       ch_of (Ok t) z = z.2
 
-  pub room_group : (mark : ℕ) → mark < 256 → Bytes s → GroupRoom 0 e.blocks ch (256 * mark + e.class) start e.length area
-  room_group mark l bs =
-      let f = fair format s e h in
-      record {
-        area_fits = room_here.0;
-        kinds = omega (arith, f.classes);
-        channels = room_channels;
-        frames_fit = room_here.1;
-        few = omega (arith, f.few bs);
-      }
+  pub room_group : GroupRoom e.blocks ch start e.length area
+  room_group = record { area_fits = room_here.0; channels_fit = room_channels; frames_fit = room_here.1 }
 
   pub room_rest : (e.more ≡ true) → TableRoom ch (start + e.blocks * ch * e.length) (area - row_width * (e.blocks * ch)) (sizes_answer format ch (contents ed format ch (rows + e.blocks * ch) (drop e.size s)))
   room_rest m = (room_both m).2
-
--- mark and class in one number
-pub kind_mark : (mark class : ℕ) → class ≤ max_class → (256 * mark + class) / 256 ≡ mark
-kind_mark mark class h = omega arith
-
-pub kind_class : (mark class : ℕ) → class ≤ max_class → (256 * mark + class) % 256 ≡ class
-kind_class mark class h = omega arith
 
 -- the words of an entry that was read
 abbrev pub first_words : ℕ → ℕ → ℕ → ℕ → ℕ → List ℕ → Entry → List ℕ

@@ -3,7 +3,7 @@ use Rattle.std.specs.Prelude.{Err, Ok, Result}
 use Rattle.rtp.specs.declared.refusal.Fault.{Fault}
 use Rattle.std.specs.Prelude.{ℕ}
 use mathlib.Core.Path.{◌≡◌, ap, sym, subst, ◌∙◌}
-use Prim.Native.Nat.{◌+◌, ◌<◌, ◌≤◌, ◌^◌}
+use Prim.Native.Nat.{◌+◌, ◌<◌, ◌^◌}
 use native.Mathlib.Omega.{arith}
 use Rattle.rtp.specs.Editions.{current}
 use Rattle.rtp.specs.Areas.{over}
@@ -92,14 +92,14 @@ check_blocks-requires c =
     rw (part_to_end c.in_ok-sizes.sizes.size a.s.now)
     (split_asked current a.settings a.timestamp a.at a.s.now c.requires.2 _ h c.if-s-size.false c.requires.0 (small_at p.In_ok-sizes h).within 0 (omega arith))
 
-pub overflow_cast-size : goal.overflow_cast-size
-overflow_cast-size c =
-    let p = goal.at.overflow_cast-size c in
+pub overflow_cast-first : goal.overflow_cast-first
+overflow_cast-first c =
+    let p = goal.at.overflow_cast-first c in
     omega (arith, (small_at p.In_ok-sizes (sizes-at p.In_ok-sizes (headers_near p.After-shifted))).within, c.requires.2)
 
-pub overflow_add-at : goal.overflow_add-at
-overflow_add-at c =
-    let p = goal.at.overflow_add-at c in
+pub overflow_add-first : goal.overflow_add-first
+overflow_add-first c =
+    let p = goal.at.overflow_add-first c in
     omega (arith, (small_at p.In_ok-sizes (sizes-at p.In_ok-sizes (headers_near p.After-shifted))).within, c.requires.2)
 
 pub slice_bounds-put_blocks-count : goal.slice_bounds-put_blocks-count

@@ -3,7 +3,6 @@ use Rattle.std.specs.Prelude.{Err, Ok}
 use Rattle.rtp.specs.Editions.{current}
 use Rattle.rtp.specs.Sizes.{max_packet, row_width, row_area}
 use Rattle.rtp.proofs.ErrorLaws.{err_is}
-use Rattle.rtp.proofs.AreaLaws.{part_to_end}
 use Rattle.read_contents.specs.Contents.{contents, sizes_answer}
 use Rattle.read_contents.proofs.ContentsLaws.{Small}
 use Rattle.read_contents.proofs.NumberLaws.{contents_is}
@@ -23,14 +22,11 @@ inside-at c =
 -- what reading the table answered
 table_at : (c : In_ok-sizes) → let a = c.args in sizes_answer a.format a.channels (contents current a.format a.channels a.done a.s.now) ≡ Ok c.in_ok-sizes.sizes
 table_at c =
-    sym (contents_is _ _ _ _ (rw (part_to_end 0 c.args.s.now) at c.read_contents.ensures)) ∙ c.in_ok-sizes.was
+    sym (contents_is _ _ _ _ c.read_contents.ensures) ∙ c.in_ok-sizes.was
 
 small_at : (c : In_ok-sizes) → let a = c.args in Small current a.done (length a.s.now) c.in_ok-sizes.sizes
 small_at c =
-    let area_at : let a = c.args in row_area current ≤ row_width * a.done + length a.area.now = omega (arith, c.if-done-area-lt-ROW_AREA.false) in
-    let inside-at : let a = c.args in a.at + length a.s.now ≤ max_packet = omega (arith, c.if-at-s-gt-MAX_PACKET.false) in
-    let table_at : let a = c.args in sizes_answer a.format a.channels (contents current a.format a.channels a.done a.s.now) ≡ Ok c.in_ok-sizes.sizes = sym (contents_is _ _ _ _ (rw (part_to_end 0 c.args.s.now) at c.read_contents.ensures)) ∙ c.in_ok-sizes.was in
-    let a = c.args in fitting_small current a.format a.channels a.done (length a.area.now) a.at a.s.now (area_at) (inside-at) _ (table_at)
+    let a = c.args in fitting_small current a.format a.channels a.done (length a.area.now) a.at a.s.now (omega (arith, c.if-done-area-lt-ROW_AREA.false)) (omega (arith, c.if-at-s-gt-MAX_PACKET.false)) _ (table_at c)
 
 pub returns-then-done-area-lt-ROW_AREA : goal.returns-then-done-area-lt-ROW_AREA
 returns-then-done-area-lt-ROW_AREA c =
@@ -46,17 +42,17 @@ overflow_add-sizes c =
 
 pub put_contents-requires : goal.put_contents-requires
 put_contents-requires c =
-    let a = c.args in rw (part_to_end 0 a.s.now) (fitting_room current a.format a.channels a.done (length a.area.now) a.at a.s.now (area_at (goal.at.put_contents-requires c).Else-at-s-gt-MAX_PACKET) (inside-at (goal.at.put_contents-requires c).Else-at-s-gt-MAX_PACKET) _ (table_at (goal.at.put_contents-requires c).In_ok-sizes) (omega (arith, c.if-sizes-s.false)) (omega (arith, c.ranges.channels)))
+    let a = c.args in fitting_room current a.format a.channels a.done (length a.area.now) a.at a.s.now (area_at (goal.at.put_contents-requires c).Else-at-s-gt-MAX_PACKET) (inside-at (goal.at.put_contents-requires c).Else-at-s-gt-MAX_PACKET) _ (table_at (goal.at.put_contents-requires c).In_ok-sizes) (omega (arith, c.if-sizes-s.false)) (omega (arith, c.ranges.channels))
 
 pub returns : goal.returns
 returns c =
-    let a = c.args in gives_rows current a.format a.channels a.done (length a.area.now) a.at a.s.now (area_at (goal.at.returns c).Else-at-s-gt-MAX_PACKET) (inside-at (goal.at.returns c).Else-at-s-gt-MAX_PACKET) _ (table_at (goal.at.returns c).In_ok-sizes) (omega (arith, c.if-sizes-s.false)) a.mark a.time _ a.area.now _ c.ranges.time.fits (rw (part_to_end 0 a.s.now) at c.origin.ensures) (rw (part_to_end 0 a.s.now) at c.put_contents.ensures)
+    let a = c.args in gives_rows current a.format a.channels a.done (length a.area.now) a.at a.s.now (area_at (goal.at.returns c).Else-at-s-gt-MAX_PACKET) (inside-at (goal.at.returns c).Else-at-s-gt-MAX_PACKET) _ (table_at (goal.at.returns c).In_ok-sizes) (omega (arith, c.if-sizes-s.false)) a.mark a.time _ a.area.now _ c.ranges.time.fits c.origin.ensures c.put_contents.ensures
 
 pub returns-in_err-sizes : goal.returns-in_err-sizes
 returns-in_err-sizes c =
     let a = c.args in
     let e : sizes_answer a.format a.channels (contents current a.format a.channels a.done a.s.now) ≡ Err c.in_err-sizes.field-0.0 =
-    sym (contents_is _ _ _ _ (rw (part_to_end 0 a.s.now) at c.read_contents.ensures)) ∙ c.in_err-sizes.was in
+    sym (contents_is _ _ _ _ c.read_contents.ensures) ∙ c.in_err-sizes.was in
     let p = goal.at.returns-in_err-sizes c in
     rw (err_is _ _ c.from_residual.ensures.1)
     (gives_none _ _ _ _ _ _ a.area.now _ (fitting_refused current a.format a.channels a.done (length a.area.now) a.at a.s.now (area_at p.Else-at-s-gt-MAX_PACKET) (inside-at p.Else-at-s-gt-MAX_PACKET) _ e))
