@@ -56,33 +56,12 @@ fn lay_copy(
     let search = columns::find_place(&buffer.times, &buffer.tags, n, head.time, channel);
     let place = search.place;
     match place {
-        Ok(at) => laying::replace_copy(
-            &mut buffer.tags,
-            &mut buffer.lengths,
-            &buffer.slots,
-            at,
-            head,
-            frame,
-            store,
-        ),
+        Ok(at) => laying::replace_copy(buffer, at, head, frame, store),
         Err(at) => {
             if SLOTS <= n {
                 return Verdict::NoRoom;
             }
-            let occupied = buffer.occupied;
-            let next = laying::insert_copy(
-                &mut buffer.times,
-                &mut buffer.tags,
-                &mut buffer.lengths,
-                &mut buffer.slots,
-                occupied,
-                n,
-                at,
-                head,
-                frame,
-                store,
-            );
-            buffer.occupied = next;
+            laying::insert_copy(buffer, n, at, head, frame, store);
             Verdict::Inserted
         }
     }

@@ -38,7 +38,7 @@ returns-in-Ok c g t =
     let short-at : (let a = c.args in Judgeable current c.args.buffer.now a.head a.frame.now a.store.now) → length c.args.frame.now ≤ slot_size = λ g. let a = c.args in (allowed_frame a.buffer.now.settings.format (class_in a.head) (length a.frame.now) g.class).1 in
     let a = c.args in
     let q = sym c.in-Ok.is ∙ found_at (goal.at.returns-in-Ok c).After-find_place-search g t in
-    step_found c.args.buffer.now g.machine g.fine a.head a.frame.now a.store.now t.not_late a.n c.requires.0 c.in-Ok.at q t.not_far _ _ _ _
+    step_found c.args.buffer.now g.machine g.fine a.head a.frame.now a.store.now t.not_late a.n c.requires.0 c.in-Ok.at q t.not_far _ _ _
     (c.replace_copy.ensures.replaced
     (held_at c.args.buffer.now g.machine g.fine a.head a.frame.now a.store.now t.not_late a.n c.requires.0 c.in-Ok.at q (short-at g) g.room))
 
@@ -48,6 +48,6 @@ returns-else-n-ge-SLOTS c g t =
     let a = c.args in
     let q = sym c.in-Err.is ∙ found_at (goal.at.returns-else-n-ge-SLOTS c).After-find_place-search g t in
     let l = c.if-n-ge-SLOTS.false in
-    step_new c.args.buffer.now g.machine g.fine a.head a.frame.now a.store.now t.not_late a.n c.requires.0 c.in-Err.at q l t.not_far _ _ _ _ _ _
-    (c.insert_copy-next.ensures.laid
+    step_new c.args.buffer.now g.machine g.fine a.head a.frame.now a.store.now t.not_late a.n c.requires.0 c.in-Err.at q l t.not_far _ _
+    (c.insert_copy.ensures.laid
     (free_at c.args.buffer.now g.machine g.fine a.head a.frame.now a.store.now t.not_late a.n c.requires.0 c.in-Err.at q l (short-at g) g.room))
