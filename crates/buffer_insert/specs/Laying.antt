@@ -1,5 +1,5 @@
 -- Frames laid into the buffer and the store: what the functions that lay them give, also where there is no such place or no room.
-use Rattle.std.specs.Prelude.{ℕ, ◌*◌, ◌≡◌, List, Bool, false, cond, length, get_or, take, drop, set, ltb, leb}
+use Rattle.std.specs.Prelude.{ℕ, ◌*◌, ◌≡◌, ◌≤◌, ◌<◌, List, Bool, false, cond, length, get_or, take, drop, set, ltb, leb}
 use Rattle.std.proofs.Math.Seq.{paste}
 use Rattle.row_tags.specs.Tags.{tag_mark, tag_class, tag_channel, joined_tag}
 use Rattle.buffer_copies.specs.declared.verdict.Verdict.{Verdict}
@@ -46,6 +46,14 @@ can_replace lengths slots' at size room =
     false)
     false
 
+-- the entry at a place, and a frame of this size, in a store of so many bytes
+pub record Replaceable (lengths slots' : List ℕ) (at size room : ℕ) : Type 0 where
+  pub place : at < slots
+  pub slot : get_or slots' at 0 < slots
+  pub held : get_or lengths at 0 ≤ slot_size
+  pub short : size ≤ slot_size
+  pub store : store_size ≤ room
+
 -- the frame is better than the one held at the place
 abbrev pub beats : FrameHead → List ℕ → List ℕ → List ℕ → List ℕ → ℕ → List ℕ → Bool
 beats h frame tags lengths slots' at store =
@@ -77,6 +85,14 @@ can_insert slot n at size room =
     (leb store_size room)))
     false)
     false
+
+-- a slot, a place of n entries, and a frame of this size, in a store of so many bytes
+pub record Insertable (slot n at size room : ℕ) : Type 0 where
+  pub slot_in : slot < slots
+  pub space : n < slots
+  pub place : at ≤ n
+  pub short : size ≤ slot_size
+  pub store : store_size ≤ room
 
 pub record Laid (h : FrameHead) (frame : List ℕ) (b b' : Buffer) (n at : ℕ) (store store' : List ℕ) : Type 0 where
   pub buffer : b' ≡ record b {

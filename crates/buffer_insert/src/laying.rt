@@ -1,7 +1,7 @@
 // Frames laid into the buffer and the store.
 ghost use Rattle.std.specs.Prelude.{◌≡◌, true, false, length};
 ghost use Rattle.buffer_slots.specs.Bits.{lowest_free};
-ghost use Rattle.buffer_insert.specs.Laying.{can_replace, Replaced, NotReplaced, can_insert, Laid, NotLaid};
+ghost use Rattle.buffer_insert.specs.Laying.{can_replace, Replaceable, Replaced, NotReplaced, can_insert, Insertable, Laid, NotLaid};
 
 use buffer_columns::{areas, columns};
 use buffer_copies::compare;
@@ -25,7 +25,8 @@ pub struct FrameHead {
 
 // Whether a frame of this size can replace the one held at a place: there are such a place and such a slot, both frames fit into it, and a store of this length holds every slot.
 fn can_replace(buffer: &Buffer, at: usize, size: usize, room: usize) -> bool
-    ensures { result ≡ can_replace buffer.now.lengths buffer.now.slots at size room }
+    ensures test { result ≡ can_replace buffer.now.lengths buffer.now.slots at size room }
+    ensures fits { result ≡ true → Replaceable buffer.now.lengths buffer.now.slots at size room }
 {
     at < SLOTS
         && buffer.slots[at] < COUNT
@@ -71,7 +72,8 @@ pub fn replace_copy(
 
 // Whether a frame of this size can be inserted at a place of n entries, into a slot: there are such a slot and such a place, the frame fits, and a store of this length holds every slot.
 fn can_insert(slot: usize, n: usize, at: usize, size: usize, room: usize) -> bool
-    ensures { result ≡ can_insert slot n at size room }
+    ensures test { result ≡ can_insert slot n at size room }
+    ensures fits { result ≡ true → Insertable slot n at size room }
 {
     slot < SLOTS && n < SLOTS && at <= n && size <= SLOT_SIZE && STORE_SIZE <= room
 }

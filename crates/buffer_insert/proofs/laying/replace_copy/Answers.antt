@@ -11,7 +11,6 @@ use Rattle.buffer_copies.specs.Copies.{better_frame}
 use Rattle.buffer_columns.proofs.BoundLaws.{laid_is}
 use Rattle.buffer_insert.specs.declared.laying.FrameHead.{FrameHead}
 use Rattle.buffer_insert.specs.Laying.{class_in, can_replace, beats}
-use Rattle.buffer_insert.proofs.LayingLaws.{Replaceable, replaceable}
 use Rattle.buffer_insert.proofs.laying.replace_copy.Goals.{After-is_better, Else-not-can_replace}
 use Rattle.buffer_insert.proofs.laying.replace_copy.Goals as goal
 
@@ -24,11 +23,7 @@ part_is h frame tags lengths slots' at store k m p q =
     λ i. better_frame (p i) frame (q i) (take (e i) (drop (slot_size * get_or slots' at 0) store))
 
 passed_at : (c : Else-not-can_replace) → (let a = c.args in can_replace a.buffer.now.lengths a.buffer.now.slots a.at (length a.frame.now) (length a.store.now)) ≡ true
-passed_at c = sym c.can_replace.ensures ∙ c.if-not-can_replace.false
-
--- the entry and the frame pass the test
-fits_at : (c : Else-not-can_replace) → let a = c.args in Replaceable a.buffer.now.lengths a.buffer.now.slots a.at (length a.frame.now) (length a.store.now)
-fits_at c = let a = c.args in replaceable a.buffer.now.lengths a.buffer.now.slots a.at (length a.frame.now) (length a.store.now) (passed_at c)
+passed_at c = sym c.can_replace.ensures.test ∙ c.if-not-can_replace.false
 
 -- the frame is better than the one held as the test tells
 beats_at : (c : After-is_better) → let a = c.args in
@@ -38,58 +33,10 @@ beats_at c =
     sym (part_is a.head a.frame.now a.buffer.now.tags a.buffer.now.lengths a.buffer.now.slots a.at a.store.now _ _ c.tag_class.ensures c.tag_class-2.ensures)
     ∙ sym c.is_better.ensures
 
-pub offset_bounds-buffer-at : goal.offset_bounds-buffer-at
-offset_bounds-buffer-at c =
-    let g = fits_at c in omega (arith, g.place)
-
-pub bounds-buffer-at : goal.bounds-buffer-at
-bounds-buffer-at c =
-    let g = fits_at (goal.at.bounds-buffer-at c).Else-not-can_replace in omega (arith, g.place)
-
-pub offset_bounds-buffer-at-2 : goal.offset_bounds-buffer-at-2
-offset_bounds-buffer-at-2 c =
-    let g = fits_at (goal.at.offset_bounds-buffer-at-2 c).Else-not-can_replace in omega (arith, g.place)
-
-pub bounds-buffer-at-2 : goal.bounds-buffer-at-2
-bounds-buffer-at-2 c =
-    let g = fits_at (goal.at.bounds-buffer-at-2 c).Else-not-can_replace in omega (arith, g.place)
-
-pub offset_bounds-buffer-at-3 : goal.offset_bounds-buffer-at-3
-offset_bounds-buffer-at-3 c =
-    let g = fits_at (goal.at.offset_bounds-buffer-at-3 c).Else-not-can_replace in omega (arith, g.place)
-
-pub bounds-buffer-at-3 : goal.bounds-buffer-at-3
-bounds-buffer-at-3 c =
-    let g = fits_at (goal.at.bounds-buffer-at-3 c).Else-not-can_replace in omega (arith, g.place)
-
-pub slice_bounds-is_better-end : goal.slice_bounds-is_better-end
-slice_bounds-is_better-end c =
-    let g = fits_at (goal.at.slice_bounds-is_better-end c).Else-not-can_replace in omega (arith, g.slot, g.held, g.store)
-
-pub offset_bounds-buffer-at-then-is_better : goal.offset_bounds-buffer-at-then-is_better
-offset_bounds-buffer-at-then-is_better c =
-    let g = fits_at (goal.at.offset_bounds-buffer-at-then-is_better c).Else-not-can_replace in omega (arith, g.place)
-
-pub bounds-buffer-at-then-is_better : goal.bounds-buffer-at-then-is_better
-bounds-buffer-at-then-is_better c =
-    let g = fits_at (goal.at.bounds-buffer-at-then-is_better c).Else-not-can_replace in omega (arith, g.place)
-
-pub overflow_cast-buffer : goal.overflow_cast-buffer
-overflow_cast-buffer c =
-    let g = fits_at (goal.at.overflow_cast-buffer c).Else-not-can_replace in omega (arith, g.short)
-
-pub offset_bounds-buffer-at-then-is_better-2 : goal.offset_bounds-buffer-at-then-is_better-2
-offset_bounds-buffer-at-then-is_better-2 c =
-    let g = fits_at (goal.at.offset_bounds-buffer-at-then-is_better-2 c).Else-not-can_replace in omega (arith, g.place)
-
-pub bounds-buffer-at-then-is_better-2 : goal.bounds-buffer-at-then-is_better-2
-bounds-buffer-at-then-is_better-2 c =
-    let g = fits_at (goal.at.bounds-buffer-at-then-is_better-2 c).Else-not-can_replace in omega (arith, g.place)
-
 pub returns-then-is_better : goal.returns-then-is_better
 returns-then-is_better c =
     let a = c.args in
-    let g = fits_at (goal.at.returns-then-is_better c).Else-not-can_replace in
+    let g = c.can_replace.ensures.fits c.if-not-can_replace.false in
     let t = beats_at (goal.at.returns-then-is_better c).After-is_better ∙ c.if-is_better.true in record {
       replaced = λ h. record {
         verdict = rw t;
@@ -98,11 +45,3 @@ returns-then-is_better c =
       };
       not_replaced = λ h. not-both _ (passed_at (goal.at.returns-then-is_better c).Else-not-can_replace) h;
     }
-
-pub offset_bounds-buffer-at-4 : goal.offset_bounds-buffer-at-4
-offset_bounds-buffer-at-4 c =
-    let g = fits_at (goal.at.offset_bounds-buffer-at-4 c).Else-not-can_replace in omega (arith, g.place)
-
-pub bounds-buffer-at-4 : goal.bounds-buffer-at-4
-bounds-buffer-at-4 c =
-    let g = fits_at (goal.at.bounds-buffer-at-4 c).Else-not-can_replace in omega (arith, g.place)

@@ -1,6 +1,9 @@
 use mathlib.Core.Path.{◌≡◌, sym, ◌∙◌}
-use Prim.Native.Nat.{◌+◌, ◌-◌}
+use Prim.Native.Nat.{◌+◌, ◌-◌, ◌<◌, ◌^◌}
 use native.Mathlib.Omega.{arith}
+use mir.Val.{Fits}
+use mir.Syntax.{w32}
+use borrow.Author.Rules.{rules}
 use lib.ListN.{get_or, take, drop}
 use Rattle.rtp.specs.Editions.{current}
 use Rattle.rtp.proofs.AreaLaws.{part_cut}
@@ -16,10 +19,6 @@ some_at : (c : Else-tag_class-eq0) → tag_class (get_or c.args.row.now 1 0) ≡
 some_at c z =
     c.if-tag_class-eq0.false (c.tag_class.ensures ∙ z)
 
-pub bounds-row-1 : goal.bounds-row-1
-bounds-row-1 c =
-    omega (arith, c.requires)
-
 pub returns-then-tag_class-eq0 : goal.returns-then-tag_class-eq0
 returns-then-tag_class-eq0 c rest p =
     let a = c.args in
@@ -29,33 +28,9 @@ returns-then-tag_class-eq0 c rest p =
       all = skip_gives current a.buffer.now a.packet.now a.tally a.store.now r rest (sym c.tag_class.ensures ∙ c.if-tag_class-eq0.true);
     }
 
-pub bounds-row-2 : goal.bounds-row-2
-bounds-row-2 c =
-    omega (arith, c.requires)
-
-pub overflow_cast-start : goal.overflow_cast-start
-overflow_cast-start c =
-    omega (arith, (c.shared_slice_known-2-1.given 2).fits)
-
-pub bounds-row-3 : goal.bounds-row-3
-bounds-row-3 c =
-    omega (arith, c.requires)
-
-pub overflow_cast-end : goal.overflow_cast-end
-overflow_cast-end c =
-    omega (arith, (c.shared_slice_known-2-1.given 3).fits)
-
-pub overflow_add-end : goal.overflow_add-end
-overflow_add-end c =
-    omega (arith, (c.shared_slice_known-2-1.given 2).fits, (c.shared_slice_known-2-1.given 3).fits)
-
 pub returns-then-packet-end : goal.returns-then-packet-end
 returns-then-packet-end c rest p =
     absurd (let o : ⊥ = omega (arith, c.if-packet-end.true, (p.rows.0 (some_at (goal.at.returns-then-packet-end c).Else-tag_class-eq0)).2) in o)
-
-pub bounds-row-0 : goal.bounds-row-0
-bounds-row-0 c =
-    omega (arith, c.requires)
 
 pub returns : goal.returns
 returns c rest p =
@@ -65,7 +40,7 @@ returns c rest p =
     let k = get_or a.row.now 3 0 in
     let frame = take (n + k - n) (drop n a.packet.now) in
     let cut = part_cut n k a.packet.now in
-    let word = (c.shared_slice_known-2-1.given 0).fits in
+    let word : head.time < 2 ^ 32 = let f : Fits w32 head.time = search rules in f.fits in
     let z = some_at (goal.at.returns c).Else-tag_class-eq0 in
     let j = c.judge_copy-verdict.ensures (copy_asks current a.buffer.now a.packet.now a.tally a.store.now head n k rest p z frame cut) in
     record {
