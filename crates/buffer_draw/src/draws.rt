@@ -8,8 +8,7 @@ ghost use Rattle.buffer_draw.specs.Calls.{draw_numbers, draw_done, draw_call};
 ghost use Rattle.buffer_draw.specs.Drawable.{Drawable};
 
 use buffer_columns::{areas, columns};
-use buffer_layout::buffer::{Answered, Buffer, Fixed, SLOT_SIZE, STORE_SIZE};
-use buffer_layout::well_formed;
+use buffer_layout::buffer::{Answered, Buffer, SLOT_SIZE, STORE_SIZE};
 use buffer_slots::bits;
 use row_tags::tagging;
 use rtp::refusal::Refusal;
@@ -77,25 +76,13 @@ fn draw_checked(
     ensures { record { answer = draw_numbers result.answer; buffer = result.buffer; area = area.new }
         ≡ draw_call current buffer store.now area.old }
 {
-    let times = buffer.times;
-    let tags = buffer.tags;
-    let lengths = buffer.lengths;
-    let slots = buffer.slots;
-    let occupied = buffer.occupied;
-    let settings = buffer.settings;
-    let fixed = Fixed {
-        last_time: buffer.last_time,
-        last_channel: buffer.last_channel,
-        drawn: buffer.drawn,
-        settings,
-    };
-    if !well_formed::well_formed(&times, &tags, &lengths, &slots, occupied, fixed) {
+    if !buffer.is_well_formed() {
         return Answered::refused(Refusal::Malformed, buffer);
     }
     if store.len() < STORE_SIZE || area.len() < SLOT_SIZE {
         return Answered::refused(Refusal::AreaTooShort, buffer);
     }
-    let n = bits::held_in(occupied);
+    let n = bits::held_in(buffer.occupied);
     if n == 0 {
         return Answered {
             answer: Ok(None),

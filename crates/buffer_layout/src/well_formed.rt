@@ -7,7 +7,7 @@ ghost use Rattle.buffer_layout.specs.Layout.{unused_zero, assembled};
 ghost use Rattle.buffer_layout.specs.WellFormed.{well_formed};
 ghost use Rattle.buffer_layout.specs.Checks.{last_kept, class_fine, base_of, start_of, position_of, entries_pass};
 
-use crate::buffer::Fixed;
+use crate::buffer::{Buffer, Fixed};
 use crate::columns;
 use buffer_copies::order;
 use buffer_slots::bits;
@@ -147,4 +147,26 @@ pub fn well_formed(
     let n = bits::held_in(occupied);
     unused_zero(times, tags, lengths, slots, n)
         && entries_pass(times, tags, lengths, slots, occupied, fixed, n)
+}
+
+impl Buffer {
+    // Whether the buffer is well-formed.
+    pub fn is_well_formed(&self) -> bool
+        ensures { result ≡ well_formed self.now }
+    {
+        let fixed = Fixed {
+            last_time: self.last_time,
+            last_channel: self.last_channel,
+            drawn: self.drawn,
+            settings: self.settings,
+        };
+        well_formed(
+            &self.times,
+            &self.tags,
+            &self.lengths,
+            &self.slots,
+            self.occupied,
+            fixed,
+        )
+    }
 }

@@ -26,7 +26,6 @@ use Rattle.read_packet.proofs.RowFactLaws.{rows_fine}
 use Rattle.buffer_copies.specs.Sizes.{store_size}
 use Rattle.buffer_copies.specs.Verdicts.{no_counts, tally, Gathered, judge_all}
 use Rattle.buffer_layout.specs.declared.buffer.Buffer.{Buffer}
-use Rattle.buffer_offer.specs.declared.judging.Judged.{Judged}
 use Rattle.buffer_insert.specs.declared.tally.Tally.{Tally}
 use Rattle.buffer_layout.specs.Layout.{encode, decode}
 use Rattle.buffer_layout.specs.WellFormed.{well_formed}
@@ -70,12 +69,9 @@ is_read (refused q) p e = let z : 0 ≡ number q.refusal = ap (λ (n : Numbers).
 is_read (read_as h rs request) p e = record { head = h; rows = rs; request = request; same = refl; count = ap (λ (n : Numbers). n.rows) e }
 
 -- the rows of an offer judged, from none judged
-pub rows_offer : (at : List ℕ → Buffer) (occupied : List ℕ) (sum : Judged) → sum ≡ record { tally = no_tally; occupied = occupied }
-    → (b' : Buffer) (packet : List ℕ) (rs : List Row) (t : Tally) (store store' : List ℕ) → RowsJudged (at sum.occupied) b' packet rs sum.tally t store store'
-    → OfferJudged (at occupied) b' packet rs (Ok t) store store'
-rows_offer at occupied sum e b' packet rs t store store' k =
-    let j = subst (λ (x : Judged). RowsJudged (at x.occupied) b' packet rs x.tally t store store') e k in
-    record { answer = ap count_numbers j.counts; buffer = j.buffer; store_left = j.store_left }
+pub rows_offer : (b b' : Buffer) (packet : List ℕ) (rs : List Row) (t : Tally) (store store' : List ℕ) → RowsJudged b b' packet rs no_tally t store store'
+    → OfferJudged b b' packet rs (Ok t) store store'
+rows_offer b b' packet rs t store store' j = record { answer = ap count_numbers j.counts; buffer = j.buffer; store_left = j.store_left }
 
 -- the tags of rows that were read hold all of their parts
 tags_fit : (format ch n : ℕ) (rs : List Row) → ch ≤ 255 → AllRows (RowFine format ch n) rs → TagsFit rs

@@ -229,24 +229,18 @@ module _ (b : Buffer) (m : Machine b) (w : well_formed b ≡ true) (head : Frame
             (ap (λ (e : Entry). tag_of (either_mark e.primary mark) e.class e.channel) entry_here) b.lengths
             (column_same (λ x. x.length) es i repeated refl ∙ ap (λ (a : Buffer). a.lengths) back)
 
-        pub step_found : is_far (decode b) c ≡ false → (tags lengths store' : List ℕ) (v : Verdict)
-            → Replaced head frame b.tags tags b.lengths lengths b.slots i store store' v
-            → JudgedAs b (laid b.times tags lengths b.slots b.occupied) c mark store store' v
+        pub step_found : is_far (decode b) c ≡ false → (b' : Buffer) (store' : List ℕ) (v : Verdict) → Replaced head frame b b' i store store' v → JudgedAs b b' c mark store store' v
         unfolding stored
-        step_found far tags lengths store' v r =
-            let tags-by : (x : Bool) → beats head frame b.tags b.lengths b.slots i store ≡ x
-            → tags ≡ set b.tags i (cond x (joined_tag head.tag tag_of_lem) (joined_tag tag_of_lem head.tag))
-            = λ x t. r.tags_left ∙ ap (λ (x : Bool). set b.tags i (cond x (joined_tag head.tag tag_of_lem) (joined_tag tag_of_lem head.tag))) t in
-            let lengths-by : (x : Bool) → beats head frame b.tags b.lengths b.slots i store ≡ x → lengths ≡ cond x (set b.lengths i (length frame)) b.lengths
-            = λ x t. r.lengths_left ∙ ap (λ (x : Bool). cond x (set b.lengths i (length frame)) b.lengths) t in
+        step_found far b' store' v r =
+            let buffer-by : (x : Bool) → beats head frame b.tags b.lengths b.slots i store ≡ x
+            → b' ≡ record b { tags = set b.tags i (cond x (joined_tag head.tag tag_of_lem) (joined_tag tag_of_lem head.tag)); lengths = cond x (set b.lengths i (length frame)) b.lengths }
+            = λ x t. r.buffer ∙ ap (λ (x : Bool). record b { tags = set b.tags i (cond x (joined_tag head.tag tag_of_lem) (joined_tag tag_of_lem head.tag)); lengths = cond x (set b.lengths i (length frame)) b.lengths }) t in
             by-test (beats head frame b.tags b.lengths b.slots i store)
             (λ t.
             let q = judge_found far true t in
             record {
               verdict = same_verdict _ _ r.verdict ∙ ap (λ (x : Bool). cond x Better Repeated) t ∙ sym (ap (λ (j : Judged). j.verdict) q);
-              buffer =
-                  ap₂ (λ (x z : List ℕ). laid b.times x z b.slots b.occupied) (tags-by true t) (lengths-by true t)
-                  ∙ sym (ap (λ (j : Judged). encode b.settings j.held) q ∙ buffer_better);
+              buffer = buffer-by true t ∙ sym (ap (λ (j : Judged). encode b.settings j.held) q ∙ buffer_better);
               store_left =
                   r.store_left ∙ ap (λ (x : Bool). cond x (paste store (slot_size * get_or b.slots i 0) frame (length frame)) store) t
                   ∙ sym (ap (λ (j : Judged). j.store) q ∙ ap (λ (e : Entry). paste store (slot_size * e.slot) frame (length frame)) entry_here);
@@ -255,9 +249,7 @@ module _ (b : Buffer) (m : Machine b) (w : well_formed b ≡ true) (head : Frame
             let q = judge_found far false t in
             record {
               verdict = same_verdict _ _ r.verdict ∙ ap (λ (x : Bool). cond x Better Repeated) t ∙ sym (ap (λ (j : Judged). j.verdict) q);
-              buffer =
-                  ap₂ (λ (x z : List ℕ). laid b.times x z b.slots b.occupied) (tags-by false t) (lengths-by false t)
-                  ∙ sym (ap (λ (j : Judged). encode b.settings j.held) q ∙ buffer_repeated);
+              buffer = buffer-by false t ∙ sym (ap (λ (j : Judged). encode b.settings j.held) q ∙ buffer_repeated);
               store_left =
                   r.store_left ∙ ap (λ (x : Bool). cond x (paste store (slot_size * get_or b.slots i 0) frame (length frame)) store) t ∙ sym (ap (λ (j : Judged). j.store) q);
             })
@@ -316,17 +308,12 @@ module _ (b : Buffer) (m : Machine b) (w : well_formed b ≡ true) (head : Frame
             settings = b.settings;
           }
 
-          pub step_new : is_far (decode b) c ≡ false → (times tags lengths slots' occupied store' : List ℕ)
-              → Laid head frame b.times times b.tags tags b.lengths lengths b.slots slots' b.occupied occupied n i store store'
-              → JudgedAs b (laid times tags lengths slots' occupied) c mark store store' Inserted
+          pub step_new : is_far (decode b) c ≡ false → (b' : Buffer) (store' : List ℕ) → Laid head frame b b' n i store store' → JudgedAs b b' c mark store store' Inserted
           unfolding stored
-          step_new far times tags lengths slots' occupied store' r =
+          step_new far b' store' r =
               let q = judge_new far true (lt-ltb (length es) slots (omega (arith, size))) in
-              let z : laid times tags lengths slots' occupied
-              ≡ laid (insert_at b.times n i head.time) (insert_at b.tags n i head.tag) (insert_at b.lengths n i (length frame)) (insert_at b.slots n i k) (marked b.occupied k)
-              = λ j. laid (r.times_left j) (r.tags_left j) (r.lengths_left j) (r.slots_left j) (r.words_left j) in
               record {
                 verdict = sym (ap (λ (j : Judged). j.verdict) q);
-                buffer = z ∙ sym (ap (λ (j : Judged). encode b.settings j.held) q ∙ buffer_new);
+                buffer = r.buffer ∙ sym (ap (λ (j : Judged). encode b.settings j.held) q ∙ buffer_new);
                 store_left = r.store_left ∙ sym (ap (λ (j : Judged). j.store) q ∙ ap (λ (x : ℕ). paste store (slot_size * x) frame (length frame)) (sym free_here));
               }

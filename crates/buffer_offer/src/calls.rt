@@ -3,7 +3,6 @@ ghost use Rattle.std.specs.Prelude.{◌≡◌, true};
 ghost use Rattle.rtp.specs.Editions.{current};
 ghost use Rattle.rtp.specs.Ranges.{in_range};
 ghost use Rattle.read_rows.specs.Rows.{rows_in};
-ghost use Rattle.buffer_layout.specs.Layout.{assembled};
 ghost use Rattle.buffer_insert.specs.Tallies.{no_tally};
 ghost use Rattle.buffer_offer.specs.Judging.{RowsJudgeable};
 ghost use Rattle.buffer_offer.specs.Calls.{new_number, new_call, offer_numbers, offer_call};
@@ -11,8 +10,8 @@ ghost use Rattle.buffer_offer.specs.Offers.{OfferJudged};
 
 use crate::judging;
 use buffer_insert::tally::Tally;
-use buffer_layout::buffer::{Answered, Buffer, Fixed, STORE_SIZE};
-use buffer_layout::{buffer, well_formed};
+use buffer_layout::buffer;
+use buffer_layout::buffer::{Answered, Buffer, STORE_SIZE};
 use read_packet::reading;
 use rtp::refusal::{Fault, Refusal};
 use rtp::settings;
@@ -35,49 +34,18 @@ pub fn new(settings: Settings) -> Answered<Result<(), Refusal>>
 
 // An offer whose packet was read into these rows.
 fn offer_rows(
-    buffer: Buffer,
-    fixed: Fixed,
+    mut buffer: Buffer,
     packet: &[u8],
     rows: &[u32],
     store: &mut [u8],
 ) -> Answered<Result<Tally, Fault>>
-    requires { RowsJudgeable current (assembled buffer.times buffer.tags buffer.lengths buffer.slots buffer.occupied fixed)
-        packet.now (rows_in rows.now) no_tally store.old }
-    ensures { OfferJudged (assembled buffer.times buffer.tags buffer.lengths buffer.slots buffer.occupied fixed) result.buffer
-        packet.now (rows_in rows.now) result.answer store.old store.new }
+    requires { RowsJudgeable current buffer packet.now (rows_in rows.now) no_tally store.old }
+    ensures { OfferJudged buffer result.buffer packet.now (rows_in rows.now) result.answer store.old store.new }
 {
-    let mut times = buffer.times;
-    let mut tags = buffer.tags;
-    let mut lengths = buffer.lengths;
-    let mut slots = buffer.slots;
-    let occupied = buffer.occupied;
-    let judged = judging::judge_rows(
-        &mut times,
-        &mut tags,
-        &mut lengths,
-        &mut slots,
-        judging::none_judged(occupied),
-        fixed,
-        packet,
-        rows,
-        store,
-    );
-    let next = judged.occupied;
-    let tally = judged.tally;
-    let settings = fixed.settings;
+    let tally = judging::judge_rows(&mut buffer, packet, rows, store);
     Answered {
         answer: Ok(tally),
-        buffer: Buffer {
-            times,
-            tags,
-            lengths,
-            slots,
-            occupied: next,
-            last_time: fixed.last_time,
-            last_channel: fixed.last_channel,
-            drawn: fixed.drawn,
-            settings,
-        },
+        buffer,
     }
 }
 
@@ -92,29 +60,17 @@ fn offer_checked(
     ensures { record { answer = offer_numbers result.answer; buffer = result.buffer; rows = rows.new; store = store.new }
         ≡ offer_call current buffer packet.now rows.old store.old }
 {
-    let times = buffer.times;
-    let tags = buffer.tags;
-    let lengths = buffer.lengths;
-    let slots = buffer.slots;
-    let occupied = buffer.occupied;
-    let settings = buffer.settings;
-    let fixed = Fixed {
-        last_time: buffer.last_time,
-        last_channel: buffer.last_channel,
-        drawn: buffer.drawn,
-        settings,
-    };
-    if !well_formed::well_formed(&times, &tags, &lengths, &slots, occupied, fixed) {
+    if !buffer.is_well_formed() {
         return Answered::refused(Fault::from(Refusal::Malformed), buffer);
     }
     if rows.len() < ROW_AREA || store.len() < STORE_SIZE {
         return Answered::refused(Fault::from(Refusal::AreaTooShort), buffer);
     }
-    match reading::read(settings, packet, rows) {
+    match reading::read(buffer.settings, packet, rows) {
         Err(fault) => Answered::refused(fault, buffer),
         Ok(head) => {
             let words = ROW_WIDTH * (head.rows as usize);
-            offer_rows(buffer, fixed, packet, &rows[..words], store)
+            offer_rows(buffer, packet, &rows[..words], store)
         }
     }
 }
