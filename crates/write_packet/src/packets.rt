@@ -18,105 +18,78 @@ use write_payload::writing;
 use write_plan::lists;
 use write_sizes::asking;
 
+// What all lists of a packet are written by: the settings, the mode request, the packet's time, and the bytes that the rows point into.
+#[derive(Clone, Copy)]
+struct Sent<'a> {
+    asked: Settings,
+    mode_request: u8,
+    time: u32,
+    bytes: &'a [u8],
+}
+
 // A list's payload; answers its bytes.
-fn put_list(asked: Settings, mode_request: u8, rows: &[u32], bytes: &[u8], out: &mut [u8]) -> usize
-    requires { ListRoom current asked mode_request bytes.now rows.now (length out.old) }
-    ensures { (result ≡ length (list_bytes current asked mode_request bytes.now rows.now))
-        × (out.new ≡ over (list_bytes current asked mode_request bytes.now rows.now) out.old) }
+fn put_list(sent: Sent<'_>, rows: &[u32], out: &mut [u8]) -> usize
+    requires { ListRoom current sent.asked sent.mode_request sent.bytes.now rows.now (length out.old) }
+    ensures { (result ≡ length (list_bytes current sent.entry.asked sent.entry.mode_request sent.entry.bytes.now rows.now))
+        × (out.new ≡ over (list_bytes current sent.entry.asked sent.entry.mode_request sent.entry.bytes.now rows.now) out.old) }
 {
-    let written = writing::write_payload(asked, mode_request, rows, bytes, out);
+    let written = writing::write_payload(sent.asked, sent.mode_request, rows, sent.bytes, out);
     written.unwrap_or(0)
 }
 
 // A redundant list: its block header at the front of the area, its payload at `start`; answers the payload's bytes.
-fn put_block(
-    asked: Settings,
-    mode_request: u8,
-    time: u32,
-    rows: &[u32],
-    bytes: &[u8],
-    start: usize,
-    out: &mut [u8],
-) -> usize
-    requires { BlockRoom current asked mode_request time bytes.now rows.now start (length out.old) }
-    ensures { (result ≡ length (list_bytes current asked mode_request bytes.now rows.now))
-        × (out.new ≡ over (list_header current asked mode_request time bytes.now rows.now)
-        (over_from start (list_bytes current asked mode_request bytes.now rows.now) out.old)) }
+fn put_block(sent: Sent<'_>, rows: &[u32], start: usize, out: &mut [u8]) -> usize
+    requires { BlockRoom current sent.asked sent.mode_request sent.time sent.bytes.now rows.now start (length out.old) }
+    ensures { (result ≡ length (list_bytes current sent.entry.asked sent.entry.mode_request sent.entry.bytes.now rows.now))
+        × (out.new ≡ over (list_header current sent.entry.asked sent.entry.mode_request sent.entry.time sent.entry.bytes.now rows.now)
+        (over_from start (list_bytes current sent.entry.asked sent.entry.mode_request sent.entry.bytes.now rows.now) out.old)) }
 {
-    let size = put_list(asked, mode_request, rows, bytes, &mut out[start..]);
-    let offset = sizes::offset_of(time, rows);
-    headers::put_block_header(out, asked.payload_type, offset, size);
+    let size = put_list(sent, rows, &mut out[start..]);
+    let offset = sizes::offset_of(sent.time, rows);
+    headers::put_block_header(out, sent.asked.payload_type, offset, size);
     size
 }
 
 // The lists: their block headers at the front of the area, the primary one's last, and their payloads at `start`, one after another.
-fn put_blocks(
-    asked: Settings,
-    mode_request: u8,
-    time: u32,
-    counts: &[u32],
-    rows: &[u32],
-    bytes: &[u8],
-    start: usize,
-    out: &mut [u8],
-)
-    requires { BlocksRoom current asked mode_request time bytes.now counts.now rows.now start (length out.old) }
+fn put_blocks(sent: Sent<'_>, counts: &[u32], rows: &[u32], start: usize, out: &mut [u8])
+    requires { BlocksRoom current sent.asked sent.mode_request sent.time sent.bytes.now counts.now rows.now start (length out.old) }
     ensures { out.new ≡
-        over (lists_headers current asked mode_request time bytes.now counts.now rows.now)
-        (over_from start (lists_payloads current asked mode_request bytes.now counts.now rows.now) out.old) }
+        over (lists_headers current sent.entry.asked sent.entry.mode_request sent.entry.time sent.entry.bytes.now counts.now rows.now)
+        (over_from start (lists_payloads current sent.entry.asked sent.entry.mode_request sent.entry.bytes.now counts.now rows.now) out.old) }
 {
     if counts.len() < 2 {
-        put_list(asked, mode_request, rows, bytes, &mut out[start..]);
-        out[0] = asked.payload_type;
+        put_list(sent, rows, &mut out[start..]);
+        out[0] = sent.asked.payload_type;
         return;
     }
     let n = sizes::first_words(counts, rows);
-    let size = put_block(asked, mode_request, time, &rows[..n], bytes, start, out);
+    let size = put_block(sent, &rows[..n], start, out);
     put_blocks(
-        asked,
-        mode_request,
-        time,
+        sent,
         &counts[1..],
         &rows[n..],
-        bytes,
         start - 4 + size,
         &mut out[4..],
     );
 }
 
-// A packet of the lists, the last of which stands at `time`.
-fn put_packet(
-    asked: Settings,
-    mode_request: u8,
-    heading: Heading,
-    time: u32,
-    counts: &[u32],
-    rows: &[u32],
-    bytes: &[u8],
-    out: &mut [u8],
-)
-    requires { PacketRoom current asked mode_request heading time bytes.now counts.now rows.now
+// A packet of the lists, the last of which stands at its time.
+fn put_packet(sent: Sent<'_>, heading: Heading, counts: &[u32], rows: &[u32], out: &mut [u8])
+    requires { PacketRoom current sent.asked sent.mode_request heading sent.time sent.bytes.now counts.now rows.now
         (length out.old) }
     ensures { out.new ≡
-        over (encoded_bytes (assembled_from asked heading time
-        (parts current asked mode_request bytes.now time counts.now (rows_in rows.now)))) out.old }
+        over (encoded_bytes (assembled_from sent.entry.asked heading sent.entry.time
+        (parts current sent.entry.asked sent.entry.mode_request sent.entry.bytes.now sent.entry.time counts.now (rows_in rows.now)))) out.old }
 {
+    let asked = sent.asked;
     if counts.len() < 2 {
-        headers::put_header(out, heading, asked.payload_type, time);
-        put_list(asked, mode_request, rows, bytes, &mut out[MIN_PACKET..]);
+        headers::put_header(out, heading, asked.payload_type, sent.time);
+        put_list(sent, rows, &mut out[MIN_PACKET..]);
         return;
     }
-    headers::put_header(out, heading, asked.redundancy_type, time);
-    put_blocks(
-        asked,
-        mode_request,
-        time,
-        counts,
-        rows,
-        bytes,
-        1 + 4 * (counts.len() - 1),
-        &mut out[MIN_PACKET..],
-    );
+    headers::put_header(out, heading, asked.redundancy_type, sent.time);
+    let start = 1 + 4 * (counts.len() - 1);
+    put_blocks(sent, counts, rows, start, &mut out[MIN_PACKET..]);
 }
 
 // The packet of the counted lists, whose rows point into `bytes`, over the front of the area; or a refusal and the area unchanged.
@@ -159,6 +132,12 @@ pub fn write_packet(
         sequence,
         source,
     };
-    put_packet(asked, mode_request, heading, time, counts, rows, bytes, out);
+    let sent = Sent {
+        asked,
+        mode_request,
+        time,
+        bytes,
+    };
+    put_packet(sent, heading, counts, rows, out);
     Ok(size)
 }

@@ -12,7 +12,7 @@ pub returns : goal.returns
 returns c =
     let a = c.args in
     let r = c.requires in
-    let p = list_bytes current a.asked a.mode_request a.bytes.now a.rows.now in
+    let p = list_bytes current a.sent.asked a.sent.mode_request a.sent.bytes.now a.rows.now in
     let laid = from_part p a.out.now _ a.start c.put_list-size.ensures.1 in
     let room : 4 ≤ length (over_from a.start p a.out.now) = omega (arith, r.apart, from_length a.start p a.out.now r.inside) in (
       c.put_list-size.ensures.0,

@@ -9,6 +9,6 @@ use Rattle.write_packet.proofs.packets.put_list.Goals as goal
 pub returns : goal.returns
 returns c =
     let a = c.args in (
-      c.unwrap_or.ensures ∙ list_size current a.asked a.mode_request a.bytes.now a.rows.now (length a.out.now) c.requires _ c.write_payload-written.ensures.0,
-      c.write_payload-written.ensures.1 ∙ ap (λ (x : Encoded). over (encoded_bytes x) a.out.now) (list_writing current a.asked a.mode_request a.bytes.now a.rows.now (length a.out.now) c.requires),
+      c.unwrap_or.ensures ∙ list_size current a.sent.asked a.sent.mode_request a.sent.bytes.now a.rows.now (length a.out.now) c.requires _ c.write_payload-written.ensures.0,
+      c.write_payload-written.ensures.1 ∙ ap (λ (x : Encoded). over (encoded_bytes x) a.out.now) (list_writing current a.sent.asked a.sent.mode_request a.sent.bytes.now a.rows.now (length a.out.now) c.requires),
     )
