@@ -30,8 +30,8 @@ struct Sent<'a> {
 // A list's payload; answers its bytes.
 fn put_list(sent: Sent<'_>, rows: &[u32], out: &mut [u8]) -> usize
     requires { ListRoom current sent.asked sent.mode_request sent.bytes.now rows.now (length out.old) }
-    ensures { (result ≡ length (list_bytes current sent.entry.asked sent.entry.mode_request sent.entry.bytes.now rows.now))
-        × (out.new ≡ over (list_bytes current sent.entry.asked sent.entry.mode_request sent.entry.bytes.now rows.now) out.old) }
+    ensures { let given = sent.entry in (result ≡ length (list_bytes current given.asked given.mode_request given.bytes.now rows.now))
+        × (out.new ≡ over (list_bytes current given.asked given.mode_request given.bytes.now rows.now) out.old) }
 {
     let written = writing::write_payload(sent.asked, sent.mode_request, rows, sent.bytes, out);
     written.unwrap_or(0)
@@ -40,9 +40,9 @@ fn put_list(sent: Sent<'_>, rows: &[u32], out: &mut [u8]) -> usize
 // A redundant list: its block header at the front of the area, its payload at `start`; answers the payload's bytes.
 fn put_block(sent: Sent<'_>, rows: &[u32], start: usize, out: &mut [u8]) -> usize
     requires { BlockRoom current sent.asked sent.mode_request sent.time sent.bytes.now rows.now start (length out.old) }
-    ensures { (result ≡ length (list_bytes current sent.entry.asked sent.entry.mode_request sent.entry.bytes.now rows.now))
-        × (out.new ≡ over (list_header current sent.entry.asked sent.entry.mode_request sent.entry.time sent.entry.bytes.now rows.now)
-        (over_from start (list_bytes current sent.entry.asked sent.entry.mode_request sent.entry.bytes.now rows.now) out.old)) }
+    ensures { let given = sent.entry in (result ≡ length (list_bytes current given.asked given.mode_request given.bytes.now rows.now))
+        × (out.new ≡ over (list_header current given.asked given.mode_request given.time given.bytes.now rows.now)
+        (over_from start (list_bytes current given.asked given.mode_request given.bytes.now rows.now) out.old)) }
 {
     let size = put_list(sent, rows, &mut out[start..]);
     let offset = sizes::offset_of(sent.time, rows);
@@ -53,9 +53,9 @@ fn put_block(sent: Sent<'_>, rows: &[u32], start: usize, out: &mut [u8]) -> usiz
 // The lists: their block headers at the front of the area, the primary one's last, and their payloads at `start`, one after another.
 fn put_blocks(sent: Sent<'_>, counts: &[u32], rows: &[u32], start: usize, out: &mut [u8])
     requires { BlocksRoom current sent.asked sent.mode_request sent.time sent.bytes.now counts.now rows.now start (length out.old) }
-    ensures { out.new ≡
-        over (lists_headers current sent.entry.asked sent.entry.mode_request sent.entry.time sent.entry.bytes.now counts.now rows.now)
-        (over_from start (lists_payloads current sent.entry.asked sent.entry.mode_request sent.entry.bytes.now counts.now rows.now) out.old) }
+    ensures { let given = sent.entry in out.new ≡
+        over (lists_headers current given.asked given.mode_request given.time given.bytes.now counts.now rows.now)
+        (over_from start (lists_payloads current given.asked given.mode_request given.bytes.now counts.now rows.now) out.old) }
 {
     if counts.len() < 2 {
         put_list(sent, rows, &mut out[start..]);
@@ -77,9 +77,9 @@ fn put_blocks(sent: Sent<'_>, counts: &[u32], rows: &[u32], start: usize, out: &
 fn put_packet(sent: Sent<'_>, heading: Heading, counts: &[u32], rows: &[u32], out: &mut [u8])
     requires { PacketRoom current sent.asked sent.mode_request heading sent.time sent.bytes.now counts.now rows.now
         (length out.old) }
-    ensures { out.new ≡
-        over (encoded_bytes (assembled_from sent.entry.asked heading sent.entry.time
-        (parts current sent.entry.asked sent.entry.mode_request sent.entry.bytes.now sent.entry.time counts.now (rows_in rows.now)))) out.old }
+    ensures { let given = sent.entry in out.new ≡
+        over (encoded_bytes (assembled_from given.asked heading given.time
+        (parts current given.asked given.mode_request given.bytes.now given.time counts.now (rows_in rows.now)))) out.old }
 {
     let asked = sent.asked;
     if counts.len() < 2 {
