@@ -81,7 +81,7 @@ fn put_start(format: u8, more: bool, class: u32, size: u32, blocks: usize, out: 
     }
 }
 
-// So many frame-blocks of so many words each, the first of which comes after a frame-block at `previous`.
+// A run of so many frame-blocks, of so many words each; the first comes after a frame-block at `previous`.
 #[derive(Clone, Copy, Debug, PartialEq, Eq)]
 struct Run {
     format: u8,
@@ -90,42 +90,44 @@ struct Run {
     previous: u32,
 }
 
-// The gaps of a run's frame-blocks at the front of the rows in half bytes, high half first.
-fn put_gaps(run: Run, rows: &[u32], out: &mut [u8])
-    requires { GapRoom run.format run.width run.blocks run.previous rows.now (length out.old) }
-    ensures { out.new ≡ over (halves (block_gaps (step_of run.format) run.width run.blocks run.previous rows.now)) out.old }
-{
-    if run.blocks == 0 {
-        return;
+impl Run {
+    // The gaps of a run's frame-blocks at the front of the rows in half bytes, high half first.
+    fn put_gaps(self, rows: &[u32], out: &mut [u8])
+        requires { GapRoom self.format self.width self.blocks self.previous rows.now (length out.old) }
+        ensures { out.new ≡ over (halves (block_gaps (step_of self.format) self.width self.blocks self.previous rows.now)) out.old }
+    {
+        if self.blocks == 0 {
+            return;
+        }
+        let first = rows[0];
+        let high = 16 * planning::gap_between(self.format, self.previous, first);
+        if self.blocks == 1 {
+            out[0] = high as u8;
+            return;
+        }
+        let second = rows[self.width];
+        out[0] = (high + planning::gap_between(self.format, first, second)) as u8;
+        let two = 2 * self.width;
+        let rest = Run {
+            blocks: self.blocks - 2,
+            previous: second,
+            ..self
+        };
+        rest.put_gaps(&rows[two..], &mut out[1..]);
     }
-    let first = rows[0];
-    let high = 16 * planning::gap_between(run.format, run.previous, first);
-    if run.blocks == 1 {
-        out[0] = high as u8;
-        return;
-    }
-    let second = rows[run.width];
-    out[0] = (high + planning::gap_between(run.format, first, second)) as u8;
-    let two = 2 * run.width;
-    let rest = Run {
-        blocks: run.blocks - 2,
-        previous: second,
-        ..run
-    };
-    put_gaps(rest, &rows[two..], &mut out[1..]);
-}
 
-// The entry of a run at the front of the rows.
-fn put_entry(run: Run, more: bool, rows: &[u32], out: &mut [u8])
-    requires { EntryRoom run.format run.width run.blocks run.previous rows.now (length out.old) }
-    ensures { out.new ≡ over (entry_bytes run.format more (run_group run.format run.width run.blocks run.previous rows.now)) out.old }
-{
-    let row = lists::first_row(rows);
-    let class = tagging::tag_class(row.tag);
-    put_start(run.format, more, class, row.length, run.blocks, out);
-    if facts::format_of(run.format).displaced {
-        let start = entries::min_entry(run.format);
-        put_gaps(run, rows, &mut out[start..]);
+    // The entry of a run at the front of the rows.
+    fn put_entry(self, more: bool, rows: &[u32], out: &mut [u8])
+        requires { EntryRoom self.format self.width self.blocks self.previous rows.now (length out.old) }
+        ensures { out.new ≡ over (entry_bytes self.format more (run_group self.format self.width self.blocks self.previous rows.now)) out.old }
+    {
+        let row = lists::first_row(rows);
+        let class = tagging::tag_class(row.tag);
+        put_start(self.format, more, class, row.length, self.blocks, out);
+        if facts::format_of(self.format).displaced {
+            let start = entries::min_entry(self.format);
+            self.put_gaps(rows, &mut out[start..]);
+        }
     }
 }
 
@@ -149,7 +151,7 @@ pub(crate) fn put_table(format: u8, channels: usize, previous: u32, rows: &[u32]
         blocks,
         previous,
     };
-    put_entry(entry, more, rows, out);
+    entry.put_entry(more, rows, out);
     let size = entries::entry_size(format, blocks);
     let last = rows[end - width];
     put_table(format, channels, last, &rows[end..], &mut out[size..]);
