@@ -18,105 +18,74 @@ use write_payload::writing;
 use write_plan::lists;
 use write_sizes::asking;
 
-// A list's payload; answers its bytes.
-fn put_list(asked: Settings, mode_request: u8, rows: &[u32], bytes: &[u8], out: &mut [u8]) -> usize
-    requires { ListRoom current asked mode_request bytes.now rows.now (length out.old) }
-    ensures { (result ≡ length (list_bytes current asked mode_request bytes.now rows.now))
-        × (out.new ≡ over (list_bytes current asked mode_request bytes.now rows.now) out.old) }
-{
-    let written = writing::write_payload(asked, mode_request, rows, bytes, out);
-    written.unwrap_or(0)
-}
-
-// A redundant list: its block header at the front of the area, its payload at `start`; answers the payload's bytes.
-fn put_block(
+// What all lists of a packet are written by: the settings, the mode request, the packet's time, and the bytes that the rows point into.
+#[derive(Clone, Copy)]
+struct Sent<'a> {
     asked: Settings,
     mode_request: u8,
     time: u32,
-    rows: &[u32],
-    bytes: &[u8],
-    start: usize,
-    out: &mut [u8],
-) -> usize
-    requires { BlockRoom current asked mode_request time bytes.now rows.now start (length out.old) }
-    ensures { (result ≡ length (list_bytes current asked mode_request bytes.now rows.now))
-        × (out.new ≡ over (list_header current asked mode_request time bytes.now rows.now)
-        (over_from start (list_bytes current asked mode_request bytes.now rows.now) out.old)) }
-{
-    let size = put_list(asked, mode_request, rows, bytes, &mut out[start..]);
-    let offset = sizes::offset_of(time, rows);
-    headers::put_block_header(out, asked.payload_type, offset, size);
-    size
+    bytes: &'a [u8],
 }
 
-// The lists: their block headers at the front of the area, the primary one's last, and their payloads at `start`, one after another.
-fn put_blocks(
-    asked: Settings,
-    mode_request: u8,
-    time: u32,
-    counts: &[u32],
-    rows: &[u32],
-    bytes: &[u8],
-    start: usize,
-    out: &mut [u8],
-)
-    requires { BlocksRoom current asked mode_request time bytes.now counts.now rows.now start (length out.old) }
-    ensures { out.new ≡
-        over (lists_headers current asked mode_request time bytes.now counts.now rows.now)
-        (over_from start (lists_payloads current asked mode_request bytes.now counts.now rows.now) out.old) }
-{
-    if counts.len() < 2 {
-        put_list(asked, mode_request, rows, bytes, &mut out[start..]);
-        out[0] = asked.payload_type;
-        return;
+impl Sent<'_> {
+    // A list's payload; answers its bytes.
+    fn put_list(self, rows: &[u32], out: &mut [u8]) -> usize
+        requires { ListRoom current self.asked self.mode_request self.bytes.now rows.now (length out.old) }
+        ensures { let given = self.entry in (result ≡ length (list_bytes current given.asked given.mode_request given.bytes.now rows.now))
+            × (out.new ≡ over (list_bytes current given.asked given.mode_request given.bytes.now rows.now) out.old) }
+    {
+        let written = writing::write_payload(self.asked, self.mode_request, rows, self.bytes, out);
+        written.unwrap_or(0)
     }
-    let n = sizes::first_words(counts, rows);
-    let size = put_block(asked, mode_request, time, &rows[..n], bytes, start, out);
-    put_blocks(
-        asked,
-        mode_request,
-        time,
-        &counts[1..],
-        &rows[n..],
-        bytes,
-        start - 4 + size,
-        &mut out[4..],
-    );
-}
 
-// A packet of the lists, the last of which stands at `time`.
-fn put_packet(
-    asked: Settings,
-    mode_request: u8,
-    heading: Heading,
-    time: u32,
-    counts: &[u32],
-    rows: &[u32],
-    bytes: &[u8],
-    out: &mut [u8],
-)
-    requires { PacketRoom current asked mode_request heading time bytes.now counts.now rows.now
-        (length out.old) }
-    ensures { out.new ≡
-        over (encoded_bytes (assembled_from asked heading time
-        (parts current asked mode_request bytes.now time counts.now (rows_in rows.now)))) out.old }
-{
-    if counts.len() < 2 {
-        headers::put_header(out, heading, asked.payload_type, time);
-        put_list(asked, mode_request, rows, bytes, &mut out[MIN_PACKET..]);
-        return;
+    // A redundant list: its block header at the front of the area, its payload at `start`; answers the payload's bytes.
+    fn put_block(self, rows: &[u32], start: usize, out: &mut [u8]) -> usize
+        requires { BlockRoom current self.asked self.mode_request self.time self.bytes.now rows.now start (length out.old) }
+        ensures { let given = self.entry in (result ≡ length (list_bytes current given.asked given.mode_request given.bytes.now rows.now))
+            × (out.new ≡ over (list_header current given.asked given.mode_request given.time given.bytes.now rows.now)
+            (over_from start (list_bytes current given.asked given.mode_request given.bytes.now rows.now) out.old)) }
+    {
+        let size = self.put_list(rows, &mut out[start..]);
+        let offset = sizes::offset_of(self.time, rows);
+        headers::put_block_header(out, self.asked.payload_type, offset, size);
+        size
     }
-    headers::put_header(out, heading, asked.redundancy_type, time);
-    put_blocks(
-        asked,
-        mode_request,
-        time,
-        counts,
-        rows,
-        bytes,
-        1 + 4 * (counts.len() - 1),
-        &mut out[MIN_PACKET..],
-    );
+
+    // The lists: their block headers at the front of the area, the primary one's last, and their payloads at `start`, one after another.
+    fn put_blocks(self, counts: &[u32], rows: &[u32], start: usize, out: &mut [u8])
+        requires { BlocksRoom current self.asked self.mode_request self.time self.bytes.now counts.now rows.now start (length out.old) }
+        ensures { let given = self.entry in out.new ≡
+            over (lists_headers current given.asked given.mode_request given.time given.bytes.now counts.now rows.now)
+            (over_from start (lists_payloads current given.asked given.mode_request given.bytes.now counts.now rows.now) out.old) }
+    {
+        if counts.len() < 2 {
+            self.put_list(rows, &mut out[start..]);
+            out[0] = self.asked.payload_type;
+            return;
+        }
+        let n = sizes::first_words(counts, rows);
+        let size = self.put_block(&rows[..n], start, out);
+        self.put_blocks(&counts[1..], &rows[n..], start - 4 + size, &mut out[4..]);
+    }
+
+    // A packet of the lists, the last of which stands at its time.
+    fn put_packet(self, heading: Heading, counts: &[u32], rows: &[u32], out: &mut [u8])
+        requires { PacketRoom current self.asked self.mode_request heading self.time self.bytes.now counts.now rows.now
+            (length out.old) }
+        ensures { let given = self.entry in out.new ≡
+            over (encoded_bytes (assembled_from given.asked heading given.time
+            (parts current given.asked given.mode_request given.bytes.now given.time counts.now (rows_in rows.now)))) out.old }
+    {
+        let asked = self.asked;
+        if counts.len() < 2 {
+            headers::put_header(out, heading, asked.payload_type, self.time);
+            self.put_list(rows, &mut out[MIN_PACKET..]);
+            return;
+        }
+        headers::put_header(out, heading, asked.redundancy_type, self.time);
+        let start = 1 + 4 * (counts.len() - 1);
+        self.put_blocks(counts, rows, start, &mut out[MIN_PACKET..]);
+    }
 }
 
 // The packet of the counted lists, whose rows point into `bytes`, over the front of the area; or a refusal and the area unchanged.
@@ -159,6 +128,12 @@ pub fn write_packet(
         sequence,
         source,
     };
-    put_packet(asked, mode_request, heading, time, counts, rows, bytes, out);
+    let sent = Sent {
+        asked,
+        mode_request,
+        time,
+        bytes,
+    };
+    sent.put_packet(heading, counts, rows, out);
     Ok(size)
 }

@@ -24,11 +24,7 @@ fn total_of(counts: &[u32]) -> usize
     requires { length counts.now ≤ max_redundant + 1 }
     ensures { (result ≡ total counts.now) × (result ≤ length counts.now * 2 ^ 32) }
 {
-    if counts.len() == 0 {
-        return 0;
-    }
-    let rest = total_of(&counts[1..]);
-    counts[0] as usize + rest
+    counts.iter().map(|n| *n as usize).sum()
 }
 
 // One to five counts, which make up the area, and at most 384 rows in all.

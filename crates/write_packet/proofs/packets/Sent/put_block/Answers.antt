@@ -6,13 +6,13 @@ use Rattle.rtp.specs.Editions.{current}
 use Rattle.write_parts.proofs.HeadingLaws.{block_in}
 use Rattle.write_packet.specs.Room.{list_bytes, over_from}
 use Rattle.write_packet.proofs.FromLaws.{from_part, from_length}
-use Rattle.write_packet.proofs.packets.put_block.Goals as goal
+use Rattle.write_packet.proofs.packets.Sent.put_block.Goals as goal
 
 pub returns : goal.returns
 returns c =
     let a = c.args in
     let r = c.requires in
-    let p = list_bytes current a.asked a.mode_request a.bytes.now a.rows.now in
+    let p = list_bytes current a.self.asked a.self.mode_request a.self.bytes.now a.rows.now in
     let laid = from_part p a.out.now _ a.start c.put_list-size.ensures.1 in
     let room : 4 ≤ length (over_from a.start p a.out.now) = omega (arith, r.apart, from_length a.start p a.out.now r.inside) in (
       c.put_list-size.ensures.0,
