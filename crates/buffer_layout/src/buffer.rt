@@ -27,7 +27,7 @@ pub struct Buffer {
     pub settings: Settings,
 }
 
-// What of a buffer stays the same while a packet's rows are judged.
+// What a buffer holds beside its entries and their slots.
 #[derive(Clone, Copy)]
 pub struct Fixed {
     pub last_time: u32,

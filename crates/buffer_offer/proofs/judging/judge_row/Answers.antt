@@ -15,6 +15,7 @@ use Rattle.buffer_offer.proofs.RowStepLaws.{skip_asks, skip_gives, copy_asks, ne
 use Rattle.buffer_offer.proofs.judging.judge_row.Goals.{Else-tag_class-eq0}
 use Rattle.buffer_offer.proofs.judging.judge_row.Goals as goal
 
+-- the row has data
 some_at : (c : Else-tag_class-eq0) → tag_class (get_or c.args.row.now 1 0) ≡ no_data → ⊥
 some_at c z =
     c.if-tag_class-eq0.false (c.tag_class.ensures ∙ z)
