@@ -29,9 +29,9 @@ struct Sent<'a> {
 
 impl Sent<'_> {
     // A list's payload; answers its bytes.
-    fn put_list(self, rows: &[u32], out: &mut [u8]) -> usize
-        requires { ListRoom current self.asked self.mode_request self.bytes.now rows.now (length out.old) }
-        ensures { let given = self.entry in (result ≡ length (list_bytes current given.asked given.mode_request given.bytes.now rows.now))
+    fn put_list(&self, rows: &[u32], out: &mut [u8]) -> usize
+        requires { ListRoom current self.now.asked self.now.mode_request self.now.bytes.now rows.now (length out.old) }
+        ensures { let given = self.now in (result ≡ length (list_bytes current given.asked given.mode_request given.bytes.now rows.now))
             × (out.new ≡ over (list_bytes current given.asked given.mode_request given.bytes.now rows.now) out.old) }
     {
         let written = writing::write_payload(self.asked, self.mode_request, rows, self.bytes, out);
@@ -39,9 +39,9 @@ impl Sent<'_> {
     }
 
     // A redundant list: its block header at the front of the area, its payload at `start`; answers the payload's bytes.
-    fn put_block(self, rows: &[u32], start: usize, out: &mut [u8]) -> usize
-        requires { BlockRoom current self.asked self.mode_request self.time self.bytes.now rows.now start (length out.old) }
-        ensures { let given = self.entry in (result ≡ length (list_bytes current given.asked given.mode_request given.bytes.now rows.now))
+    fn put_block(&self, rows: &[u32], start: usize, out: &mut [u8]) -> usize
+        requires { BlockRoom current self.now.asked self.now.mode_request self.now.time self.now.bytes.now rows.now start (length out.old) }
+        ensures { let given = self.now in (result ≡ length (list_bytes current given.asked given.mode_request given.bytes.now rows.now))
             × (out.new ≡ over (list_header current given.asked given.mode_request given.time given.bytes.now rows.now)
             (over_from start (list_bytes current given.asked given.mode_request given.bytes.now rows.now) out.old)) }
     {
@@ -52,9 +52,9 @@ impl Sent<'_> {
     }
 
     // The lists: their block headers at the front of the area, the primary one's last, and their payloads at `start`, one after another.
-    fn put_blocks(self, counts: &[u32], rows: &[u32], start: usize, out: &mut [u8])
-        requires { BlocksRoom current self.asked self.mode_request self.time self.bytes.now counts.now rows.now start (length out.old) }
-        ensures { let given = self.entry in out.new ≡
+    fn put_blocks(&self, counts: &[u32], rows: &[u32], start: usize, out: &mut [u8])
+        requires { BlocksRoom current self.now.asked self.now.mode_request self.now.time self.now.bytes.now counts.now rows.now start (length out.old) }
+        ensures { let given = self.now in out.new ≡
             over (lists_headers current given.asked given.mode_request given.time given.bytes.now counts.now rows.now)
             (over_from start (lists_payloads current given.asked given.mode_request given.bytes.now counts.now rows.now) out.old) }
     {
@@ -69,10 +69,10 @@ impl Sent<'_> {
     }
 
     // A packet of the lists, the last of which stands at its time.
-    fn put_packet(self, heading: Heading, counts: &[u32], rows: &[u32], out: &mut [u8])
-        requires { PacketRoom current self.asked self.mode_request heading self.time self.bytes.now counts.now rows.now
+    fn put_packet(&self, heading: Heading, counts: &[u32], rows: &[u32], out: &mut [u8])
+        requires { PacketRoom current self.now.asked self.now.mode_request heading self.now.time self.now.bytes.now counts.now rows.now
             (length out.old) }
-        ensures { let given = self.entry in out.new ≡
+        ensures { let given = self.now in out.new ≡
             over (encoded_bytes (assembled_from given.asked heading given.time
             (parts current given.asked given.mode_request given.bytes.now given.time counts.now (rows_in rows.now)))) out.old }
     {

@@ -81,53 +81,58 @@ fn put_start(format: u8, more: bool, class: u32, size: u32, blocks: usize, out: 
     }
 }
 
-// A run of so many frame-blocks, of so many words each; the first comes after a frame-block at `previous`.
-#[derive(Clone, Copy, Debug, PartialEq, Eq)]
-struct Run {
+// The gaps of so many frame-blocks in half bytes, high half first; the first of them comes after a frame-block at `previous`.
+fn put_gaps(format: u8, width: usize, blocks: usize, previous: u32, rows: &[u32], out: &mut [u8])
+    requires { GapRoom format width blocks previous rows.now (length out.old) }
+    ensures { out.new ≡ over (halves (block_gaps (step_of format) width blocks previous rows.now)) out.old }
+{
+    if blocks == 0 {
+        return;
+    }
+    let first = rows[0];
+    let high = 16 * planning::gap_between(format, previous, first);
+    if blocks == 1 {
+        out[0] = high as u8;
+        return;
+    }
+    let second = rows[width];
+    out[0] = (high + planning::gap_between(format, first, second)) as u8;
+    let two = 2 * width;
+    put_gaps(
+        format,
+        width,
+        blocks - 2,
+        second,
+        &rows[two..],
+        &mut out[1..],
+    );
+}
+
+// The entry of so many frame-blocks of a run at the front of the rows.
+fn put_entry(
     format: u8,
     width: usize,
     blocks: usize,
+    more: bool,
     previous: u32,
-}
-
-impl Run {
-    // The gaps of a run's frame-blocks at the front of the rows in half bytes, high half first.
-    fn put_gaps(self, rows: &[u32], out: &mut [u8])
-        requires { GapRoom self.format self.width self.blocks self.previous rows.now (length out.old) }
-        ensures { out.new ≡ over (halves (block_gaps (step_of self.format) self.width self.blocks self.previous rows.now)) out.old }
-    {
-        if self.blocks == 0 {
-            return;
-        }
-        let first = rows[0];
-        let high = 16 * planning::gap_between(self.format, self.previous, first);
-        if self.blocks == 1 {
-            out[0] = high as u8;
-            return;
-        }
-        let second = rows[self.width];
-        out[0] = (high + planning::gap_between(self.format, first, second)) as u8;
-        let two = 2 * self.width;
-        let rest = Run {
-            blocks: self.blocks - 2,
-            previous: second,
-            ..self
-        };
-        rest.put_gaps(&rows[two..], &mut out[1..]);
-    }
-
-    // The entry of a run at the front of the rows.
-    fn put_entry(self, more: bool, rows: &[u32], out: &mut [u8])
-        requires { EntryRoom self.format self.width self.blocks self.previous rows.now (length out.old) }
-        ensures { out.new ≡ over (entry_bytes self.format more (run_group self.format self.width self.blocks self.previous rows.now)) out.old }
-    {
-        let row = lists::first_row(rows);
-        let class = tagging::tag_class(row.tag);
-        put_start(self.format, more, class, row.length, self.blocks, out);
-        if facts::format_of(self.format).displaced {
-            let start = entries::min_entry(self.format);
-            self.put_gaps(rows, &mut out[start..]);
-        }
+    rows: &[u32],
+    out: &mut [u8],
+)
+    requires { EntryRoom format width blocks previous rows.now (length out.old) }
+    ensures { out.new ≡ over (entry_bytes format more (run_group format width blocks previous rows.now)) out.old }
+{
+    let row = lists::first_row(rows);
+    put_start(
+        format,
+        more,
+        tagging::tag_class(row.tag),
+        row.length,
+        blocks,
+        out,
+    );
+    if facts::format_of(format).displaced {
+        let start = entries::min_entry(format);
+        put_gaps(format, width, blocks, previous, rows, &mut out[start..]);
     }
 }
 
@@ -145,13 +150,7 @@ pub(crate) fn put_table(format: u8, channels: usize, previous: u32, rows: &[u32]
     let blocks = planning::first_blocks(run);
     let end = width * blocks;
     let more = ROW_WIDTH <= rows.len() - end;
-    let entry = Run {
-        format,
-        width,
-        blocks,
-        previous,
-    };
-    entry.put_entry(more, rows, out);
+    put_entry(format, width, blocks, more, previous, rows, out);
     let size = entries::entry_size(format, blocks);
     let last = rows[end - width];
     put_table(format, channels, last, &rows[end..], &mut out[size..]);

@@ -12,7 +12,7 @@ pub returns : goal.returns
 returns c =
     let a = c.args in
     let r = c.requires in
-    let p = list_bytes current a.self.asked a.self.mode_request a.self.bytes.now a.rows.now in
+    let p = list_bytes current a.self.now.asked a.self.now.mode_request a.self.now.bytes.now a.rows.now in
     let laid = from_part p a.out.now _ a.start c.put_list-size.ensures.1 in
     let room : 4 ≤ length (over_from a.start p a.out.now) = omega (arith, r.apart, from_length a.start p a.out.now r.inside) in (
       c.put_list-size.ensures.0,

@@ -9,6 +9,6 @@ use Rattle.write_packet.proofs.packets.Sent.put_list.Goals as goal
 pub returns : goal.returns
 returns c =
     let a = c.args in (
-      c.unwrap_or.ensures ∙ list_size current a.self.asked a.self.mode_request a.self.bytes.now a.rows.now (length a.out.now) c.requires _ c.write_payload-written.ensures.0,
-      c.write_payload-written.ensures.1 ∙ ap (λ (x : Encoded). over (encoded_bytes x) a.out.now) (list_writing current a.self.asked a.self.mode_request a.self.bytes.now a.rows.now (length a.out.now) c.requires),
+      c.unwrap_or.ensures ∙ list_size current a.self.now.asked a.self.now.mode_request a.self.now.bytes.now a.rows.now (length a.out.now) c.requires _ c.write_payload-written.ensures.0,
+      c.write_payload-written.ensures.1 ∙ ap (λ (x : Encoded). over (encoded_bytes x) a.out.now) (list_writing current a.self.now.asked a.self.now.mode_request a.self.now.bytes.now a.rows.now (length a.out.now) c.requires),
     )

@@ -1,4 +1,0 @@
-use Rattle.write_payload.proofs.tables.Run.+put_gaps.Given as goal
-
-abbrev pub decreases-put_gaps : goal.decreases-put_gaps
-decreases-put_gaps l = l.self.blocks
