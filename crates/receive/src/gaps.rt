@@ -2,7 +2,7 @@
 use rtp::time;
 
 // The time of the last frame drawn, if one was; how many gaps there are so far, and the frame-blocks missing in them all.
-#[derive(Clone, Copy)]
+#[derive(Clone, Copy, Default)]
 pub(crate) struct Gaps {
     pub last: Option<u32>,
     pub count: u64,
@@ -21,14 +21,6 @@ fn missing_between(from: u32, to: u32, step: u32) -> u32 {
 }
 
 impl Gaps {
-    pub(crate) fn none() -> Gaps {
-        Gaps {
-            last: None,
-            count: 0,
-            missing: 0,
-        }
-    }
-
     // The frame-blocks missing before a frame of this time, the next that is drawn.
     pub(crate) fn missing_before(&self, time: u32, step: u32) -> u32 {
         match self.last {

@@ -119,11 +119,7 @@ impl State {
                 self.sources.add(self.totals.packets, packet);
                 Ok(())
             }
-            Err(fault) => printing::print_fault(
-                self.words(),
-                self.totals.packets,
-                fault,
-            ),
+            Err(fault) => printing::print_fault(self.words(), self.totals.packets, fault),
         }
     }
 
@@ -181,9 +177,9 @@ pub(crate) fn receive(rt: &impl Input, asked: Settings, log: bool) -> Result<(),
                 buffer: fresh.buffer,
                 step: frames::step_of(asked.format),
                 log,
-                totals: Totals::none(),
-                gaps: Gaps::none(),
-                sources: Sources::none(),
+                totals: Totals::default(),
+                gaps: Gaps::default(),
+                sources: Sources::default(),
             };
             let mut input = rt.reader();
             state.receive_stream(&mut input)

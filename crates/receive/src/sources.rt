@@ -6,7 +6,7 @@ use report::calls;
 use report::record::Reception;
 
 // The first packet's source, if there was a packet, with its reception, and how many packets are of another.
-#[derive(Clone, Copy)]
+#[derive(Clone, Copy, Default)]
 pub(crate) struct Sources {
     pub first: Option<u32>,
     pub others: u64,
@@ -14,14 +14,6 @@ pub(crate) struct Sources {
 }
 
 impl Sources {
-    pub(crate) fn none() -> Sources {
-        Sources {
-            first: None,
-            others: 0,
-            heard: calls::new(),
-        }
-    }
-
     // A packet of the first source. The stream does not say when it arrived: as if at its timestamp, so that there is no jitter.
     fn add_first(&mut self, head: Header) {
         let received = calls::packet(self.heard, head.sequence, head.timestamp, head.timestamp);

@@ -6,7 +6,7 @@ use rtp::refusal::{Fault, Refusal};
 // Refusal numbers are below this.
 const REFUSALS: usize = 16;
 
-#[derive(Clone, Copy)]
+#[derive(Clone, Copy, Default)]
 pub(crate) struct Totals {
     pub packets: u64,
     pub refused: u64,
@@ -27,23 +27,6 @@ fn add(count: &mut u64, more: u32) {
 }
 
 impl Totals {
-    pub(crate) fn none() -> Totals {
-        Totals {
-            packets: 0,
-            refused: 0,
-            frames: 0,
-            first_hand: 0,
-            by_redundancy: 0,
-            inserted: 0,
-            repeated: 0,
-            better: 0,
-            late: 0,
-            far: 0,
-            no_room: 0,
-            refusals: [0; REFUSALS],
-        }
-    }
-
     fn add_tally(&mut self, tally: Tally) {
         add(&mut self.inserted, tally.inserted);
         add(&mut self.repeated, tally.repeated);
