@@ -1,7 +1,7 @@
 -- Counts and places that a buffer has: the functions on columns and areas do what the columns' own definitions say.
 use mathlib.Core.Path.{◌≡◌, refl, ap, sym, ◌∙◌}
 use mathlib.Core.List.{List, [], append_assoc, append-nil}
-use Prim.Native.Nat.{ℕ, ◌+◌, ◌-◌, ◌≤◌, ◌<◌}
+use Prim.Native.Nat.{ℕ, ◌+◌, ◌-◌, ◌≤◌, ◌<◌, min}
 use native.Mathlib.Omega.{arith}
 use lib.Dec.{ltb}
 use lib.ListN.{length, take, drop, length-drop, drop_of_length-le}
@@ -20,6 +20,9 @@ used_few n = by-test (ltb n slots) (λ e. rw e (omega (arith, ltb-true n slots e
 
 pub used_is : (n : ℕ) → n ≤ slots → used n ≡ n
 used_is n l = by-test (ltb n slots) (λ e. rw e) (λ e. rw e (omega (arith, ltb-false n slots e)))
+
+pub used_min : (n : ℕ) → min n slots ≡ used n
+used_min n = by-test (ltb n slots) (λ e. rw e (omega (arith, ltb-true n slots e))) (λ e. rw e (omega (arith, ltb-false n slots e)))
 
 module _ (xs : List ℕ) (n : ℕ) where
   module _ (at v : ℕ) where

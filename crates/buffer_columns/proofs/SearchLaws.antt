@@ -1,5 +1,8 @@
 -- The search that halves the range finds the place that the walk from the front does, and among under 2 ^ b entries it compares at most b.
 use Prim.Native.Nat.{ℕ, zero, suc, ◌+◌, ◌-◌, ◌^◌, ◌≤◌, ◌<◌, Ordering}
+use Rattle.std.specs.Prelude.{Err}
+use Rattle.std.specs.declared.cmp.Ordering.{Ordering as Side}
+use Rattle.std.specs.declared.cmp.Ordering.TheVariants.{Less, Equal, Greater}
 use mathlib.Core.Path.{◌≡◌, refl, sym, ap, subst, ◌∙◌}
 use mathlib.Core.List.{List}
 use mathlib.Core.Logic.{⊎_elim}
@@ -13,8 +16,6 @@ use Rattle.rtp.proofs.TestLaws.{by-test}
 use Rattle.row_tags.specs.Tags.{tag_channel}
 use Rattle.buffer_copies.specs.Sizes.{slots}
 use Rattle.buffer_copies.specs.Pairs.{order, side_of}
-use Rattle.buffer_copies.specs.declared.order.Side.{Side}
-use Rattle.buffer_columns.specs.declared.columns.Place.{Place}
 use Rattle.buffer_columns.specs.declared.columns.Search.{Search}
 use Rattle.buffer_columns.specs.Places.{place_at, place_from, Parted, middle, half_at, halve, halving, place_numbers, search_numbers, most_compared}
 
@@ -30,7 +31,7 @@ module _ (times tags : List ℕ) (t c : ℕ) where
   from i = order t c (get_or times i 0) (tag_channel (get_or tags i 0))
 
   module _ (n : ℕ) where
-    place_end : (i : ℕ) → n ≤ i → place_from times tags t c (n - i) i ≡ Place.InsertAt i
+    place_end : (i : ℕ) → n ≤ i → place_from times tags t c (n - i) i ≡ Err i
     unfolding place_from
     place_end i h = rw (let e : n - i ≡ 0 = omega arith in e)
 
@@ -49,7 +50,7 @@ module _ (times tags : List ℕ) (t c : ℕ) where
         ∙ ap (λ (m : ℕ). place_from times tags t c (n - m) m) (add-one i)
 
     -- before the entry at a place, if any, and after all in front of it
-    place_here : (i : ℕ) → i ≤ n → ((j : ℕ) → j < i → from j ≡ Ordering.gt) → (i < n → from i ≡ Ordering.lt) → place_from times tags t c n 0 ≡ Place.InsertAt i
+    place_here : (i : ℕ) → i ≤ n → ((j : ℕ) → j < i → from j ≡ Ordering.gt) → (i < n → from i ≡ Ordering.lt) → place_from times tags t c n 0 ≡ Err i
     place_here i l h k = place_past i l h ∙ ⊎_elim (λ e. place_end i (omega arith)) (λ m. place_by i Ordering.lt m (k m)) (eq-or-lt_of_le l)
 
     module _ (parted : Parted times tags t c n) where
@@ -100,9 +101,9 @@ module _ (times tags : List ℕ) (t c : ℕ) where
       (λ e. rw e (omega arith))
     where
       go : (s : Side) (lower upper : Search) → lower.compared ≤ k + 1 + b → upper.compared ≤ k + 1 + b → (half_at s (middle low high) (k + 1) lower upper).compared ≤ k + suc b
-      go Side.Before lower upper u v = omega arith
-      go Side.Same lower upper u v = omega arith
-      go Side.After lower upper u v = omega arith
+      go Less lower upper u v = omega arith
+      go Equal lower upper u v = omega arith
+      go Greater lower upper u v = omega arith
 
   pub halving_few : (n : ℕ) → n ≤ slots → (halving times tags t c n).compared ≤ most_compared
   halving_few n l = few n most_compared 0 n 0 (omega arith)
@@ -124,7 +125,7 @@ module _ (times tags : List ℕ) (t c : ℕ) where
   left low high k = halve times tags t c (high - low) low high k
 
   -- nothing is left
-  pub left_none : (low high k : ℕ) → high ≤ low → left low high k ≡ record { place = Place.InsertAt low; compared = k }
+  pub left_none : (low high k : ℕ) → high ≤ low → left low high k ≡ record { place = Err low; compared = k }
   unfolding halve
   left_none low high k l = rw (let e : high - low ≡ 0 = omega arith in e)
 

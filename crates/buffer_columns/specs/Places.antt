@@ -1,20 +1,20 @@
 -- The place of a pair among the entries of a buffer: where it is held, or where it belongs.
 use Prim.Native.Nat.{Ordering}
-use Rattle.std.specs.Prelude.{ℕ, zero, suc, ◌+◌, ◌-◌, ◌/◌, ◌<◌, ◌≡◌, List, cond, ltb, get_or}
+use Rattle.std.specs.declared.cmp.Ordering.{Ordering as Side}
+use Rattle.std.specs.declared.cmp.Ordering.TheVariants.{Less, Equal, Greater}
+use Rattle.std.specs.Prelude.{ℕ, zero, suc, ◌+◌, ◌-◌, ◌/◌, ◌<◌, ◌≡◌, List, cond, ltb, get_or, Err, Ok, Result}
 use Rattle.row_tags.specs.Tags.{tag_channel}
 use Rattle.buffer_copies.specs.Pairs.{order, side_of}
-use Rattle.buffer_copies.specs.declared.order.Side.{Side}
-use Rattle.buffer_columns.specs.declared.columns.Place.{Place}
 use Rattle.buffer_columns.specs.declared.columns.Search.{Search}
 
 -- where the pair (t, c) is held or belongs among k entries from the i-th on: at the first that is not before it
-abbrev pub place_at : Side → ℕ → Place → Place
-place_at Side.Before i r = Place.InsertAt i
-place_at Side.Same i r = Place.FoundAt i
-place_at Side.After i r = r
+abbrev pub place_at : Side → ℕ → Result ℕ ℕ → Result ℕ ℕ
+place_at Less i r = Err i
+place_at Equal i r = Ok i
+place_at Greater i r = r
 
-unfoldable pub place_from : List ℕ → List ℕ → ℕ → ℕ → ℕ → ℕ → Place
-place_from times tags t c zero i = Place.InsertAt i
+unfoldable pub place_from : List ℕ → List ℕ → ℕ → ℕ → ℕ → ℕ → Result ℕ ℕ
+place_from times tags t c zero i = Err i
 place_from times tags t c (suc k) i = place_at (side_of (order t c (get_or times i 0) (tag_channel (get_or tags i 0)))) i (place_from times tags t c k (i + 1))
 
 -- the pair (t, c) parts the first n entries: where it is not before one, it is after all in front of that one; so a search that halves finds the same place
@@ -30,18 +30,18 @@ middle low high = low + (high - low) / 2
 
 -- where the pair lies from the entry at i, the k-th compared: there, or in one of the halves on either side
 abbrev pub half_at : Side → ℕ → ℕ → Search → Search → Search
-half_at Side.Before i k lower upper = lower
-half_at Side.Same i k lower upper = record { place = Place.FoundAt i; compared = k }
-half_at Side.After i k lower upper = upper
+half_at Less i k lower upper = lower
+half_at Equal i k lower upper = record { place = Ok i; compared = k }
+half_at Greater i k lower upper = upper
 
 -- the search among the entries from low on, under high, with k compared before; no more turns are taken than fuel has
 unfoldable pub halve : List ℕ → List ℕ → ℕ → ℕ → ℕ → ℕ → ℕ → ℕ → Search
-halve times tags t c zero low high k = record { place = Place.InsertAt low; compared = k }
+halve times tags t c zero low high k = record { place = Err low; compared = k }
 halve times tags t c (suc fuel) low high k =
     cond (ltb low high)
     (half_at (side_of (order t c (get_or times (middle low high) 0) (tag_channel (get_or tags (middle low high) 0)))) (middle low high) (k + 1)
     (halve times tags t c fuel low (middle low high) (k + 1)) (halve times tags t c fuel (middle low high + 1) high (k + 1)))
-    (record { place = Place.InsertAt low; compared = k })
+    (record { place = Err low; compared = k })
 
 -- the search among the first n entries; each turn leaves fewer, so n turns are enough
 abbrev pub halving : List ℕ → List ℕ → ℕ → ℕ → ℕ → Search
@@ -52,9 +52,9 @@ pub record PlaceNumbers : Type 0 where
   pub held : ℕ
   pub at : ℕ
 
-abbrev pub place_numbers : Place → PlaceNumbers
-place_numbers (Place.FoundAt i) = record { held = 1; at = i }
-place_numbers (Place.InsertAt i) = record { held = 0; at = i }
+abbrev pub place_numbers : Result ℕ ℕ → PlaceNumbers
+place_numbers (Ok i) = record { held = 1; at = i }
+place_numbers (Err i) = record { held = 0; at = i }
 
 -- The answer in numbers: the place, and how many entries were compared
 pub record SearchNumbers : Type 0 where

@@ -6,21 +6,14 @@ ghost use Rattle.buffer_columns.specs.Bounds.{used as used_of, insertion, remova
 ghost use Rattle.buffer_columns.specs.Places.{place_from, Parted, halving, place_numbers, search_numbers, most_compared};
 
 use buffer_copies::order;
-use buffer_copies::order::Side;
 use buffer_slots::bits::SLOTS;
 use row_tags::tagging;
+use std::cmp::Ordering;
 
-// Where a pair is held, or belongs.
-#[derive(Clone, Copy)]
-pub enum Place {
-    FoundAt(usize),
-    InsertAt(usize),
-}
-
-// A place, and how many entries were compared with the pair to find it.
-#[derive(Clone, Copy)]
+// Where a pair is held, or in Err where it belongs; and how many entries were compared with the pair to find that.
+#[derive(Clone, Copy, Debug, PartialEq, Eq)]
 pub struct Search {
-    pub place: Place,
+    pub place: Result<usize, usize>,
     pub compared: usize,
 }
 
@@ -28,50 +21,30 @@ pub struct Search {
 fn used(n: usize) -> usize
     ensures { result ≡ used_of n }
 {
-    if n < SLOTS {
-        return n;
-    }
-    SLOTS
+    n.min(SLOTS)
 }
 
 // A value at a place of a column with n in use; those from there on move up by one.
 pub fn insert_at(column: &mut [u32; SLOTS], n: usize, at: usize, value: u32)
     ensures { column.new ≡ insertion column.old n at value }
 {
-    if n < at {
-        return;
-    }
-    if SLOTS <= n {
+    if n < at || SLOTS <= n {
         return;
     }
     let values: &mut [u32] = column;
-    let mut carry = value;
-    let mut i = at;
-    while i <= n {
-        let x = values[i];
-        values[i] = carry;
-        carry = x;
-        i += 1;
-    }
+    values.copy_within(at..n, at + 1);
+    values[at] = value;
 }
 
 // The column without its first of n values; a zero comes in after the others.
 pub fn remove_first(column: &mut [u32; SLOTS], n: usize)
     ensures { column.new ≡ removal column.old n }
 {
-    if n == 0 {
-        return;
-    }
-    if SLOTS < n {
+    if n == 0 || SLOTS < n {
         return;
     }
     let values: &mut [u32] = column;
-    let mut i = 1;
-    while i < n {
-        let x = values[i];
-        values[i - 1] = x;
-        i += 1;
-    }
+    values.copy_within(1..n, 0);
     values[n - 1] = 0;
 }
 
@@ -93,19 +66,19 @@ pub fn find_place(
     let place = loop {
         let width = high - low;
         if width < 1 {
-            break Place::InsertAt(low);
+            break Err(low);
         }
         let middle = low + width / 2;
         let c = tagging::tag_channel(tags[middle]);
         compared += 1;
         match order::side_of(time, channel, times[middle], c) {
-            Side::Before => {
+            Ordering::Less => {
                 high = middle;
             }
-            Side::Same => {
-                break Place::FoundAt(middle);
+            Ordering::Equal => {
+                break Ok(middle);
             }
-            Side::After => {
+            Ordering::Greater => {
                 low = middle + 1;
             }
         }
@@ -118,15 +91,9 @@ fn all_within(times: &[u32; SLOTS], n: usize, time: u32) -> bool
     requires { n ≤ slots }
     ensures { result ≡ within_from times.now time n 0 }
 {
-    let mut i = 0;
-    while i < n {
-        if order::ticks_ahead(times[i], time) < order::HALF {
-            i += 1;
-        } else {
-            return false;
-        }
-    }
-    true
+    times[..n]
+        .iter()
+        .all(|held| order::ticks_ahead(*held, time) < order::HALF)
 }
 
 // Whether the first n times and another fit in a stretch of less than half the range.
@@ -134,11 +101,5 @@ pub fn in_stretch(times: &[u32; SLOTS], n: usize, time: u32) -> bool
     ensures { result ≡ fits_from times.now time (used_of n) }
 {
     let count = used(n);
-    if count == 0 {
-        return true;
-    }
-    if order::ticks_ahead(time, times[0]) < order::HALF {
-        return true;
-    }
-    all_within(times, count, time)
+    count == 0 || order::ticks_ahead(time, times[0]) < order::HALF || all_within(times, count, time)
 }

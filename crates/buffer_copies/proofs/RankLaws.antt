@@ -3,12 +3,17 @@ use mathlib.Core.Path.{◌≡◌, refl, sym, ap₂, ◌∙◌}
 use mathlib.Core.Logic.{◌⊎◌, inl, inr}
 use mathlib.Core.List.{List, [], ◌∷◌}
 use mathlib.Core.Bool.{Bool, true, false, cond, true≢false, false≢true}
-use Prim.Native.Nat.{ℕ, suc, ◌+◌, ◌≤◌, ◌<◌, compare, Ordering}
+use Prim.Native.Nat.{ℕ, ◌≤◌, ◌<◌, compare, Ordering}
 use native.Mathlib.Omega.{arith}
-use native.Mathlib.Numerals.{add-one}
-use lib.ListN.{length, drop, get_or, drop_of_length-le}
-use lib.Seq.{drop-cons}
-use lib.Dec.{eqb}
+use lib.ListN.{length}
+use lib.Dec.{eqb, ltb}
+use borrow.Author.Tests.{le-ltb, lt-ltb}
+use Rattle.std.specs.Prelude.{◌≢◌}
+use Rattle.std.specs.Ordering.{MatchOrdering, nat_cmp, is_gt}
+use Rattle.std.specs.Cmp.Lexicographic.{slice_cmp}
+use Rattle.std.specs.declared.cmp.Ordering.{Ordering as Side}
+use Rattle.std.specs.declared.cmp.Ordering.TheVariants.{Less, Equal, Greater}
+use Rattle.std.proofs.lemmas.Cmp.{ranked, same_from_slice_cmp}
 use Rattle.formats.specs.Frames.{no_data, sound, sid, damaged_sound, damaged_sid, max_class, FrameClass}
 use Rattle.buffer_copies.specs.Copies.{Copy, quality, soundness, greater_at, greater, rank, better_frame, better}
 use Rattle.buffer_copies.specs.Lists.{SamePair}
@@ -140,19 +145,26 @@ module _ (x y : ℕ) (xs ys : List ℕ) where
       go Ordering.eq c = refl
       go Ordering.gt c = absurd (omega arith)
 
-module _ (a b : List ℕ) (i : ℕ) (la : i < length a) (lb : i < length b) where
-  pub from_greater : get_or b i 0 < get_or a i 0 → greater (drop i a) (drop i b) ≡ true
-  from_greater l = rw (drop-cons a i 0 la, drop-cons b i 0 lb) (head_greater (get_or a i 0) (get_or b i 0) (drop (suc i) a) (drop (suc i) b) l)
+  -- of two that differ
+  pub head_differs : x ≢ y → ltb y x ≡ greater (x ∷ xs) (y ∷ ys)
+  unfolding greater
+  head_differs n = go (compare x y) (cmp x y)
+    where
+      go : (o : Ordering) → Cmp o x y → ltb y x ≡ greater_at o (greater xs ys)
+      go Ordering.lt c = le-ltb y x (omega arith)
+      go Ordering.eq c = absurd (n c)
+      go Ordering.gt c = lt-ltb y x c
 
-  pub from_less : get_or a i 0 < get_or b i 0 → greater (drop i a) (drop i b) ≡ false
-  from_less l = rw (drop-cons a i 0 la, drop-cons b i 0 lb) (head_less (get_or a i 0) (get_or b i 0) (drop (suc i) a) (drop (suc i) b) l)
-
-  pub from_same : get_or a i 0 ≡ get_or b i 0 → greater (drop i a) (drop i b) ≡ greater (drop (i + 1) a) (drop (i + 1) b)
-  from_same e = rw (drop-cons a i 0 la, drop-cons b i 0 lb, add-one i) (head_same (get_or a i 0) (get_or b i 0) (drop (suc i) a) (drop (suc i) b) e)
-
-pub from_none : (a b : List ℕ) (i : ℕ) → length a ≤ i → greater (drop i a) (drop i b) ≡ false
+-- the library's order of two slices says which is greater
+pub greater_cmp : (xs ys : List ℕ) (o : Side) → o ≡ slice_cmp nat_cmp xs ys → is_gt o ≡ greater xs ys
 unfolding greater
-from_none a b i l = rw (drop_of_length-le a {i = i} l)
+greater_cmp = same_from_slice_cmp nat_cmp is_gt greater refl (λ _ _. refl) (λ _ _. refl) (λ x y xs ys o e. go x y xs ys o (ranked x y o e))
+  where
+    go : (x y : ℕ) (xs ys : List ℕ) (o : Side) → MatchOrdering o (x < y) (x ≡ y) (y < x)
+        → MatchOrdering o (greater (x ∷ xs) (y ∷ ys) ≡ false) (greater (x ∷ xs) (y ∷ ys) ≡ greater xs ys) (greater (x ∷ xs) (y ∷ ys) ≡ true)
+    go x y xs ys Less l = head_less x y xs ys l
+    go x y xs ys Equal e = head_same x y xs ys e
+    go x y xs ys Greater l = head_greater x y xs ys l
 
 -- both classes are good, or none is; and both are sound, or none is
 abbrev pub Alike : ℕ → ℕ → Type 0
@@ -163,9 +175,9 @@ module _ (c : ℕ) (a : List ℕ) (d : ℕ) (b : List ℕ) where
   unfolding better_frame rank
   quality_greater l = head_greater (quality c) (quality d) (soundness c ∷ length a ∷ a) (soundness d ∷ length b ∷ b) l
 
-  pub quality_less : quality c < quality d → better_frame c a d b ≡ false
+  pub quality_differs : quality c ≢ quality d → ltb (quality d) (quality c) ≡ better_frame c a d b
   unfolding better_frame rank
-  quality_less l = head_less (quality c) (quality d) (soundness c ∷ length a ∷ a) (soundness d ∷ length b ∷ b) l
+  quality_differs n = head_differs (quality c) (quality d) (soundness c ∷ length a ∷ a) (soundness d ∷ length b ∷ b) n
 
   quality_same : quality c ≡ quality d → better_frame c a d b ≡ greater (soundness c ∷ length a ∷ a) (soundness d ∷ length b ∷ b)
   unfolding better_frame rank
@@ -174,8 +186,8 @@ module _ (c : ℕ) (a : List ℕ) (d : ℕ) (b : List ℕ) where
   pub soundness_greater : quality c ≡ quality d → soundness d < soundness c → better_frame c a d b ≡ true
   soundness_greater e l = quality_same e ∙ head_greater (soundness c) (soundness d) (length a ∷ a) (length b ∷ b) l
 
-  pub soundness_less : quality c ≡ quality d → soundness c < soundness d → better_frame c a d b ≡ false
-  soundness_less e l = quality_same e ∙ head_less (soundness c) (soundness d) (length a ∷ a) (length b ∷ b) l
+  pub soundness_differs : quality c ≡ quality d → soundness c ≢ soundness d → ltb (soundness d) (soundness c) ≡ better_frame c a d b
+  soundness_differs e n = head_differs (soundness c) (soundness d) (length a ∷ a) (length b ∷ b) n ∙ sym (quality_same e)
 
   class_same : Alike c d → better_frame c a d b ≡ greater (length a ∷ a) (length b ∷ b)
   class_same e = quality_same e.0 ∙ head_same (soundness c) (soundness d) (length a ∷ a) (length b ∷ b) e.1
@@ -183,8 +195,8 @@ module _ (c : ℕ) (a : List ℕ) (d : ℕ) (b : List ℕ) where
   pub length_greater : Alike c d → length b < length a → better_frame c a d b ≡ true
   length_greater e l = class_same e ∙ head_greater (length a) (length b) a b l
 
-  pub length_less : Alike c d → length a < length b → better_frame c a d b ≡ false
-  length_less e l = class_same e ∙ head_less (length a) (length b) a b l
+  pub length_differs : Alike c d → length a ≢ length b → ltb (length b) (length a) ≡ better_frame c a d b
+  length_differs e n = head_differs (length a) (length b) a b n ∙ sym (class_same e)
 
   pub length_same : Alike c d → length a ≡ length b → better_frame c a d b ≡ greater a b
   length_same e l = class_same e ∙ head_same (length a) (length b) a b l

@@ -1,8 +1,9 @@
 -- Document 01, "The take": the wrap-aware order of times, and of pairs (time, channel).
 use Prim.Native.Nat.{ℕ, ◌^◌, compare, Ordering}
+use Rattle.std.specs.declared.cmp.Ordering.{Ordering as Side}
+use Rattle.std.specs.declared.cmp.Ordering.TheVariants.{Less, Equal, Greater}
 use Rattle.std.specs.Prelude.{Bool, true, false, cond, ltb, eqb}
 use Rattle.rtp.specs.Time.{difference}
-use Rattle.buffer_copies.specs.declared.order.Side.{Side}
 
 -- half the range of time
 abbrev pub half : ℕ
@@ -27,12 +28,12 @@ is_after Ordering.gt = true
 
 -- what each of the code's answers says
 abbrev pub side_order : Side → Ordering
-side_order Side.Before = Ordering.lt
-side_order Side.Same = Ordering.eq
-side_order Side.After = Ordering.gt
+side_order Less = Ordering.lt
+side_order Equal = Ordering.eq
+side_order Greater = Ordering.gt
 
 -- the code's answer that says it
 abbrev pub side_of : Ordering → Side
-side_of Ordering.lt = Side.Before
-side_of Ordering.eq = Side.Same
-side_of Ordering.gt = Side.After
+side_of Ordering.lt = Less
+side_of Ordering.eq = Equal
+side_of Ordering.gt = Greater

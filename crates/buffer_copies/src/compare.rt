@@ -1,6 +1,6 @@
 // Which of two copies of a frame is better.
-ghost use Rattle.std.specs.Prelude.{◌≡◌, true, false, length};
-ghost use Rattle.buffer_copies.specs.Copies.{quality, soundness, greater, better_frame};
+ghost use Rattle.std.specs.Prelude.{◌≡◌};
+ghost use Rattle.buffer_copies.specs.Copies.{quality, soundness, better_frame};
 
 use formats::frames;
 
@@ -25,31 +25,10 @@ fn quality_of(class: u32) -> u32
 fn soundness_of(class: u32) -> u32
     ensures { result ≡ soundness class }
 {
-    if class == SOUND {
-        return 1;
-    }
-    if class == DAMAGED_SOUND {
+    if class == SOUND || class == DAMAGED_SOUND {
         return 1;
     }
     0
-}
-
-// Whether a has the greater byte where the two, of one length, first differ.
-fn greater_bytes(a: &[u8], b: &[u8]) -> bool
-    requires { length a.now ≡ length b.now }
-    ensures { result ≡ greater a.now b.now }
-{
-    let mut i = 0;
-    while i < a.len() {
-        if b[i] < a[i] {
-            return true;
-        }
-        if a[i] < b[i] {
-            return false;
-        }
-        i += 1;
-    }
-    false
 }
 
 // Whether a frame of this class and these bytes is better than another.
@@ -59,26 +38,17 @@ pub fn is_better(class: u32, a: &[u8], other: u32, b: &[u8]) -> bool
     if class != other {
         let good = quality_of(class);
         let other_good = quality_of(other);
-        if other_good < good {
-            return true;
-        }
-        if good < other_good {
-            return false;
+        if good != other_good {
+            return other_good < good;
         }
         let sound = soundness_of(class);
         let other_sound = soundness_of(other);
-        if other_sound < sound {
-            return true;
-        }
-        if sound < other_sound {
-            return false;
+        if sound != other_sound {
+            return other_sound < sound;
         }
     }
-    if b.len() < a.len() {
-        return true;
+    if a.len() != b.len() {
+        return b.len() < a.len();
     }
-    if a.len() < b.len() {
-        return false;
-    }
-    greater_bytes(a, b)
+    a.cmp(&b).is_gt()
 }

@@ -1,5 +1,5 @@
 // The verdict on a frame that is offered.
-#[derive(Clone, Copy)]
+#[derive(Clone, Copy, Debug, PartialEq, Eq)]
 pub enum Verdict {
     Late,
     Far,

@@ -1,5 +1,9 @@
 -- Laws of the draw, one for each way that it goes.
-use mathlib.Core.Path.{◌≡◌}
+use mathlib.Core.Path.{◌≡◌, ap}
+use Rattle.std.specs.Prelude.{Err, Option, Result}
+use Rattle.rtp.specs.declared.refusal.Refusal.{Refusal}
+use Rattle.buffer_layout.specs.declared.buffer.Answered.{Answered}
+use Rattle.buffer_draw.specs.declared.draws.DrawnFrame.{DrawnFrame}
 use mathlib.Core.List.{List}
 use mathlib.Core.Bool.{true, false}
 use Prim.Native.Nat.{ℕ, ◌≤◌, ◌<◌}
@@ -14,7 +18,15 @@ use Rattle.buffer_layout.specs.declared.buffer.Buffer.{Buffer}
 use Rattle.buffer_layout.specs.Layout.{decode}
 use Rattle.buffer_layout.specs.WellFormed.{well_formed}
 use Rattle.buffer_draw.specs.ModelCalls.{done, earliest, draw_from}
-use Rattle.buffer_draw.specs.Calls.{DrawOutcome, draw_refused, draw_done, draw_call}
+use Rattle.buffer_draw.specs.Calls.{DrawOutcome, draw_numbers, draw_refused, draw_done, draw_call}
+
+-- what the code answers, with the area that it leaves
+abbrev pub outcome : List ℕ → Answered (Result (Option DrawnFrame) Refusal) → DrawOutcome
+outcome area r = record { answer = draw_numbers r.answer; buffer = r.buffer; area = area }
+
+pub outcome_refused : (area : List ℕ) (b : Buffer) (r : Answered (Result (Option DrawnFrame) Refusal)) (q : Refusal) → r ≡ record { answer = Err q; buffer = b }
+    → outcome area r ≡ draw_refused q b area
+outcome_refused area b r q e = ap (outcome area) e
 
 -- a draw that goes through the areas, with the entries held
 abbrev pub draw_first : Buffer → List ℕ → List ℕ → List Entry → DrawOutcome

@@ -1,5 +1,6 @@
 -- Document 01, "The take": the call draw, between a buffer and its model. The definition is the whole meaning of the call, refusals included: answer, buffer and lent area.
-use Rattle.std.specs.Prelude.{ℕ, List, cond, length}
+use Rattle.std.specs.Prelude.{ℕ, List, cond, length, Err, None, Ok, Option, Some, Result as Answer}
+use Rattle.buffer_draw.specs.declared.draws.DrawnFrame.{DrawnFrame}
 use Rattle.std.proofs.Math.Option.{none, some}
 use Rattle.rtp.specs.Editions.{Edition}
 use Rattle.rtp.specs.Ranges.{in_range}
@@ -10,7 +11,6 @@ use Rattle.rtp.specs.declared.refusal.Refusal.TheVariants.{SettingsOutOfRange, M
 use Rattle.buffer_layout.specs.declared.buffer.Buffer.{Buffer}
 use Rattle.buffer_layout.specs.Layout.{encode, model}
 use Rattle.buffer_layout.specs.WellFormed.{well_formed}
-use Rattle.buffer_draw.specs.declared.draws.DrawAnswer.{DrawAnswer}
 use Rattle.buffer_draw.specs.ModelCalls.{Result, refused, done, draw_from}
 
 -- the answer in numbers: the refusal number or 0, 1 if the buffer is empty, and the frame's time, channel, class, length and mark, or zeros
@@ -27,10 +27,10 @@ abbrev pub no_frame : ℕ → ℕ → DrawNumbers
 no_frame r empty = record { refusal = r; empty = empty; time = 0; channel = 0; class = 0; length = 0; primary = 0 }
 
 -- of the code's answer, case by case
-abbrev pub draw_numbers : DrawAnswer → DrawNumbers
-draw_numbers (DrawAnswer.Refused r) = no_frame (number r) 0
-draw_numbers DrawAnswer.Empty = no_frame 0 1
-draw_numbers (DrawAnswer.Frame f) = record { refusal = 0; empty = 0; time = f.time; channel = f.channel; class = f.class; length = f.length; primary = f.primary }
+abbrev pub draw_numbers : Answer (Option DrawnFrame) Refusal → DrawNumbers
+draw_numbers (Err r) = no_frame (number r) 0
+draw_numbers (Ok None) = no_frame 0 1
+draw_numbers (Ok (Some f)) = record { refusal = 0; empty = 0; time = f.time; channel = f.channel; class = f.class; length = f.length; primary = f.primary }
 
 pub record DrawOutcome : Type 0 where
   pub answer : DrawNumbers

@@ -8,15 +8,14 @@ ghost use Rattle.buffer_draw.specs.Calls.{draw_numbers, draw_done, draw_call};
 ghost use Rattle.buffer_draw.specs.Drawable.{Drawable};
 
 use buffer_columns::{areas, columns};
-use buffer_layout::buffer::{Buffer, Fixed, SLOT_SIZE, STORE_SIZE};
-use buffer_layout::well_formed;
+use buffer_layout::buffer::{Answered, Buffer, SLOT_SIZE, STORE_SIZE};
 use buffer_slots::bits;
 use row_tags::tagging;
 use rtp::refusal::Refusal;
 use rtp::settings;
 
 // A frame that is handed out, and whether it was heard first-hand; its bytes are at the front of the draw area.
-#[derive(Clone, Copy)]
+#[derive(Clone, Copy, Debug, PartialEq, Eq)]
 pub struct DrawnFrame {
     pub time: u32,
     pub channel: u32,
@@ -25,30 +24,13 @@ pub struct DrawnFrame {
     pub primary: u32,
 }
 
-#[derive(Clone, Copy)]
-pub enum DrawAnswer {
-    Frame(DrawnFrame),
-    Empty,
-    Refused(Refusal),
-}
-
-#[derive(Clone, Copy)]
-pub struct Drawn {
-    pub answer: DrawAnswer,
-    pub buffer: Buffer,
-}
-
-fn refuse_draw(refusal: Refusal, buffer: Buffer) -> Drawn
-    ensures { result ≡ record { answer = DrawAnswer.Refused refusal; buffer = buffer } }
-{
-    Drawn {
-        answer: DrawAnswer::Refused(refusal),
-        buffer,
-    }
-}
-
 // The first of n entries handed out: its frame to the front of the area, its slot free, its pair the last drawn.
-fn draw_first(mut buffer: Buffer, n: usize, store: &[u8], area: &mut [u8]) -> Drawn
+fn draw_first(
+    mut buffer: Buffer,
+    n: usize,
+    store: &[u8],
+    area: &mut [u8],
+) -> Answered<Result<Option<DrawnFrame>, Refusal>>
     requires { Drawable buffer n store.now area.old }
     ensures { record { answer = draw_numbers result.answer; buffer = result.buffer; area = area.new }
         ≡ draw_done buffer area.old (done (earliest store.now (decode buffer).entries)) }
@@ -72,49 +54,38 @@ fn draw_first(mut buffer: Buffer, n: usize, store: &[u8], area: &mut [u8]) -> Dr
     buffer.last_time = time;
     buffer.last_channel = channel;
     buffer.drawn = 1;
-    Drawn {
-        answer: DrawAnswer::Frame(DrawnFrame {
+    Answered {
+        answer: Ok(Some(DrawnFrame {
             time,
             channel,
             class,
             length,
             primary,
-        }),
+        })),
         buffer,
     }
 }
 
 // A draw under settings in range.
-fn draw_checked(buffer: Buffer, store: &[u8], area: &mut [u8]) -> Drawn
+fn draw_checked(
+    buffer: Buffer,
+    store: &[u8],
+    area: &mut [u8],
+) -> Answered<Result<Option<DrawnFrame>, Refusal>>
     requires { in_range current buffer.settings ≡ true }
     ensures { record { answer = draw_numbers result.answer; buffer = result.buffer; area = area.new }
         ≡ draw_call current buffer store.now area.old }
 {
-    let times = buffer.times;
-    let tags = buffer.tags;
-    let lengths = buffer.lengths;
-    let slots = buffer.slots;
-    let occupied = buffer.occupied;
-    let settings = buffer.settings;
-    let fixed = Fixed {
-        last_time: buffer.last_time,
-        last_channel: buffer.last_channel,
-        drawn: buffer.drawn,
-        settings,
-    };
-    if !well_formed::well_formed(&times, &tags, &lengths, &slots, occupied, fixed) {
-        return refuse_draw(Refusal::Malformed, buffer);
+    if !buffer.is_well_formed() {
+        return Answered::refused(Refusal::Malformed, buffer);
     }
-    if store.len() < STORE_SIZE {
-        return refuse_draw(Refusal::AreaTooShort, buffer);
+    if store.len() < STORE_SIZE || area.len() < SLOT_SIZE {
+        return Answered::refused(Refusal::AreaTooShort, buffer);
     }
-    if area.len() < SLOT_SIZE {
-        return refuse_draw(Refusal::AreaTooShort, buffer);
-    }
-    let n = bits::held_in(occupied);
+    let n = bits::held_in(buffer.occupied);
     if n == 0 {
-        return Drawn {
-            answer: DrawAnswer::Empty,
+        return Answered {
+            answer: Ok(None),
             buffer,
         };
     }
@@ -122,7 +93,11 @@ fn draw_checked(buffer: Buffer, store: &[u8], area: &mut [u8]) -> Drawn
 }
 
 // The earliest frame handed out, or that the buffer is empty; or a refusal, and everything as it stood.
-pub fn draw(buffer: Buffer, store: &[u8], area: &mut [u8]) -> Drawn
+pub fn draw(
+    buffer: Buffer,
+    store: &[u8],
+    area: &mut [u8],
+) -> Answered<Result<Option<DrawnFrame>, Refusal>>
     ensures { record { answer = draw_numbers result.answer; buffer = result.buffer; area = area.new }
         ≡ draw_call current buffer store.now area.old }
 {
@@ -130,5 +105,5 @@ pub fn draw(buffer: Buffer, store: &[u8], area: &mut [u8]) -> Drawn
     if settings::in_range(settings) {
         return draw_checked(buffer, store, area);
     }
-    refuse_draw(Refusal::SettingsOutOfRange, buffer)
+    Answered::refused(Refusal::SettingsOutOfRange, buffer)
 }

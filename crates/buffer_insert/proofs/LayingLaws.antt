@@ -2,21 +2,13 @@
 use mathlib.Core.Path.{◌≡◌}
 use mathlib.Core.List.{List}
 use mathlib.Core.Bool.{Bool, true, false, cond}
-use Prim.Native.Nat.{ℕ, ◌≤◌, ◌<◌}
+use Prim.Native.Nat.{ℕ}
 use lib.ListN.{get_or}
 use lib.Dec.{ltb, leb}
 use borrow.Author.Tests.{lt-ltb, le-ltb, le-leb, ltb-true, ltb-false, leb-true}
 use Rattle.rtp.proofs.TestLaws.{both, either}
 use Rattle.buffer_copies.specs.Sizes.{slots, slot_size, store_size}
-use Rattle.buffer_insert.specs.Laying.{can_replace, can_insert}
-
--- the entry at a place, and a frame of this size, in a store of so many bytes
-pub record Replaceable (lengths slots' : List ℕ) (at size room : ℕ) : Type 0 where
-  pub place : at < slots
-  pub slot : get_or slots' at 0 < slots
-  pub held : get_or lengths at 0 ≤ slot_size
-  pub short : size ≤ slot_size
-  pub store : store_size ≤ room
+use Rattle.buffer_insert.specs.Laying.{can_replace, Replaceable, can_insert, Insertable}
 
 module _ (lengths slots' : List ℕ) (at size room : ℕ) where
   abbrev fits : Bool
@@ -39,14 +31,6 @@ module _ (lengths slots' : List ℕ) (at size room : ℕ) where
   can_replace_lem r =
       rw (lt-ltb at slots r.place, lt-ltb (get_or slots' at 0) slots r.slot, le-ltb slot_size (get_or lengths at 0) r.held, le-ltb slot_size size r.short)
       (le-leb store_size room r.store)
-
--- a slot, a place of n entries, and a frame of this size, in a store of so many bytes
-pub record Insertable (slot n at size room : ℕ) : Type 0 where
-  pub slot_in : slot < slots
-  pub space : n < slots
-  pub place : at ≤ n
-  pub short : size ≤ slot_size
-  pub store : store_size ≤ room
 
 module _ (slot n at size room : ℕ) where
   pub insertable : can_insert slot n at size room ≡ true → Insertable slot n at size room

@@ -1,11 +1,11 @@
 // Verdicts counted.
 ghost use Rattle.std.specs.Prelude.{◌≡◌};
-ghost use Rattle.buffer_insert.specs.Tallies.{counts_of, no_tally, one_more, tallied};
+ghost use Rattle.buffer_insert.specs.Tallies.{counts_of, no_tally, tallied};
 
 use buffer_copies::verdict::Verdict;
 
 // How often each verdict was given.
-#[derive(Clone, Copy)]
+#[derive(Clone, Copy, Debug, PartialEq, Eq)]
 pub struct Tally {
     pub late: u32,
     pub far: u32,
@@ -14,9 +14,6 @@ pub struct Tally {
     pub no_room: u32,
     pub inserted: u32,
 }
-
-// The most that a count can be.
-const MOST: u32 = 4294967295;
 
 // No verdict given yet.
 pub fn no_tally() -> Tally
@@ -32,40 +29,18 @@ pub fn no_tally() -> Tally
     }
 }
 
-// One more; the most that a count can be stays.
-fn one_more(count: u32) -> u32
-    ensures { result ≡ one_more count }
-{
-    if count < MOST {
-        return count + 1;
-    }
-    count
-}
-
-// One more of a verdict.
+// One more of a verdict; the most that a count can be stays.
 pub fn count_verdict(tally: Tally, verdict: Verdict) -> Tally
     ensures { counts_of result ≡ tallied (counts_of tally) verdict }
 {
     let mut next = tally;
     match verdict {
-        Verdict::Late => {
-            next.late = one_more(tally.late);
-        }
-        Verdict::Far => {
-            next.far = one_more(tally.far);
-        }
-        Verdict::Repeated => {
-            next.repeated = one_more(tally.repeated);
-        }
-        Verdict::Better => {
-            next.better = one_more(tally.better);
-        }
-        Verdict::NoRoom => {
-            next.no_room = one_more(tally.no_room);
-        }
-        Verdict::Inserted => {
-            next.inserted = one_more(tally.inserted);
-        }
+        Verdict::Late => next.late = next.late.saturating_add(1),
+        Verdict::Far => next.far = next.far.saturating_add(1),
+        Verdict::Repeated => next.repeated = next.repeated.saturating_add(1),
+        Verdict::Better => next.better = next.better.saturating_add(1),
+        Verdict::NoRoom => next.no_room = next.no_room.saturating_add(1),
+        Verdict::Inserted => next.inserted = next.inserted.saturating_add(1),
     }
     next
 }

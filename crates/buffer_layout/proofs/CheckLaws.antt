@@ -1,5 +1,8 @@
 -- The tests of the entries, as the code asks them in turn.
 use Prim.Native.Nat.{ℕ, zero, suc, ◌+◌, ◌-◌, ◌≤◌, ◌<◌, Ordering}
+use Rattle.std.specs.declared.cmp.Ordering.{Ordering as Side}
+use Rattle.std.specs.declared.cmp.Ordering.TheVariants.{Less, Equal, Greater}
+use Rattle.std.specs.Ordering.{is_gt}
 use mathlib.Core.Path.{◌≡◌, refl, ap, ◌∙◌}
 use mathlib.Core.List.{List}
 use mathlib.Core.Bool.{Bool, true, false, cond, ◌&&◌}
@@ -12,8 +15,7 @@ use lib.ListN.{get_or}
 use Rattle.frame_codes.specs.Allowed.{allowed}
 use Rattle.row_tags.specs.Tags.{tag_class, tag_channel}
 use Rattle.buffer_copies.specs.Sizes.{slots}
-use Rattle.buffer_copies.specs.Pairs.{half, ahead, order, is_after, side_of}
-use Rattle.buffer_copies.specs.declared.order.Side.{Side}
+use Rattle.buffer_copies.specs.Pairs.{half, ahead, order, is_after, side_order}
 use Rattle.buffer_copies.specs.Entries.{Entry}
 use Rattle.buffer_layout.specs.declared.buffer.Buffer.{Buffer}
 use Rattle.buffer_layout.specs.declared.buffer.Fixed.{Fixed}
@@ -100,13 +102,8 @@ module _ (ts gs ls ss ws : List ℕ) (f : Fixed) where
           pub fine_more : is_free seen (get_or ss i 0) ≡ true → rest_fine n i seen ≡ rest_fine n (i + 1) (marked seen (get_or ss i 0))
           fine_more r = fine_step ∙ when _ _ p ∙ when _ _ q ∙ when _ _ r
 
--- the side on which a pair lies, as the code matches it
-abbrev pub is_after_side : Side → Bool
-is_after_side Side.Before = false
-is_after_side Side.Same = false
-is_after_side Side.After = true
-
-pub after_is : (s : Side) (o : Ordering) → s ≡ side_of o → is_after_side s ≡ is_after o
-after_is s Ordering.lt e = ap is_after_side e
-after_is s Ordering.eq e = ap is_after_side e
-after_is s Ordering.gt e = ap is_after_side e
+-- a pair lies after another where the library's order says greater
+pub after_is : (s : Side) (o : Ordering) → side_order s ≡ o → is_gt s ≡ is_after o
+after_is Less o e = ap is_after e
+after_is Equal o e = ap is_after e
+after_is Greater o e = ap is_after e

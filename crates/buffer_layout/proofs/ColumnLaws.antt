@@ -1,14 +1,16 @@
--- What one turn of each loop over a column keeps.
+-- What the code's copies and loops make of a column.
 use Prim.Native.Nat.{ℕ, zero, suc, ◌+◌, ◌-◌, ◌≤◌, ◌<◌}
-use mathlib.Core.Path.{◌≡◌, refl, sym, ap, ◌∙◌}
+use mathlib.Core.Path.{◌≡◌, refl, sym, ap, ap₂, ◌∙◌}
 use mathlib.Core.List.{List, [], ◌∷◌, ◌++◌, map, append_assoc}
-use mathlib.Core.Bool.{Bool, true, false, cond}
+use mathlib.Core.Bool.{Bool, true, false, cond, ◌&&◌}
 use native.Mathlib.Numerals.{add-one}
 use native.Mathlib.Omega.{arith}
 use borrow.Author.Tests.{eq-eqb, ne_eqb, eqb-true, eqb-false}
 use lib.Dec.{ltb, eqb}
-use lib.ListN.{length, get_or, take, drop, set, take-append-drop, drop_of_length-le}
-use lib.Seq.{drop-cons, take-suc-set, drop-set-lt, set_split}
+use lib.ListN.{length, get_or, take, drop, set, take-append-drop, drop_of_length-le, length-append, length-drop}
+use lib.Seq.{paste, drop-cons, drop-drop, set_split, take-append-le, take-append_seam, drop-append_seam, drop-append-add}
+use Rattle.std.specs.List.{list_all}
+use Rattle.std.proofs.lemmas.List.{length-take-le}
 use Rattle.rtp.proofs.TestLaws.{by-test}
 use Rattle.buffer_copies.specs.Pairs.{half, ahead}
 use Rattle.buffer_layout.specs.Columns.{insert_at, remove_first, zeros, within_from}
@@ -25,62 +27,49 @@ insert_start xs n i v h =
     let e : n + 1 - i ≡ suc (n - i) = omega arith in
     rw e (sym (append_assoc (take i xs) (v ∷ take (n - i) (drop i xs)) (drop (n + 1) xs)))
 
-insert_turn : (xs : List ℕ) (m k i v : ℕ) → i < length xs → i < m → inserting (set xs i v) m k (suc i) (get_or xs i 0) ≡ inserting xs m (suc k) i v
-insert_turn xs m k i v h l =
-    rw (take-suc-set xs i v h, drop-set-lt (suc i) xs i v (omega arith), drop-set-lt m xs i v l, ← drop-cons xs i 0 h)
-    (append_assoc (take i xs) (v ∷ []) (take k (drop i xs) ++ drop m xs))
+-- Insertion in the code: those from a place on are copied up by one, and the value is laid before them
 
-pub insert_more : (xs : List ℕ) (n i v : ℕ) → i ≤ n → i < length xs
-    → inserting (set xs i v) (n + 1) (n + 1 - (i + 1)) (i + 1) (get_or xs i 0) ≡ inserting xs (n + 1) (n + 1 - i) i v
-insert_more xs n i v h l = let e : n + 1 - i ≡ suc (n + 1 - (i + 1)) = omega arith in rw (e, add-one i) (insert_turn xs (n + 1) (n + 1 - suc i) i v l (omega arith))
+pub insert_moved : (xs : List ℕ) (n i v : ℕ) → i ≤ n → n < length xs → set (paste xs (i + 1) (drop i xs) (n - i)) i v ≡ insert_at xs n i v
+unfolding insert_at
+insert_moved xs n i v h l =
+    let p : List ℕ = take (i + 1) xs in
+    let q : List ℕ = take (n - i) (drop i xs) ++ drop (i + 1 + (n - i)) xs in
+    let long : length p ≡ i + 1 = length-take-le (i + 1) xs (omega arith) in
+    let front : take i (p ++ q) ≡ take i xs =
+    take-append-le i p q (omega arith) ∙ sym (take-append-le i p (drop (i + 1) xs) (omega arith)) ∙ ap (take i) (take-append-drop (i + 1) xs) in
+    let back : drop (suc i) (p ++ q) ≡ q = ap (λ (m : ℕ). drop m (p ++ q)) (let e : suc i ≡ length p = omega arith in e) ∙ drop-append_seam p q in
+    let past : i + 1 + (n - i) ≡ n + 1 = omega arith in
+    ap (λ (ys : List ℕ). set ys i v) (append_assoc p (take (n - i) (drop i xs)) (drop (i + 1 + (n - i)) xs))
+    ∙ set_split (p ++ q) i v (omega (arith, length-append p q))
+    ∙ ap₂ (λ (a b : List ℕ). a ++ (v ∷ b)) front back
+    ∙ ap (λ (m : ℕ). take i xs ++ (v ∷ (take (n - i) (drop i xs) ++ drop m xs))) past
+    ∙ sym (append_assoc (take i xs) (v ∷ take (n - i) (drop i xs)) (drop (n + 1) xs))
 
-pub insert_end : (xs : List ℕ) (n i v : ℕ) → i ≡ n + 1 → inserting xs (n + 1) (n + 1 - i) i v ≡ xs
-insert_end xs n i v h = let e : n + 1 - i ≡ 0 = omega arith in rw (e, h) (take-append-drop (n + 1) xs)
+-- Removal: those after the first are copied down by one, and a zero is laid after them
 
--- Removal: k values from place j + 1 on are still to be moved down by one
-
-abbrev pub removing : List ℕ → ℕ → ℕ → ℕ → List ℕ
-removing xs n k j = take j xs ++ (take k (drop (suc j) xs) ++ (0 ∷ drop n xs))
-
-pub remove_start : (xs : List ℕ) (n : ℕ) → removing xs n (n - 1) 0 ≡ remove_first xs n
+pub remove_moved : (xs : List ℕ) (n : ℕ) → 1 ≤ n → n ≤ length xs → set (paste xs 0 (drop 1 xs) (n - 1)) (n - 1) 0 ≡ remove_first xs n
 unfolding remove_first
-remove_start xs n = refl
+remove_moved xs n h l =
+    let p : List ℕ = take (n - 1) (drop 1 xs) in
+    let q : List ℕ = drop (n - 1) xs in
+    let long : length p ≡ n - 1 = length-take-le (n - 1) (drop 1 xs) (simp length-drop (omega arith)) in
+    let front : take (n - 1) (p ++ q) ≡ p = ap (λ (m : ℕ). take m (p ++ q)) (sym long) ∙ take-append_seam p q in
+    let back : drop (suc (n - 1)) (p ++ q) ≡ drop n xs =
+    ap (λ (m : ℕ). drop m (p ++ q)) (let e : suc (n - 1) ≡ length p + 1 = omega arith in e) ∙ drop-append-add p q 1 ∙ drop-drop 1 (n - 1) xs
+    ∙ ap (λ (m : ℕ). drop m xs) (let e : n - 1 + 1 ≡ n = omega arith in e) in
+    ap (λ (m : ℕ). set (p ++ drop m xs) (n - 1) 0) (let e : 0 + (n - 1) ≡ n - 1 = omega arith in e) ∙ set_split (p ++ q) (n - 1) 0 (omega (arith, length-append p q, length-drop (n - 1) xs)) ∙ ap₂ (λ (a b : List ℕ). a ++ (0 ∷ b)) front back
 
-remove_turn : (xs : List ℕ) (n k j : ℕ) → suc j < length xs → suc j < n → removing (set xs j (get_or xs (suc j) 0)) n k (suc j) ≡ removing xs n (suc k) j
-remove_turn xs n k j h l =
-    rw (
-      take-suc-set xs j (get_or xs (suc j) 0) (omega arith),
-      drop-set-lt (suc (suc j)) xs j (get_or xs (suc j) 0) (omega arith),
-      drop-set-lt n xs j (get_or xs (suc j) 0) (omega arith),
-      drop-cons xs (suc j) 0 h,
-    )
-    (append_assoc (take j xs) (get_or xs (suc j) 0 ∷ []) (take k (drop (suc (suc j)) xs) ++ (0 ∷ drop n xs)))
+-- Times within a stretch: the test of each in turn is that of all
 
-pub remove_more : (xs : List ℕ) (n i : ℕ) → 1 ≤ i → i < n → i < length xs
-    → removing (set xs (i - 1) (get_or xs i 0)) n (n - (i + 1)) (i + 1 - 1) ≡ removing xs n (n - i) (i - 1)
-remove_more xs n i a h l =
-    let p : i ≡ suc (i - 1) = omega arith in
-    let q : i + 1 - 1 ≡ suc (i - 1) = omega arith in
-    let r : n - i ≡ suc (n - (i + 1)) = omega arith in
-    rw (q, r) (ap (λ (m : ℕ). removing (set xs (i - 1) (get_or xs m 0)) n (n - (i + 1)) (suc (i - 1))) p ∙ remove_turn xs n (n - (i + 1)) (i - 1) (omega arith) (omega arith))
-
-pub remove_end : (xs : List ℕ) (n i : ℕ) → 1 ≤ n → i ≡ n → n ≤ length xs → set xs (n - 1) 0 ≡ removing xs n (n - i) (i - 1)
-remove_end xs n i a h l =
-    let e : n - i ≡ 0 = omega arith in
-    let p : suc (n - 1) ≡ n = omega arith in
-    rw (e, h) (set_split xs (n - 1) 0 (omega arith) ∙ ap (λ (m : ℕ). take (n - 1) xs ++ (0 ∷ drop m xs)) p)
-
--- Times within a stretch
-
-module _ (times : List ℕ) (t n i : ℕ) where
-  pub within_end : n ≤ i → within_from times t (n - i) i ≡ true
-  unfolding within_from
-  within_end h = rw (let e : n - i ≡ 0 = omega arith in e)
-
-  pub within_step : (b : Bool) → i < n → ltb (ahead (get_or times i 0) t) half ≡ b
-      → within_from times t (n - i) i ≡ cond b (within_from times t (n - (i + 1)) (i + 1)) false
-  unfolding within_from
-  within_step b l e = rw (let e : n - i ≡ suc (n - (i + 1)) = omega arith in e, e)
+pub within_all : (times : List ℕ) (t k i : ℕ) → i + k ≤ length times → within_from times t k i ≡ list_all (λ x. ltb (ahead x t) half) (take k (drop i times))
+unfolding within_from
+within_all times t zero i h = refl
+within_all times t (suc k) i h =
+    rw (drop-cons times i 0 (omega arith)) (go (ltb (ahead (get_or times i 0) t) half) _ _ (within_all times t k (i + 1) (omega arith) ∙ ap (λ (m : ℕ). list_all (λ x. ltb (ahead x t) half) (take k (drop m times))) (add-one i)))
+  where
+    go : (b x y : Bool) → x ≡ y → cond b x false ≡ b && y
+    go true x y e = e
+    go false x y e = refl
 
 -- A sum of values is 0 where all are
 

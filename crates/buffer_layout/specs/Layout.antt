@@ -93,7 +93,7 @@ fresh st = record {
   settings = st;
 }
 
--- the buffer of its parts, as the code holds them within a call
+-- the buffer of its parts, as the code tests them
 abbrev pub assembled : List ℕ → List ℕ → List ℕ → List ℕ → List ℕ → Fixed → Buffer
 assembled times tags lengths slots' occupied f = record {
   times = times;

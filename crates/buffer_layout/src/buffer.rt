@@ -1,5 +1,5 @@
 // The reorder buffer's layout.
-ghost use Rattle.std.specs.Prelude.{◌≡◌};
+ghost use Rattle.std.specs.Prelude.{◌≡◌, Err};
 ghost use Rattle.buffer_layout.specs.Layout.{fresh};
 
 use buffer_slots::bits::SLOTS;
@@ -27,7 +27,7 @@ pub struct Buffer {
     pub settings: Settings,
 }
 
-// What of a buffer stays the same while a packet's rows are judged.
+// What a buffer holds beside its entries and their slots.
 #[derive(Clone, Copy)]
 pub struct Fixed {
     pub last_time: u32,
@@ -36,20 +36,34 @@ pub struct Fixed {
     pub settings: Settings,
 }
 
+// What a call on a buffer answers, and the buffer after it.
+#[derive(Clone, Copy)]
+pub struct Answered<A> {
+    pub answer: A,
+    pub buffer: Buffer,
+}
+
+impl<T, E> Answered<Result<T, E>> {
+    // A call that is refused, and the buffer as it stood.
+    pub fn refused(reason: E, buffer: Buffer) -> Answered<Result<T, E>>
+        ensures { result ≡ record { answer = Err reason; buffer = buffer } }
+    {
+        Answered {
+            answer: Err(reason),
+            buffer,
+        }
+    }
+}
+
 pub fn fresh_buffer(settings: Settings) -> Buffer
     ensures { result ≡ fresh settings }
 {
-    let times = [0u32; SLOTS];
-    let tags = [0u32; SLOTS];
-    let lengths = [0u32; SLOTS];
-    let slots = [0u32; SLOTS];
-    let occupied = [0u64; 3];
     Buffer {
-        times,
-        tags,
-        lengths,
-        slots,
-        occupied,
+        times: [0; SLOTS],
+        tags: [0; SLOTS],
+        lengths: [0; SLOTS],
+        slots: [0; SLOTS],
+        occupied: [0; 3],
         last_time: 0,
         last_channel: 0,
         drawn: 0,

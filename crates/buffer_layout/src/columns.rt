@@ -12,10 +12,8 @@ pub(crate) fn zero_from(column: &[u32; SLOTS], n: usize) -> bool
 {
     let values: &[u32] = column;
     let mut any = 0;
-    let mut i = n;
-    while i < SLOTS {
-        any |= values[i];
-        i += 1;
+    for value in &values[n..] {
+        any |= *value;
     }
     any == 0
 }

@@ -7,10 +7,9 @@ ghost use Rattle.buffer_layout.specs.Layout.{unused_zero, assembled};
 ghost use Rattle.buffer_layout.specs.WellFormed.{well_formed};
 ghost use Rattle.buffer_layout.specs.Checks.{last_kept, class_fine, base_of, start_of, position_of, entries_pass};
 
-use crate::buffer::Fixed;
+use crate::buffer::{Buffer, Fixed};
 use crate::columns;
 use buffer_copies::order;
-use buffer_copies::order::Side;
 use buffer_slots::bits;
 use buffer_slots::bits::SLOTS;
 use formats::facts;
@@ -25,27 +24,18 @@ const STRETCH: u64 = 256 * (order::HALF as u64);
 pub fn pair_after(t: u32, c: u32, h: u32, d: u32) -> bool
     ensures { result ≡ is_after (order t c h d) }
 {
-    match order::side_of(t, c, h, d) {
-        Side::After => true,
-        Side::Same => false,
-        Side::Before => false,
-    }
+    order::side_of(t, c, h, d).is_gt()
 }
 
 // Whether the flag is one, and the last pair is kept as zeros or is in range.
 fn last_kept(fixed: Fixed) -> bool
     ensures { (result ≡ last_kept fixed) × (result ≡ true → fixed.last_channel < 256) }
 {
-    if fixed.drawn == 0 {
-        if fixed.last_time == 0 {
-            return fixed.last_channel == 0;
-        }
-        return false;
+    match fixed.drawn {
+        0 => fixed.last_time == 0 && fixed.last_channel == 0,
+        1 => fixed.last_channel < (fixed.settings.channels as u32),
+        _ => false,
     }
-    if fixed.drawn == 1 {
-        return fixed.last_channel < (fixed.settings.channels as u32);
-    }
-    false
 }
 
 // Whether an entry's class, length and channel are such as these settings allow.
@@ -53,10 +43,8 @@ fn class_fine(table: FrameTable, fixed: Fixed, tag: u32, length: u32) -> bool
     requires { table ≡ (format_of fixed.settings.format).table }
     ensures { result ≡ class_fine fixed tag length }
 {
-    if !coding::is_allowed(table, tagging::tag_class(tag), length) {
-        return false;
-    }
-    tagging::tag_channel(tag) < (fixed.settings.channels as u32)
+    coding::is_allowed(table, tagging::tag_class(tag), length)
+        && tagging::tag_channel(tag) < (fixed.settings.channels as u32)
 }
 
 // The time from which positions are counted: of the last pair drawn, or of the first entry.
@@ -105,8 +93,7 @@ fn entries_pass(
     let base = base_of(fixed, times[0]);
     let mut least = start_of(fixed);
     let mut seen = [0u64; 3];
-    let mut i = 0;
-    while i < n {
+    for i in 0..n {
         if !class_fine(table, fixed, tags[i], lengths[i]) {
             return false;
         }
@@ -122,7 +109,6 @@ fn entries_pass(
         if !bits::claim(&mut seen, slot) {
             return false;
         }
-        i += 1;
     }
     bits::same_words(seen, occupied)
 }
@@ -138,16 +124,10 @@ fn unused_zero(
     requires { n ≤ slot_count }
     ensures { result ≡ unused_zero times.now tags.now lengths.now slots.now n }
 {
-    if !columns::zero_from(times, n) {
-        return false;
-    }
-    if !columns::zero_from(tags, n) {
-        return false;
-    }
-    if !columns::zero_from(lengths, n) {
-        return false;
-    }
-    columns::zero_from(slots, n)
+    columns::zero_from(times, n)
+        && columns::zero_from(tags, n)
+        && columns::zero_from(lengths, n)
+        && columns::zero_from(slots, n)
 }
 
 // Whether the buffer of these parts is well-formed.
@@ -165,8 +145,28 @@ pub fn well_formed(
         return false;
     }
     let n = bits::held_in(occupied);
-    if !unused_zero(times, tags, lengths, slots, n) {
-        return false;
+    unused_zero(times, tags, lengths, slots, n)
+        && entries_pass(times, tags, lengths, slots, occupied, fixed, n)
+}
+
+impl Buffer {
+    // Whether the buffer is well-formed.
+    pub fn is_well_formed(&self) -> bool
+        ensures { result ≡ well_formed self.now }
+    {
+        let fixed = Fixed {
+            last_time: self.last_time,
+            last_channel: self.last_channel,
+            drawn: self.drawn,
+            settings: self.settings,
+        };
+        well_formed(
+            &self.times,
+            &self.tags,
+            &self.lengths,
+            &self.slots,
+            self.occupied,
+            fixed,
+        )
     }
-    entries_pass(times, tags, lengths, slots, occupied, fixed, n)
 }

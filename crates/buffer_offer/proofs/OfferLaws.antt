@@ -1,5 +1,6 @@
 -- Laws of an offer whose packet was read, or not.
 use mathlib.Core.Path.{◌≡◌, refl, ap, ap₂, sym, ◌∙◌, subst}
+use Rattle.std.specs.Prelude.{Ok, Result}
 use mathlib.Core.List.{List, [], ◌∷◌}
 use mathlib.Core.Bool.{true}
 use Prim.Native.Nat.{ℕ, ◌*◌, ◌≤◌}
@@ -20,14 +21,11 @@ use Rattle.read_rows.specs.Rows.{Row, words, rows_in}
 use Rattle.read_rows.proofs.RowLaws.{length_words, TagsFit, rows_words}
 use Rattle.read_payload.proofs.RowFactLaws.{RowFine, AllRows}
 use Rattle.read_packet.specs.declared.reading.Packet.{Packet}
-use Rattle.read_packet.specs.declared.reading.Reading.{Reading}
 use Rattle.read_packet.specs.Readings.{Outcome, refused, read_as, reading, Numbers, refused_numbers, reading_numbers, outcome_numbers, outcome_words}
 use Rattle.read_packet.proofs.RowFactLaws.{rows_fine}
 use Rattle.buffer_copies.specs.Sizes.{store_size}
 use Rattle.buffer_copies.specs.Verdicts.{no_counts, tally, Gathered, judge_all}
 use Rattle.buffer_layout.specs.declared.buffer.Buffer.{Buffer}
-use Rattle.buffer_offer.specs.declared.calls.OfferAnswer.{OfferAnswer}
-use Rattle.buffer_offer.specs.declared.judging.Judged.{Judged}
 use Rattle.buffer_insert.specs.declared.tally.Tally.{Tally}
 use Rattle.buffer_layout.specs.Layout.{encode, decode}
 use Rattle.buffer_layout.specs.WellFormed.{well_formed}
@@ -65,18 +63,15 @@ pub record IsRead (o : Outcome) (n : ℕ) : Type 0 where
   pub same : o ≡ read_as head rows request
   pub count : n ≡ length rows
 
-pub is_read : (o : Outcome) (p : Packet) → reading_numbers (Reading.Read p) ≡ outcome_numbers o → IsRead o p.rows
+pub is_read : (o : Outcome) (p : Packet) → reading_numbers (Ok p) ≡ outcome_numbers o → IsRead o p.rows
 unfolding outcome_numbers
 is_read (refused q) p e = let z : 0 ≡ number q.refusal = ap (λ (n : Numbers). n.refusal) e in absurd (omega (arith, number_positive q.refusal))
 is_read (read_as h rs request) p e = record { head = h; rows = rs; request = request; same = refl; count = ap (λ (n : Numbers). n.rows) e }
 
 -- the rows of an offer judged, from none judged
-pub rows_offer : (at : List ℕ → Buffer) (occupied : List ℕ) (sum : Judged) → sum ≡ record { tally = no_tally; occupied = occupied }
-    → (b' : Buffer) (packet : List ℕ) (rs : List Row) (t : Tally) (store store' : List ℕ) → RowsJudged (at sum.occupied) b' packet rs sum.tally t store store'
-    → OfferJudged (at occupied) b' packet rs (OfferAnswer.Judged t) store store'
-rows_offer at occupied sum e b' packet rs t store store' k =
-    let j = subst (λ (x : Judged). RowsJudged (at x.occupied) b' packet rs x.tally t store store') e k in
-    record { answer = ap count_numbers j.counts; buffer = j.buffer; store_left = j.store_left }
+pub rows_offer : (b b' : Buffer) (packet : List ℕ) (rs : List Row) (t : Tally) (store store' : List ℕ) → RowsJudged b b' packet rs no_tally t store store'
+    → OfferJudged b b' packet rs (Ok t) store store'
+rows_offer b b' packet rs t store store' j = record { answer = ap count_numbers j.counts; buffer = j.buffer; store_left = j.store_left }
 
 -- the tags of rows that were read hold all of their parts
 tags_fit : (format ch n : ℕ) (rs : List Row) → ch ≤ 255 → AllRows (RowFine format ch n) rs → TagsFit rs
@@ -91,7 +86,7 @@ tags_fit format ch n (r ∷ rs) few f = (
 )
 
 module _ (ed : Edition) (b : Buffer) (packet rows store : List ℕ) (h : in_range ed b.settings ≡ true) (w : well_formed b ≡ true) (area : row_area ed ≤ length rows) (room : store_size ≤ length store)
-    (p : Packet) (e : reading_numbers (Reading.Read p) ≡ outcome_numbers (reading ed b.settings (length rows) packet))
+    (p : Packet) (e : reading_numbers (Ok p) ≡ outcome_numbers (reading ed b.settings (length rows) packet))
     (rows' : List ℕ) (q : rows' ≡ over (outcome_words (reading ed b.settings (length rows) packet)) rows) where
   abbrev is : IsRead (reading ed b.settings (length rows) packet) p.rows
   is = is_read (reading ed b.settings (length rows) packet) p e
@@ -128,7 +123,7 @@ module _ (ed : Edition) (b : Buffer) (packet rows store : List ℕ) (h : in_rang
         room = room;
       })
 
-  pub offer_gives : (a : OfferAnswer) (b' : Buffer) (store' : List ℕ) → OfferJudged b b' packet (rows_in (take (row_width * p.rows) rows')) a store store'
+  pub offer_gives : (a : Result Tally Fault) (b' : Buffer) (store' : List ℕ) → OfferJudged b b' packet (rows_in (take (row_width * p.rows) rows')) a store store'
       → record { answer = offer_numbers a; buffer = b'; rows = rows'; store = store' } ≡ offer_call ed b packet rows store
   offer_gives a b' store' j =
       let g : judge_all (decode b) store (received_in packet (rows_in (take (row_width * p.rows) rows'))) ≡ judge_all (decode b) store (received_in packet rs) =

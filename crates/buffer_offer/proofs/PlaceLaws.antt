@@ -1,5 +1,8 @@
 -- The place search and the stretch test on the columns are those on the list of entries.
 use Prim.Native.Nat.{ℕ, suc, ◌+◌, ◌≤◌, ◌<◌, Ordering}
+use Rattle.std.specs.Prelude.{Err, Ok, Result}
+use Rattle.std.specs.declared.cmp.Ordering.{Ordering as Side}
+use Rattle.std.specs.declared.cmp.Ordering.TheVariants.{Less, Equal, Greater}
 use mathlib.Core.Path.{◌≡◌, refl, sym, ap, ap₂, subst, ◌∙◌}
 use mathlib.Core.List.{List, [], ◌∷◌}
 use mathlib.Core.Bool.{Bool, true, false, cond, ◌&&◌, ◌||◌}
@@ -12,11 +15,9 @@ use lib.ListN.{length, get_or, set}
 use Rattle.row_tags.specs.Tags.{tag_channel}
 use Rattle.buffer_copies.specs.Sizes.{slots}
 use Rattle.buffer_copies.specs.Pairs.{half, ahead, order, side_of}
-use Rattle.buffer_copies.specs.declared.order.Side.{Side}
 use Rattle.buffer_copies.specs.Entries.{Entry, side_of_entry, put_at, put, find_at, find_by, always}
 use Rattle.buffer_copies.specs.Verdicts.{all_within, fits}
 use Rattle.buffer_copies.proofs.WrapLaws.{order_same}
-use Rattle.buffer_columns.specs.declared.columns.Place.{Place}
 use Rattle.buffer_layout.specs.Columns.{within_from, fits_from}
 use Rattle.buffer_columns.specs.Places.{place_at, place_from}
 use Rattle.buffer_layout.specs.Layout.{entry_tag, column}
@@ -25,46 +26,46 @@ use Rattle.buffer_layout.proofs.LayoutLaws.{no_entry, Octets, column_at, column_
 
 -- A place in a list: what it says of `find_by` and of `put`
 
-abbrev pub place_within : Place → ℕ → Type 0
-place_within (Place.FoundAt i) n = i < n
-place_within (Place.InsertAt i) n = i ≤ n
+abbrev pub place_within : Result ℕ ℕ → ℕ → Type 0
+place_within (Ok i) n = i < n
+place_within (Err i) n = i ≤ n
 
-abbrev pub held_by : Place → List Entry → Option Entry
-held_by (Place.FoundAt i) es = some (get_or es i no_entry)
-held_by (Place.InsertAt i) es = none
+abbrev pub held_by : Result ℕ ℕ → List Entry → Option Entry
+held_by (Ok i) es = some (get_or es i no_entry)
+held_by (Err i) es = none
 
-abbrev pub put_by : Entry → Place → List Entry → List Entry
-put_by e (Place.FoundAt i) es = set es i e
-put_by e (Place.InsertAt i) es = inserted i e es
+abbrev pub put_by : Entry → Result ℕ ℕ → List Entry → List Entry
+put_by e (Ok i) es = set es i e
+put_by e (Err i) es = inserted i e es
 
 -- the pair that is found is the pair looked for
-abbrev pub same_pair : Entry → Place → List Entry → Type 0
-same_pair e (Place.FoundAt i) es = (e.time ≡ (get_or es i no_entry).time) × (e.channel ≡ (get_or es i no_entry).channel)
-same_pair e (Place.InsertAt i) es = Unit {0}
+abbrev pub same_pair : Entry → Result ℕ ℕ → List Entry → Type 0
+same_pair e (Ok i) es = (e.time ≡ (get_or es i no_entry).time) × (e.channel ≡ (get_or es i no_entry).channel)
+same_pair e (Err i) es = Unit {0}
 
-pub record AtPlace (e : Entry) (es : List Entry) (p : Place) : Type 0 where
+pub record AtPlace (e : Entry) (es : List Entry) (p : Result ℕ ℕ) : Type 0 where
   pub within : place_within p (length es)
   pub same : same_pair e p es
   pub held : find_by (side_of_entry e) es ≡ held_by p es
   pub put : put side_of_entry always e es ≡ put_by e p es
 
-shift : ℕ → Place → Place
-shift i (Place.FoundAt j) = Place.FoundAt (i + j)
-shift i (Place.InsertAt j) = Place.InsertAt (i + j)
+shift : ℕ → Result ℕ ℕ → Result ℕ ℕ
+shift i (Ok j) = Ok (i + j)
+shift i (Err j) = Err (i + j)
 
-later : Place → Place
-later (Place.FoundAt i) = Place.FoundAt (suc i)
-later (Place.InsertAt i) = Place.InsertAt (suc i)
+later : Result ℕ ℕ → Result ℕ ℕ
+later (Ok i) = Ok (suc i)
+later (Err i) = Err (suc i)
 
-shift_none : (p : Place) → shift 0 p ≡ p
+shift_none : (p : Result ℕ ℕ) → shift 0 p ≡ p
 unfolding shift
-shift_none (Place.FoundAt i) = ap Place.FoundAt (zero-add i)
-shift_none (Place.InsertAt i) = ap Place.InsertAt (zero-add i)
+shift_none (Ok i) = ap Ok (zero-add i)
+shift_none (Err i) = ap Err (zero-add i)
 
 module _ (e : Entry) where
   -- the place of e
-  place_in : List Entry → Place
-  place_in [] = Place.InsertAt 0
+  place_in : List Entry → Result ℕ ℕ
+  place_in [] = Err 0
   place_in (x ∷ es) = place_at (side_of (side_of_entry e x)) 0 (later (place_in es))
 
   at_place : (es : List Entry) → AtPlace e es (place_in es)
@@ -72,13 +73,13 @@ module _ (e : Entry) where
   at_place [] = record { within = omega arith; same = tt; held = refl; put = refl }
   at_place (x ∷ es) = let g = go (side_of_entry e x) refl (place_in es) (at_place es) in record { within = g.0; same = g.1; held = g.2; put = g.3 }
     where
-      go : (o : Ordering) → side_of_entry e x ≡ o → (p : Place) → AtPlace e es p
+      go : (o : Ordering) → side_of_entry e x ≡ o → (p : Result ℕ ℕ) → AtPlace e es p
           → place_within (place_at (side_of o) 0 (later p)) (suc (length es)) × same_pair e (place_at (side_of o) 0 (later p)) (x ∷ es) × (find_at o x (find_by (side_of_entry e) es) ≡ held_by (place_at (side_of o) 0 (later p)) (x ∷ es))
           × (put_at side_of_entry always o e x es (put side_of_entry always e es) ≡ put_by e (place_at (side_of o) 0 (later p)) (x ∷ es))
       go Ordering.lt q p a = (omega arith, tt, refl, refl)
       go Ordering.eq q p a = (omega arith, order_same e.time e.channel x.time x.channel q, refl, refl)
-      go Ordering.gt q (Place.FoundAt i) a = (omega (arith, a.within), a.same, a.held, ap (λ (l : List Entry). x ∷ l) a.put)
-      go Ordering.gt q (Place.InsertAt i) a = (omega (arith, a.within), tt, a.held, ap (λ (l : List Entry). x ∷ l) a.put)
+      go Ordering.gt q (Ok i) a = (omega (arith, a.within), a.same, a.held, ap (λ (l : List Entry). x ∷ l) a.put)
+      go Ordering.gt q (Err i) a = (omega (arith, a.within), tt, a.held, ap (λ (l : List Entry). x ∷ l) a.put)
 
   -- the search on columns, from the place i on where the entries lie
   module _ (times tags : List ℕ) where
@@ -86,7 +87,7 @@ module _ (e : Entry) where
         → ((j : ℕ) → j < length es → (get_or times (i + j) 0 ≡ (get_or es j no_entry).time) × (tag_channel (get_or tags (i + j) 0) ≡ (get_or es j no_entry).channel))
         → place_from times tags e.time e.channel (length es) i ≡ shift i (place_in es)
     unfolding place_from place_in shift later
-    search_from [] i p = ap Place.InsertAt (let z : i ≡ i + 0 = omega arith in z)
+    search_from [] i p = ap Err (let z : i ≡ i + 0 = omega arith in z)
     search_from (x ∷ es) i p =
         ap₂ (λ (t c : ℕ). place_at (side_of (order e.time e.channel t c)) i (place_from times tags e.time e.channel (length es) (i + 1)))
         (ap (λ (m : ℕ). get_or times m 0) z ∙ (p 0 (omega arith)).0) (ap (λ (m : ℕ). tag_channel (get_or tags m 0)) z ∙ (p 0 (omega arith)).1)
@@ -99,12 +100,12 @@ module _ (e : Entry) where
         next : (j : ℕ) → i + 1 + j ≡ i + suc j
         next j = omega arith
 
-        go : (s : Side) (p : Place) → place_from times tags e.time e.channel (length es) (i + 1) ≡ shift (i + 1) p
+        go : (s : Side) (p : Result ℕ ℕ) → place_from times tags e.time e.channel (length es) (i + 1) ≡ shift (i + 1) p
             → place_at s i (place_from times tags e.time e.channel (length es) (i + 1)) ≡ shift i (place_at s 0 (later p))
-        go Side.Before p q = ap Place.InsertAt z
-        go Side.Same p q = ap Place.FoundAt z
-        go Side.After (Place.FoundAt j) q = q ∙ ap Place.FoundAt (next j)
-        go Side.After (Place.InsertAt j) q = q ∙ ap Place.InsertAt (next j)
+        go Less p q = ap Err z
+        go Equal p q = ap Ok z
+        go Greater (Ok j) q = q ∙ ap Ok (next j)
+        go Greater (Err j) q = q ∙ ap Err (next j)
 
 -- The search among the columns of a list
 
@@ -119,7 +120,7 @@ module _ (e : Entry) (es : List Entry) (room : length es ≤ slots) (octets : Oc
       ))
       ∙ shift_none (place_in e es)
 
-  pub place_at_lem : (p : Place) → p ≡ place_from (column (λ x. x.time) es) (column entry_tag es) e.time e.channel (length es) 0 → AtPlace e es p
+  pub place_at_lem : (p : Result ℕ ℕ) → p ≡ place_from (column (λ x. x.time) es) (column entry_tag es) e.time e.channel (length es) 0 → AtPlace e es p
   place_at_lem p q = subst (AtPlace e es) (sym (q ∙ search_is)) (at_place e es)
 
 -- The stretch

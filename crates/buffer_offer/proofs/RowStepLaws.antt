@@ -1,8 +1,8 @@
 -- Laws of judging rows, one for each way that a row goes.
-use mathlib.Core.Path.{◌≡◌, ap, sym, ◌∙◌, subst}
-use mathlib.Core.List.{List, [], ◌∷◌}
+use mathlib.Core.Path.{◌≡◌, refl, ap, sym, ◌∙◌, subst}
+use mathlib.Core.List.{List, [], ◌∷◌, ◌++◌}
 use mathlib.Core.Bool.{Bool, true, cond}
-use Prim.Native.Nat.{ℕ, ◌+◌, ◌-◌, ◌≤◌, ◌<◌, ◌^◌}
+use Prim.Native.Nat.{ℕ, ◌+◌, ◌≤◌, ◌<◌, ◌^◌}
 use native.Mathlib.Omega.{arith}
 use lib.ListN.{length, take, drop, length-drop}
 use lib.Seq.{length-take-le}
@@ -10,12 +10,10 @@ use borrow.Author.Tests.{eq-eqb, ne_eqb}
 use Rattle.rtp.specs.Editions.{Edition}
 use Rattle.rtp.specs.Sizes.{row_width}
 use Rattle.rtp.specs.Ranges.{in_range}
-use Rattle.rtp.proofs.AreaLaws.{part_to_end}
 use Rattle.rtp.proofs.RangeLaws.{few_channels}
 use Rattle.formats.specs.Frames.{no_data}
 use Rattle.row_tags.proofs.TagLaws.{mark_small}
 use Rattle.read_rows.specs.Rows.{Row, row_of, rows_in}
-use Rattle.read_rows.proofs.RowLaws.{rows_more}
 use Rattle.buffer_copies.specs.declared.verdict.Verdict.{Verdict}
 use Rattle.buffer_copies.specs.declared.verdict.Verdict.TheVariants.{Late, Far, Repeated, Better, NoRoom, Inserted}
 use Rattle.buffer_copies.specs.Sizes.{store_size}
@@ -28,12 +26,12 @@ use Rattle.buffer_insert.specs.declared.laying.FrameHead.{FrameHead}
 use Rattle.buffer_layout.specs.Layout.{encode, decode}
 use Rattle.frame_codes.specs.Allowed.{allowed}
 use Rattle.buffer_layout.specs.WellFormed.{well_formed}
-use Rattle.buffer_offer.specs.Rows.{first_row, rest_words, received_as, received_in}
+use Rattle.buffer_offer.specs.Rows.{first_row, received_as, received_in}
 use Rattle.buffer_layout.specs.Arrays.{Machine}
 use Rattle.buffer_insert.specs.Laying.{mark_in, copy_in}
 use Rattle.buffer_insert.specs.Tallies.{counts_of, tallied}
 use Rattle.buffer_insert.proofs.TallyLaws.{tallied_is}
-use Rattle.buffer_offer.specs.Judging.{Judgeable, JudgedAs, RowsAllowed, RowsJudgeable, RowsJudged}
+use Rattle.buffer_offer.specs.Judging.{Judgeable, JudgedAs, RowsAllowed, RowsJudgeable, RowsJudged, PartJudged}
 use Rattle.buffer_offer.proofs.StateLaws.{Good, judge_good}
 use Rattle.buffer_offer.proofs.BufferLaws.{buffer_good, good_machine, good_fine, good_back}
 use Rattle.buffer_layout.proofs.WellFormedLaws.{encode_decode}
@@ -42,8 +40,18 @@ use Rattle.buffer_layout.proofs.WellFormedLaws.{encode_decode}
 pub frame_size : (packet : List ℕ) (start n : ℕ) → start + n ≤ length packet → length (take n (drop start packet)) ≡ n
 frame_size packet start n h = length-take-le n (drop start packet) (simp length-drop (omega arith))
 
-pub rows_split : (ws : List ℕ) → row_width ≤ length ws → rows_in ws ≡ first_row ws ∷ rows_in (rest_words ws)
-rows_split ws l = rows_more ws l ∙ ap (λ (x : List ℕ). first_row ws ∷ rows_in x) (sym (part_to_end row_width ws))
+-- a row and those behind it
+row_next : (x rest : List ℕ) → length x ≡ row_width → rows_in (x ++ rest) ≡ first_row x ∷ rows_in rest
+unfolding rows_in
+row_next [] rest h = absurd (omega arith)
+row_next (a ∷ []) rest h = absurd (omega arith)
+row_next (a ∷ b ∷ []) rest h = absurd (omega arith)
+row_next (a ∷ b ∷ c ∷ []) rest h = absurd (omega arith)
+row_next (a ∷ b ∷ c ∷ d ∷ []) rest h = refl
+row_next (a ∷ b ∷ c ∷ d ∷ e ∷ x) rest h = absurd (omega arith)
+
+pub rows_next : (ws x rest : List ℕ) → ws ≡ x ++ rest → length x ≡ row_width → rows_in ws ≡ first_row x ∷ rows_in rest
+rows_next ws x rest e h = ap rows_in e ∙ row_next x rest h
 
 abbrev total : Counts → ℕ
 total n = n.late + n.far + n.repeated + n.better + n.no_room + n.inserted
@@ -68,11 +76,6 @@ module _ (ed : Edition) (b : Buffer) (packet : List ℕ) (t : Tally) (store : Li
         buffer = sym (ap (λ (g : Gathered). encode b.settings g.held) q ∙ encode_decode b p.machine p.fine);
         store_left = sym (ap (λ (g : Gathered). g.store) q);
       }
-
-  -- the rows of an area, once its first row is told apart
-  pub rows_joined : (ws : List ℕ) → row_width ≤ length ws → (b' : Buffer) (t' : Tally) (store' : List ℕ)
-      → RowsJudged b b' packet (first_row ws ∷ rows_in (rest_words ws)) t t' store store' → RowsJudged b b' packet (rows_in ws) t t' store store'
-  rows_joined ws l b' t' store' j = subst (λ (rs : List Row). RowsJudged b b' packet rs t t' store store') (sym (rows_split ws l)) j
 
   module _ (r : Row) (rs : List Row) where
     -- a row of no data
@@ -145,3 +148,26 @@ module _ (ed : Edition) (b : Buffer) (packet : List ℕ) (t : Tally) (store : Li
               buffer = k.buffer ∙ (λ i. encode (j.buffer i).settings (one i).held) ∙ ap (λ (g : Gathered). encode b.settings g.held) all;
               store_left = k.store_left ∙ ap (λ (g : Gathered). g.store) one ∙ ap (λ (g : Gathered). g.store) all;
             }
+
+-- the rows, one after another
+
+module _ (ed : Edition) (b : Buffer) (packet : List ℕ) (rs : List Row) (t : Tally) (store : List ℕ) where
+  -- none judged yet
+  pub part_none : (left : List Row) (t' : Tally) → left ≡ rs → t' ≡ t → RowsJudgeable ed b packet rs t store → PartJudged ed b b packet rs left t t' store store
+  part_none left t' e u p = rw (e, u) (record { others = p; all = λ b'' t'' store'' j. j })
+
+  module _ (b' : Buffer) (left : List Row) (t' : Tally) (store' : List ℕ) (p : PartJudged ed b b' packet rs left t t' store store') where
+    -- one more
+    pub part_more : (r : Row) (others : List Row) (b'' : Buffer) (t'' : Tally) (store'' : List ℕ) → left ≡ r ∷ others
+        → (RowsJudgeable ed b' packet (r ∷ others) t' store' → PartJudged ed b' b'' packet (r ∷ others) others t' t'' store' store'')
+        → PartJudged ed b b'' packet rs others t t'' store store''
+    part_more r others b'' t'' store'' e f =
+        let j = f (subst (λ (l : List Row). RowsJudgeable ed b' packet l t' store') e p.others) in
+        record {
+          others = j.others;
+          all = λ z n s k. p.all z n s (subst (λ (l : List Row). RowsJudged b' z packet l t' n store' s) (sym e) (j.all z n s k));
+        }
+
+    -- none left
+    pub part_all : left ≡ [] → RowsJudged b b' packet rs t t' store store'
+    part_all e = p.all b' t' store' (rows_over ed b' packet t' store' left p.others e)

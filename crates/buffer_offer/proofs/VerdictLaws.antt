@@ -1,5 +1,6 @@
 -- Laws of judging one frame on the columns, one for each verdict.
 use mathlib.Core.Path.{◌≡◌, refl, ap, ap₂, sym, ◌∙◌, subst}
+use Rattle.std.specs.Prelude.{Err, Ok, Result}
 use mathlib.Core.List.{List, Memᴰ}
 use mathlib.Core.Bool.{Bool, true, false, cond, not}
 use mathlib.Core.Option.{Option, none, some}
@@ -19,7 +20,6 @@ use Rattle.buffer_copies.specs.Copies.{Copy, better}
 use Rattle.buffer_copies.specs.Entries.{Entry, view, entry_of, remarked, side_of_entry, put, find_by, always, free_slot, placed, stored}
 use Rattle.buffer_copies.specs.Verdicts.{Judged, is_late, fits, is_far, keeps, holding, lays, repeats, judge_held, judge}
 use Rattle.buffer_layout.specs.declared.buffer.Buffer.{Buffer}
-use Rattle.buffer_columns.specs.declared.columns.Place.{Place}
 use Rattle.buffer_insert.specs.declared.laying.FrameHead.{FrameHead}
 use Rattle.buffer_slots.specs.Bits.{held_in, words_of, marked, lowest_free}
 use Rattle.buffer_layout.specs.Columns.{insert_at, fits_from}
@@ -118,7 +118,7 @@ module _ (b : Buffer) (m : Machine b) (w : well_formed b ≡ true) (head : Frame
           kept Far
           (judge_timely ∙ ap (λ (v : Bool). cond v (keeps (decode b) store Far) (judge_held c mark (decode b) store (find_by (side_of_entry (entry_of c mark 0)) es))) f)
 
-      module _ (p : Place) (found : p ≡ place_from b.times b.tags head.time (channel_in head) n 0) where
+      module _ (p : Result ℕ ℕ) (found : p ≡ place_from b.times b.tags head.time (channel_in head) n 0) where
         -- of any entry of the pair
         at : (e : Entry) → head.time ≡ e.time → channel_in head ≡ e.channel → AtPlace e es p
         at e t d =
@@ -139,9 +139,9 @@ module _ (b : Buffer) (m : Machine b) (w : well_formed b ≡ true) (head : Frame
 
       -- The pair is held
 
-      module _ (i : ℕ) (found : Place.FoundAt i ≡ place_from b.times b.tags head.time (channel_in head) n 0) where
-        abbrev here_at : (x k : ℕ) → AtPlace (entry_of c x k) es (Place.FoundAt i)
-        here_at = at_copy (Place.FoundAt i) found
+      module _ (i : ℕ) (found : Ok i ≡ place_from b.times b.tags head.time (channel_in head) n 0) where
+        abbrev here_at : (x k : ℕ) → AtPlace (entry_of c x k) es (Ok i)
+        here_at = at_copy (Ok i) found
 
         entry_here : get_or es i no_entry ≡ entry_at b i
         entry_here = entries_at b (held_in b.occupied) 0 i (omega (arith, (here_at 0 0).within, decode_length b m w)) ∙ ap (entry_at b) (zero-add i)
@@ -182,13 +182,13 @@ module _ (b : Buffer) (m : Machine b) (w : well_formed b ≡ true) (head : Frame
             → judge (decode b) store c mark ≡ cond v (lays c (either_mark mark held.primary) slot_of_lem (decode b) store Better) (repeats held mark (decode b) store)
         unfolding judge_held
         judge_found far v q =
-            judge_near (Place.FoundAt i) found far (some held) refl
+            judge_near (Ok i) found far (some held) refl
             ∙ ap (λ (v : Bool). cond v (lays c (either_mark mark held.primary) slot_of_lem (decode b) store Better) (repeats held mark (decode b) store)) (beats_here ∙ q)
 
         -- an entry of the pair in that slot takes the place of the one held
         module _ (e : Entry) (pair : (head.time ≡ e.time) × (channel_in head ≡ e.channel)) (own : e.slot ≡ slot_of_lem) where
-          put_at_lem : AtPlace e es (Place.FoundAt i)
-          put_at_lem = at (Place.FoundAt i) found e pair.0 pair.1
+          put_at_lem : AtPlace e es (Ok i)
+          put_at_lem = at (Ok i) found e pair.0 pair.1
 
           put_is : placed e es ≡ set es i e
           unfolding placed
@@ -229,24 +229,18 @@ module _ (b : Buffer) (m : Machine b) (w : well_formed b ≡ true) (head : Frame
             (ap (λ (e : Entry). tag_of (either_mark e.primary mark) e.class e.channel) entry_here) b.lengths
             (column_same (λ x. x.length) es i repeated refl ∙ ap (λ (a : Buffer). a.lengths) back)
 
-        pub step_found : is_far (decode b) c ≡ false → (tags lengths store' : List ℕ) (v : Verdict)
-            → Replaced head frame b.tags tags b.lengths lengths b.slots i store store' v
-            → JudgedAs b (laid b.times tags lengths b.slots b.occupied) c mark store store' v
+        pub step_found : is_far (decode b) c ≡ false → (b' : Buffer) (store' : List ℕ) (v : Verdict) → Replaced head frame b b' i store store' v → JudgedAs b b' c mark store store' v
         unfolding stored
-        step_found far tags lengths store' v r =
-            let tags-by : (x : Bool) → beats head frame b.tags b.lengths b.slots i store ≡ x
-            → tags ≡ set b.tags i (cond x (joined_tag head.tag tag_of_lem) (joined_tag tag_of_lem head.tag))
-            = λ x t. r.tags_left ∙ ap (λ (x : Bool). set b.tags i (cond x (joined_tag head.tag tag_of_lem) (joined_tag tag_of_lem head.tag))) t in
-            let lengths-by : (x : Bool) → beats head frame b.tags b.lengths b.slots i store ≡ x → lengths ≡ cond x (set b.lengths i (length frame)) b.lengths
-            = λ x t. r.lengths_left ∙ ap (λ (x : Bool). cond x (set b.lengths i (length frame)) b.lengths) t in
+        step_found far b' store' v r =
+            let buffer-by : (x : Bool) → beats head frame b.tags b.lengths b.slots i store ≡ x
+            → b' ≡ record b { tags = set b.tags i (cond x (joined_tag head.tag tag_of_lem) (joined_tag tag_of_lem head.tag)); lengths = cond x (set b.lengths i (length frame)) b.lengths }
+            = λ x t. r.buffer ∙ ap (λ (x : Bool). record b { tags = set b.tags i (cond x (joined_tag head.tag tag_of_lem) (joined_tag tag_of_lem head.tag)); lengths = cond x (set b.lengths i (length frame)) b.lengths }) t in
             by-test (beats head frame b.tags b.lengths b.slots i store)
             (λ t.
             let q = judge_found far true t in
             record {
               verdict = same_verdict _ _ r.verdict ∙ ap (λ (x : Bool). cond x Better Repeated) t ∙ sym (ap (λ (j : Judged). j.verdict) q);
-              buffer =
-                  ap₂ (λ (x z : List ℕ). laid b.times x z b.slots b.occupied) (tags-by true t) (lengths-by true t)
-                  ∙ sym (ap (λ (j : Judged). encode b.settings j.held) q ∙ buffer_better);
+              buffer = buffer-by true t ∙ sym (ap (λ (j : Judged). encode b.settings j.held) q ∙ buffer_better);
               store_left =
                   r.store_left ∙ ap (λ (x : Bool). cond x (paste store (slot_size * get_or b.slots i 0) frame (length frame)) store) t
                   ∙ sym (ap (λ (j : Judged). j.store) q ∙ ap (λ (e : Entry). paste store (slot_size * e.slot) frame (length frame)) entry_here);
@@ -255,24 +249,22 @@ module _ (b : Buffer) (m : Machine b) (w : well_formed b ≡ true) (head : Frame
             let q = judge_found far false t in
             record {
               verdict = same_verdict _ _ r.verdict ∙ ap (λ (x : Bool). cond x Better Repeated) t ∙ sym (ap (λ (j : Judged). j.verdict) q);
-              buffer =
-                  ap₂ (λ (x z : List ℕ). laid b.times x z b.slots b.occupied) (tags-by false t) (lengths-by false t)
-                  ∙ sym (ap (λ (j : Judged). encode b.settings j.held) q ∙ buffer_repeated);
+              buffer = buffer-by false t ∙ sym (ap (λ (j : Judged). encode b.settings j.held) q ∙ buffer_repeated);
               store_left =
                   r.store_left ∙ ap (λ (x : Bool). cond x (paste store (slot_size * get_or b.slots i 0) frame (length frame)) store) t ∙ sym (ap (λ (j : Judged). j.store) q);
             })
 
       -- The pair is not held
 
-      module _ (i : ℕ) (found : Place.InsertAt i ≡ place_from b.times b.tags head.time (channel_in head) n 0) where
+      module _ (i : ℕ) (found : Err i ≡ place_from b.times b.tags head.time (channel_in head) n 0) where
         place_in : i ≤ n
-        place_in = omega (arith, (at_copy (Place.InsertAt i) found mark 0).within, size)
+        place_in = omega (arith, (at_copy (Err i) found mark 0).within, size)
 
         judge_new : is_far (decode b) c ≡ false → (v : Bool) → ltb (length es) slots ≡ v
             → judge (decode b) store c mark ≡ cond v (lays c mark (free_slot es) (decode b) store Inserted) (keeps (decode b) store NoRoom)
         unfolding judge_held
         judge_new far v q =
-            judge_near (Place.InsertAt i) found far none refl
+            judge_near (Err i) found far none refl
             ∙ ap (λ (v : Bool). cond v (lays c mark (free_slot es) (decode b) store Inserted) (keeps (decode b) store NoRoom)) q
 
         pub step_full : is_far (decode b) c ≡ false → slots ≤ n → JudgedAs b b c mark store store NoRoom
@@ -292,7 +284,7 @@ module _ (b : Buffer) (m : Machine b) (w : well_formed b ≡ true) (head : Frame
 
           new_is : placed (entry_of c mark (free_slot es)) es ≡ inserted i (entry_of c mark k) es
           unfolding placed
-          new_is = ap (λ (x : ℕ). put side_of_entry always (entry_of c mark x) es) (sym free_here) ∙ (at_copy (Place.InsertAt i) found mark k).put
+          new_is = ap (λ (x : ℕ). put side_of_entry always (entry_of c mark x) es) (sym free_here) ∙ (at_copy (Err i) found mark k).put
 
           column_new : (f : Entry → ℕ) → column f (placed (entry_of c mark (free_slot es)) es) ≡ insert_at (column f es) n i (f (entry_of c mark k))
           column_new f =
@@ -316,17 +308,12 @@ module _ (b : Buffer) (m : Machine b) (w : well_formed b ≡ true) (head : Frame
             settings = b.settings;
           }
 
-          pub step_new : is_far (decode b) c ≡ false → (times tags lengths slots' occupied store' : List ℕ)
-              → Laid head frame b.times times b.tags tags b.lengths lengths b.slots slots' b.occupied occupied n i store store'
-              → JudgedAs b (laid times tags lengths slots' occupied) c mark store store' Inserted
+          pub step_new : is_far (decode b) c ≡ false → (b' : Buffer) (store' : List ℕ) → Laid head frame b b' n i store store' → JudgedAs b b' c mark store store' Inserted
           unfolding stored
-          step_new far times tags lengths slots' occupied store' r =
+          step_new far b' store' r =
               let q = judge_new far true (lt-ltb (length es) slots (omega (arith, size))) in
-              let z : laid times tags lengths slots' occupied
-              ≡ laid (insert_at b.times n i head.time) (insert_at b.tags n i head.tag) (insert_at b.lengths n i (length frame)) (insert_at b.slots n i k) (marked b.occupied k)
-              = λ j. laid (r.times_left j) (r.tags_left j) (r.lengths_left j) (r.slots_left j) (r.words_left j) in
               record {
                 verdict = sym (ap (λ (j : Judged). j.verdict) q);
-                buffer = z ∙ sym (ap (λ (j : Judged). encode b.settings j.held) q ∙ buffer_new);
+                buffer = r.buffer ∙ sym (ap (λ (j : Judged). encode b.settings j.held) q ∙ buffer_new);
                 store_left = r.store_left ∙ sym (ap (λ (j : Judged). j.store) q ∙ ap (λ (x : ℕ). paste store (slot_size * x) frame (length frame)) (sym free_here));
               }

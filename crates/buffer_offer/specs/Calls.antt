@@ -1,5 +1,6 @@
 -- Document 01, "The take": the calls new and offer, between a buffer and its model. Each definition is the whole meaning of a call, refusals included: answer, buffer and every lent area.
-use Rattle.std.specs.Prelude.{ℕ, List, cond, length}
+use Rattle.std.specs.Prelude.{ℕ, List, cond, length, Err, Ok, Result as Answer}
+use Rattle.buffer_insert.specs.declared.tally.Tally.{Tally}
 use Rattle.rtp.specs.Editions.{Edition}
 use Rattle.rtp.specs.Ranges.{in_range}
 use Rattle.rtp.specs.Refusals.{number}
@@ -12,8 +13,6 @@ use Rattle.rtp.specs.declared.refusal.Refusal.TheVariants.{SettingsOutOfRange, M
 use Rattle.read_rows.specs.Rows.{words}
 use Rattle.buffer_copies.specs.Verdicts.{Counts, no_counts, tally}
 use Rattle.buffer_layout.specs.declared.buffer.Buffer.{Buffer}
-use Rattle.buffer_offer.specs.declared.calls.NewAnswer.{NewAnswer}
-use Rattle.buffer_offer.specs.declared.calls.OfferAnswer.{OfferAnswer}
 use Rattle.buffer_layout.specs.Layout.{encode, model, fresh}
 use Rattle.buffer_layout.specs.WellFormed.{well_formed}
 use Rattle.buffer_offer.specs.ModelCalls.{Result, refused, done, Offered, offer_to}
@@ -25,9 +24,9 @@ abbrev pub no_settings : Settings
 no_settings = record { format = 0; channels = 0; payload_type = 0; redundancy_type = 0 }
 
 -- the refusal number or 0
-abbrev pub new_number : NewAnswer → ℕ
-new_number NewAnswer.Accepted = 0
-new_number (NewAnswer.Refused r) = number r
+abbrev pub new_number : Answer Unit Refusal → ℕ
+new_number (Ok tt) = 0
+new_number (Err r) = number r
 
 -- a fresh buffer; settings out of range are refused, and the buffer is all zero
 pub record NewOutcome : Type 0 where
@@ -57,9 +56,9 @@ abbrev pub count_numbers : Counts → OfferNumbers
 count_numbers n = record { refusal = 0; offset = 0; late = n.late; far = n.far; repeated = n.repeated; better = n.better; no_room = n.no_room; inserted = n.inserted }
 
 -- of the code's answer, case by case
-abbrev pub offer_numbers : OfferAnswer → OfferNumbers
-offer_numbers (OfferAnswer.Refused f) = fault_numbers f
-offer_numbers (OfferAnswer.Judged t) = record {
+abbrev pub offer_numbers : Answer Tally Fault → OfferNumbers
+offer_numbers (Err f) = fault_numbers f
+offer_numbers (Ok t) = record {
   refusal = 0;
   offset = 0;
   late = t.late;

@@ -11,7 +11,6 @@ use Rattle.buffer_copies.specs.Pairs.{order, is_after}
 use Rattle.buffer_copies.specs.Copies.{Copy}
 use Rattle.buffer_copies.specs.Verdicts.{is_late, is_far, judge, tally, judge_all}
 use Rattle.buffer_layout.specs.declared.buffer.Buffer.{Buffer}
-use Rattle.buffer_layout.specs.declared.buffer.Fixed.{Fixed}
 use Rattle.buffer_layout.specs.Arrays.{Machine}
 use Rattle.buffer_layout.specs.Columns.{fits_from}
 use Rattle.buffer_layout.specs.Layout.{encode, decode}
@@ -24,11 +23,11 @@ use Rattle.buffer_insert.specs.Tallies.{counts_of, TallySmall}
 use Rattle.buffer_offer.specs.Rows.{received_in}
 
 -- `is_late` and `is_far`
-abbrev pub is_late_of : Fixed → FrameHead → Bool
-is_late_of f h = cond (eqb f.drawn 1) (not (is_after (order h.time (channel_in h) f.last_time f.last_channel))) false
+abbrev pub is_late_of : Buffer → FrameHead → Bool
+is_late_of b h = cond (eqb b.drawn 1) (not (is_after (order h.time (channel_in h) b.last_time b.last_channel))) false
 
-abbrev pub is_far_of : List ℕ → ℕ → Fixed → ℕ → Bool
-is_far_of times n f t = cond (eqb f.drawn 0) (not (fits_from times t n)) false
+abbrev pub is_far_of : Buffer → ℕ → ℕ → Bool
+is_far_of b n t = cond (eqb b.drawn 0) (not (fits_from b.times t n)) false
 
 pub record Judgeable (ed : Edition) (b : Buffer) (h : FrameHead) (frame store : List ℕ) : Type 0 where
   pub machine : Machine b
@@ -73,7 +72,7 @@ pub record RowsJudged (b b' : Buffer) (packet : List ℕ) (rs : List Row) (t t' 
   pub buffer : b' ≡ encode b.settings (judge_all (decode b) store (received_in packet rs)).held
   pub store_left : store' ≡ (judge_all (decode b) store (received_in packet rs)).store
 
--- the first of the rows judged, or passed over: the others can be judged then, and so all are
-pub record RowJudged (ed : Edition) (b b' : Buffer) (packet : List ℕ) (r : Row) (rs : List Row) (t t' : Tally) (store store' : List ℕ) : Type 0 where
-  pub others : RowsJudgeable ed b' packet rs t' store'
-  pub all : (b'' : Buffer) (t'' : Tally) (store'' : List ℕ) → RowsJudged b' b'' packet rs t' t'' store' store'' → RowsJudged b b'' packet (r ∷ rs) t t'' store store''
+-- the rows before those left judged, or passed over: the others can be judged then, and so all are
+pub record PartJudged (ed : Edition) (b b' : Buffer) (packet : List ℕ) (rs left : List Row) (t t' : Tally) (store store' : List ℕ) : Type 0 where
+  pub others : RowsJudgeable ed b' packet left t' store'
+  pub all : (b'' : Buffer) (t'' : Tally) (store'' : List ℕ) → RowsJudged b' b'' packet left t' t'' store' store'' → RowsJudged b b'' packet rs t t'' store store''

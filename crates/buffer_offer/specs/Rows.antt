@@ -1,16 +1,12 @@
 -- The rows of an area, one after another, and the copies that a packet's rows hold.
-use Rattle.std.specs.Prelude.{ℕ, ◌-◌, List, [], ◌∷◌, cond, length, get_or, take, drop, eqb}
+use Rattle.std.specs.Prelude.{ℕ, List, [], ◌∷◌, cond, get_or, take, drop, eqb}
 use Rattle.formats.specs.Frames.{no_data}
-use Rattle.rtp.specs.Sizes.{row_width}
 use Rattle.read_rows.specs.Rows.{Row, row_of}
 use Rattle.buffer_copies.specs.Copies.{Copy, Received}
 
--- the row at the front of an area, and the area after it
+-- the row at the front of an area
 abbrev pub first_row : List ℕ → Row
 first_row ws = row_of (get_or ws 0 0) (get_or ws 1 0) (get_or ws 2 0) (get_or ws 3 0)
-
-abbrev pub rest_words : List ℕ → List ℕ
-rest_words ws = take (length ws - row_width) (drop row_width ws)
 
 -- the copy of a row: its frame's bytes are those of the packet
 abbrev pub copy_of : List ℕ → Row → Copy

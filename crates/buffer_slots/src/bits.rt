@@ -96,7 +96,7 @@ pub fn unmark(words: [u64; 3], slot: usize) -> [u64; 3]
     let i = slot / 64;
     let bit = power(slot % 64);
     if bit <= next[i] {
-        next[i] = next[i] - bit;
+        next[i] -= bit;
     }
     next
 }
@@ -104,11 +104,5 @@ pub fn unmark(words: [u64; 3], slot: usize) -> [u64; 3]
 pub fn same_words(v: [u64; 3], w: [u64; 3]) -> bool
     ensures { result ≡ same_words v w }
 {
-    if v[0] == w[0] {
-        if v[1] == w[1] {
-            return v[2] == w[2];
-        }
-        return false;
-    }
-    false
+    v == w
 }

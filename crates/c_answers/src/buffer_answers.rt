@@ -4,22 +4,22 @@ ghost use Rattle.buffer_offer.specs.Calls.{new_number, offer_numbers};
 ghost use Rattle.buffer_draw.specs.Calls.{draw_numbers};
 ghost use Rattle.c_answers.specs.Fields.{offer_fields, draw_fields};
 
-use buffer_draw::draws::DrawAnswer;
-use buffer_offer::calls::{NewAnswer, OfferAnswer};
-use rtp::refusal;
+use buffer_draw::draws::DrawnFrame;
+use buffer_insert::tally::Tally;
+use rtp::refusal::{Fault, Refusal};
 
 // The refusal number or 0.
-pub fn new_number(answer: NewAnswer) -> u32
+pub fn new_number(answer: Result<(), Refusal>) -> u32
     ensures { result ≡ new_number answer }
 {
     match answer {
-        NewAnswer::Accepted => 0,
-        NewAnswer::Refused(reason) => refusal::refusal_number(reason),
+        Ok(()) => 0,
+        Err(reason) => u32::from(reason),
     }
 }
 
 // hsp_offered, the place of the fault not yet a word.
-#[derive(Clone, Copy)]
+#[derive(Clone, Copy, Debug, PartialEq, Eq)]
 pub struct OfferFields {
     pub refusal: u32,
     pub offset: usize,
@@ -31,11 +31,11 @@ pub struct OfferFields {
     pub inserted: u32,
 }
 
-pub fn offer_fields(answer: OfferAnswer) -> OfferFields
+pub fn offer_fields(answer: Result<Tally, Fault>) -> OfferFields
     ensures { offer_fields result ≡ offer_numbers answer }
 {
     match answer {
-        OfferAnswer::Judged(tally) => OfferFields {
+        Ok(tally) => OfferFields {
             refusal: 0,
             offset: 0,
             late: tally.late,
@@ -45,24 +45,21 @@ pub fn offer_fields(answer: OfferAnswer) -> OfferFields
             no_room: tally.no_room,
             inserted: tally.inserted,
         },
-        OfferAnswer::Refused(fault) => {
-            let reason = fault.refusal;
-            OfferFields {
-                refusal: refusal::refusal_number(reason),
-                offset: fault.offset,
-                late: 0,
-                far: 0,
-                repeated: 0,
-                better: 0,
-                no_room: 0,
-                inserted: 0,
-            }
-        }
+        Err(fault) => OfferFields {
+            refusal: u32::from(fault.refusal),
+            offset: fault.offset,
+            late: 0,
+            far: 0,
+            repeated: 0,
+            better: 0,
+            no_room: 0,
+            inserted: 0,
+        },
     }
 }
 
 // hsp_drawn.
-#[derive(Clone, Copy)]
+#[derive(Clone, Copy, Debug, PartialEq, Eq)]
 pub struct DrawFields {
     pub refusal: u32,
     pub empty: u32,
@@ -73,11 +70,11 @@ pub struct DrawFields {
     pub primary: u32,
 }
 
-pub fn draw_fields(answer: DrawAnswer) -> DrawFields
+pub fn draw_fields(answer: Result<Option<DrawnFrame>, Refusal>) -> DrawFields
     ensures { draw_fields result ≡ draw_numbers answer }
 {
     match answer {
-        DrawAnswer::Frame(frame) => DrawFields {
+        Ok(Some(frame)) => DrawFields {
             refusal: 0,
             empty: 0,
             time: frame.time,
@@ -86,7 +83,7 @@ pub fn draw_fields(answer: DrawAnswer) -> DrawFields
             length: frame.length,
             primary: frame.primary,
         },
-        DrawAnswer::Empty => DrawFields {
+        Ok(None) => DrawFields {
             refusal: 0,
             empty: 1,
             time: 0,
@@ -95,8 +92,8 @@ pub fn draw_fields(answer: DrawAnswer) -> DrawFields
             length: 0,
             primary: 0,
         },
-        DrawAnswer::Refused(reason) => DrawFields {
-            refusal: refusal::refusal_number(reason),
+        Err(reason) => DrawFields {
+            refusal: u32::from(reason),
             empty: 0,
             time: 0,
             channel: 0,

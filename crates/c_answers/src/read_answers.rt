@@ -3,8 +3,8 @@ ghost use Rattle.std.specs.Prelude.{◌≡◌};
 ghost use Rattle.read_packet.specs.Readings.{reading_numbers};
 ghost use Rattle.c_answers.specs.Fields.{reading_fields};
 
-use read_packet::reading::Reading;
-use rtp::refusal;
+use read_packet::reading::Packet;
+use rtp::refusal::Fault;
 
 // hsp_reading, the place of the fault not yet a word.
 #[derive(Clone, Copy)]
@@ -19,14 +19,14 @@ pub struct ReadingFields {
     pub mode_request: u32,
 }
 
-pub fn reading_fields(answer: Reading) -> ReadingFields
+pub fn reading_fields(answer: Result<Packet, Fault>) -> ReadingFields
     ensures { reading_fields result ≡ reading_numbers answer }
 {
     match answer {
-        Reading::Refused(fault) => {
+        Err(fault) => {
             let reason = fault.refusal;
             ReadingFields {
-                refusal: refusal::refusal_number(reason),
+                refusal: u32::from(reason),
                 offset: fault.offset,
                 rows: 0,
                 marker: 0,
@@ -36,7 +36,7 @@ pub fn reading_fields(answer: Reading) -> ReadingFields
                 mode_request: 0,
             }
         }
-        Reading::Read(found) => ReadingFields {
+        Ok(found) => ReadingFields {
             refusal: 0,
             offset: 0,
             rows: found.rows,

@@ -3,37 +3,33 @@ ghost use Rattle.std.specs.Prelude.{◌≡◌};
 ghost use Rattle.report.specs.Calls.{packet_numbers, report_numbers};
 ghost use Rattle.c_answers.specs.Fields.{received_fields, reported_fields};
 
-use report::calls::{PacketAnswer, ReportAnswer};
-use rtp::refusal;
+use report::calls::ReportBlock;
+use rtp::refusal::Refusal;
 
 // hsp_received.
-#[derive(Clone, Copy)]
+#[derive(Clone, Copy, Debug, PartialEq, Eq)]
 pub struct ReceivedFields {
     pub refusal: u32,
     pub valid: u32,
 }
 
-pub fn received_fields(answer: PacketAnswer) -> ReceivedFields
+pub fn received_fields(answer: Result<bool, Refusal>) -> ReceivedFields
     ensures { received_fields result ≡ packet_numbers answer }
 {
     match answer {
-        PacketAnswer::Valid => ReceivedFields {
+        Ok(valid) => ReceivedFields {
             refusal: 0,
-            valid: 1,
+            valid: valid as u32,
         },
-        PacketAnswer::Invalid => ReceivedFields {
-            refusal: 0,
-            valid: 0,
-        },
-        PacketAnswer::Refused(reason) => ReceivedFields {
-            refusal: refusal::refusal_number(reason),
+        Err(reason) => ReceivedFields {
+            refusal: u32::from(reason),
             valid: 0,
         },
     }
 }
 
 // hsp_reported.
-#[derive(Clone, Copy)]
+#[derive(Clone, Copy, Debug, Default, PartialEq, Eq)]
 pub struct ReportedFields {
     pub refusal: u32,
     pub fraction_lost: u32,
@@ -42,23 +38,20 @@ pub struct ReportedFields {
     pub jitter: u32,
 }
 
-pub fn reported_fields(answer: ReportAnswer) -> ReportedFields
+pub fn reported_fields(answer: Result<ReportBlock, Refusal>) -> ReportedFields
     ensures { reported_fields result ≡ report_numbers answer }
 {
     match answer {
-        ReportAnswer::Block(block) => ReportedFields {
+        Ok(block) => ReportedFields {
             refusal: 0,
             fraction_lost: block.fraction_lost,
             cumulative_lost: block.cumulative_lost,
             highest_sequence: block.highest_sequence,
             jitter: block.jitter,
         },
-        ReportAnswer::Refused(reason) => ReportedFields {
-            refusal: refusal::refusal_number(reason),
-            fraction_lost: 0,
-            cumulative_lost: 0,
-            highest_sequence: 0,
-            jitter: 0,
+        Err(reason) => ReportedFields {
+            refusal: u32::from(reason),
+            ..ReportedFields::default()
         },
     }
 }

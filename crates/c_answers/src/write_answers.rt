@@ -3,8 +3,7 @@ ghost use Rattle.std.specs.Prelude.{◌≡◌};
 ghost use Rattle.write_sizes.specs.Measures.{written_numbers};
 ghost use Rattle.c_answers.specs.Fields.{written_fields};
 
-use rtp::refusal;
-use write_sizes::measuring::Written;
+use rtp::refusal::Refusal;
 
 // hsp_written, the byte count not yet a word.
 #[derive(Clone, Copy)]
@@ -13,15 +12,15 @@ pub struct WrittenFields {
     pub length: usize,
 }
 
-pub fn written_fields(answer: Written) -> WrittenFields
+pub fn written_fields(answer: Result<usize, Refusal>) -> WrittenFields
     ensures { written_fields result ≡ written_numbers answer }
 {
     match answer {
-        Written::Refused(reason) => WrittenFields {
-            refusal: refusal::refusal_number(reason),
+        Err(reason) => WrittenFields {
+            refusal: u32::from(reason),
             length: 0,
         },
-        Written::Bytes(count) => WrittenFields {
+        Ok(count) => WrittenFields {
             refusal: 0,
             length: count,
         },

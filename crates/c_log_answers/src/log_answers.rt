@@ -5,23 +5,22 @@ ghost use Rattle.log_walk.specs.Stepping.{step_numbers};
 ghost use Rattle.log_writer.specs.FieldBytes.{written_numbers};
 ghost use Rattle.c_log_answers.specs.Fields.{stepped_fields, placeless, log_written_fields};
 
-use log_walk::opening::OpenAnswer;
-use log_walk::stepping::StepAnswer;
-use log_writer::field_bytes::LogWritten;
-use rtp::refusal;
+use log_walk::frames::Shown;
+use rtp::refusal::{Fault, Refusal};
+use rtp::settings::Settings;
 
 // The refusal number of hsp_log_opened, or 0.
-pub fn opened_number(answer: OpenAnswer) -> u32
+pub fn opened_number(answer: Result<Settings, Refusal>) -> u32
     ensures { result ≡ (open_numbers answer).refusal }
 {
     match answer {
-        OpenAnswer::Opened(settings) => 0,
-        OpenAnswer::Refused(reason) => refusal::refusal_number(reason),
+        Ok(_) => 0,
+        Err(reason) => u32::from(reason),
     }
 }
 
 // hsp_log_stepped.
-#[derive(Clone, Copy)]
+#[derive(Clone, Copy, Debug, Default, PartialEq, Eq)]
 pub struct SteppedFields {
     pub refusal: u32,
     pub end: u32,
@@ -32,59 +31,45 @@ pub struct SteppedFields {
     pub length: usize,
 }
 
-pub fn stepped_fields(answer: StepAnswer) -> SteppedFields
+pub fn stepped_fields(answer: Result<Option<Shown>, Fault>) -> SteppedFields
     ensures { stepped_fields result ≡ placeless (step_numbers answer) }
 {
     match answer {
-        StepAnswer::Frame(f) => SteppedFields {
-            refusal: 0,
-            end: 0,
+        Ok(Some(f)) => SteppedFields {
             time: f.time,
             channel: f.channel as u32,
             frame_class: f.class as u32,
             start: f.start,
             length: f.length,
+            ..SteppedFields::default()
         },
-        StepAnswer::End => SteppedFields {
-            refusal: 0,
+        Ok(None) => SteppedFields {
             end: 1,
-            time: 0,
-            channel: 0,
-            frame_class: 0,
-            start: 0,
-            length: 0,
+            ..SteppedFields::default()
         },
-        StepAnswer::Refused(fault) => {
-            let reason = fault.refusal;
-            SteppedFields {
-                refusal: refusal::refusal_number(reason),
-                end: 0,
-                time: 0,
-                channel: 0,
-                frame_class: 0,
-                start: 0,
-                length: 0,
-            }
-        }
+        Err(fault) => SteppedFields {
+            refusal: u32::from(fault.refusal),
+            ..SteppedFields::default()
+        },
     }
 }
 
 // hsp_log_written.
-#[derive(Clone, Copy)]
+#[derive(Clone, Copy, Debug, PartialEq, Eq)]
 pub struct LogWrittenFields {
     pub refusal: u32,
     pub length: usize,
 }
 
-pub fn log_written_fields(answer: LogWritten) -> LogWrittenFields
+pub fn log_written_fields(answer: Result<usize, Refusal>) -> LogWrittenFields
     ensures { log_written_fields result ≡ written_numbers answer }
 {
     match answer {
-        LogWritten::Refused(why) => LogWrittenFields {
-            refusal: refusal::refusal_number(why),
+        Err(why) => LogWrittenFields {
+            refusal: u32::from(why),
             length: 0,
         },
-        LogWritten::Bytes(count) => LogWrittenFields {
+        Ok(count) => LogWrittenFields {
             refusal: 0,
             length: count,
         },

@@ -4,42 +4,36 @@ ghost use Rattle.console.specs.Answers.{Within};
 
 use std::io::{Error, Read};
 
-// So many bytes, at the front of the area; more than it has room for; or a read that failed, and why.
+// Why not all is read: there is more than the area has room for; or a read failed, and why.
 #[derive(Clone, Copy)]
-pub enum AllRead {
-    Bytes(usize),
+pub enum NotRead {
     TooLong,
     Failed(Error),
 }
 
-// The area is full with n bytes: the input has to end there.
-fn at_end(input: &mut impl Read, n: usize) -> AllRead
-    ensures { Within result n }
-{
-    let mut next = [0u8; 1];
-    match input.read(&mut next) {
-        Ok(0) => AllRead::Bytes(n),
-        Ok(_) => AllRead::TooLong,
-        Err(why) => AllRead::Failed(why),
+impl From<Error> for NotRead {
+    fn from(why: Error) -> NotRead {
+        NotRead::Failed(why)
     }
 }
 
-// All of standard input to the front of the area. What stands in the input is the operating system's answer, and the rules leave it open;
+// All of standard input, at the front of the area. What stands in the input is the operating system's answer, and the rules leave it open;
 // but it is never more than the area has.
-pub fn read_all(input: &mut impl Read, area: &mut [u8]) -> AllRead
+pub fn read_all<'a>(input: &mut impl Read, area: &'a mut [u8]) -> Result<&'a [u8], NotRead>
     ensures { Within result (length area.old) }
 {
     let mut n = 0;
     while n < area.len() {
-        match input.read(&mut area[n..]) {
-            Ok(more) => {
-                if more == 0 {
-                    return AllRead::Bytes(n);
-                }
-                n += more;
-            }
-            Err(why) => return AllRead::Failed(why),
+        let more = input.read(&mut area[n..])?;
+        if more == 0 {
+            return Ok(&area[..n]);
         }
+        n += more;
     }
-    at_end(input, n)
+    // The area is full: the input has to end here.
+    let mut next = [0u8; 1];
+    if input.read(&mut next)? == 0 {
+        return Ok(area);
+    }
+    Err(NotRead::TooLong)
 }

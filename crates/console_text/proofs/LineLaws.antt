@@ -7,8 +7,8 @@ use native.Mathlib.Omega.{arith, min_cases}
 use native.Mathlib.Nat.{pow-zero, pow-succ'}
 use native.Mathlib.Decide.{dec_lt}
 use borrow.Author.Tests.{lt-ltb, le-ltb}
-use lib.ListN.{length, take, get_or, length-take}
-use lib.Seq.{paste, take-paste, take_all, take-take, take-append-add, take-suc, take-length, take_at}
+use lib.ListN.{length, take, get_or}
+use lib.Seq.{take_all, take-take, take-append-add, take-suc, take-length, take_at}
 use lib.Dec.{ltb}
 use Rattle.io.specs.Digits.{last_digits, hex_digit_ascii, IsDigitCount}
 use Rattle.console_text.specs.Lines.{line_size, gathered, places_up_to, decimal, hexadecimal, Continued}
@@ -22,43 +22,35 @@ take_front (suc n) [] ys = refl
 take_front (suc n) (x ∷ xs) ys = ap (λ (r : List ℕ). x ∷ r) (take_front n xs ys)
 
 -- one text after another
-pub gathered_more : (line after : List ℕ) (at r : ℕ) (a b : List ℕ) → take r after ≡ gathered line at a → gathered after r b ≡ gathered line at (a ++ b)
+pub gathered_more : (line a b : List ℕ) → gathered (gathered line a) b ≡ gathered line (a ++ b)
 unfolding gathered
-gathered_more line after at r a b held =
-    ap (λ (x : List ℕ). take line_size (x ++ b)) held
-    ∙ take_front line_size (take at line ++ a) b
-    ∙ ap (take line_size) (append_assoc (take at line) a b)
+gathered_more line a b = take_front line_size (line ++ a) b ∙ ap (take line_size) (append_assoc line a b)
 
-take_min : (k : ℕ) (l : List ℕ) → take (min k (length l)) l ≡ take k l
+-- .. where the line after the first is told
+pub gathered_then : (line after a b : List ℕ) → after ≡ gathered line a → gathered after b ≡ gathered line (a ++ b)
+gathered_then line after a b e = ap (λ (l : List ℕ). gathered l b) e ∙ gathered_more line a b
+
+take_min : (k : ℕ) (l : List ℕ) → take (min (length l) k) l ≡ take k l
 take_min k l =
-    min_cases k (length l) (take (min k (length l)) l ≡ take k l)
-    (λ h e. ap (λ (j : ℕ). take j l) e)
+    min_cases (length l) k (take (min (length l) k) l ≡ take k l)
     (λ h e. ap (λ (j : ℕ). take j l) e ∙ take-length l ∙ sym (take_all k l h))
+    (λ h e. ap (λ (j : ℕ). take j l) e)
 
--- what `put` lays: as much of the text as there is room for, after the first bytes
-pub gathered_put :
-    (line text : List ℕ) (at start n : ℕ) → length line ≡ line_size → start ≡ min at line_size → n ≡ min (line_size - start) (length text) →
-    take (start + n) (paste line start text n) ≡ gathered line at text
+-- as much of a text as there is room for, after what the line holds
+pub gathered_put : (line text : List ℕ) (n : ℕ) → length line ≤ line_size → n ≡ min (length text) (line_size - length line) → line ++ take n text ≡ gathered line text
 unfolding gathered
-gathered_put line text at start n whole es en =
-    let kept : start ≡ min at (length line) = omega (arith, whole, es) in
-    let front : take start line ≡ take at line = ap (λ (k : ℕ). take k line) kept ∙ take_min at line in
-    let size : length (take at line) ≡ start = length-take at line ∙ sym kept in
-    let room : length (take at line) + (line_size - start) ≡ line_size = omega (arith, size, es) in
-    take-paste line start text n (omega (arith, kept)) (omega (arith, en))
-    ∙ ap (λ (x : List ℕ). x ++ take n text) front
-    ∙ ap (λ (k : ℕ). take at line ++ take k text) en
-    ∙ ap (λ (x : List ℕ). take at line ++ x) (take_min (line_size - start) text)
-    ∙ sym (take-append-add (take at line) text (line_size - start))
-    ∙ ap (λ (k : ℕ). take k (take at line ++ text)) room
+gathered_put line text n fits e =
+    let room : length line + (line_size - length line) ≡ line_size = omega (arith, fits) in
+    ap (λ (k : ℕ). line ++ take k text) e
+    ∙ ap (λ (x : List ℕ). line ++ x) (take_min (line_size - length line) text)
+    ∙ sym (take-append-add line text (line_size - length line))
+    ∙ ap (λ (k : ℕ). take k (line ++ text)) room
 
 -- what a line held stays in front
-pub gathered_continued : (line after text : List ℕ) (at r : ℕ) → length line ≡ line_size → take r after ≡ gathered line at text → Continued line at after r
+pub gathered_continued : (line text : List ℕ) → length line ≤ line_size → Continued line (gathered line text)
 unfolding gathered
-gathered_continued line after text at r whole held =
-    ap (take (min at line_size)) held
-    ∙ take-take (min at line_size) line_size (take at line ++ text) (omega arith)
-    ∙ take_at (take at line) text (min at line_size) (length-take at line ∙ ap (min at) whole)
+gathered_continued line text fits =
+    take-take (length line) line_size (line ++ text) fits ∙ take_at line text (length line) refl
 
 -- ---- decimal digits
 

@@ -1,15 +1,15 @@
--- Lines of output, gathered in an area of a fixed size before they are written.
-use Rattle.std.specs.Prelude.{ℕ, zero, suc, ◌/◌, ◌%◌, min, ◌≡◌, List, [], ◌∷◌, ◌++◌, cond, ltb, eqb, length, take}
+-- Lines of output, gathered in memory of a fixed size before they are written. A line is the bytes that it holds.
+use Rattle.std.specs.Prelude.{ℕ, zero, suc, ◌/◌, ◌%◌, ◌≡◌, List, [], ◌∷◌, ◌++◌, cond, ltb, eqb, length, take}
 use Rattle.io.specs.Digits.{last_digits, hex_digit_ascii}
 use Rattle.console_text.specs.Ascii.{ascii}
 
--- the bytes of a line's area
+-- the bytes of the longest line
 abbrev pub line_size : ℕ
 line_size = 1024
 
--- what a line holds once a text follows its first `at` bytes, as far as there is room
-unfoldable pub gathered : List ℕ → ℕ → List ℕ → List ℕ
-gathered line at text = take line_size (take at line ++ text)
+-- what a line holds once a text follows, as far as there is room
+unfoldable pub gathered : List ℕ → List ℕ → List ℕ
+gathered line text = take line_size (line ++ text)
 
 -- how many decimal digits a number below 10 ^ most has
 unfoldable pub places_up_to : ℕ → ℕ → ℕ
@@ -47,6 +47,6 @@ unfoldable pub frame_text : ℕ → ℕ → ℕ → List ℕ → List ℕ
 frame_text time channel class bytes =
     decimal time ++ ((32 ∷ decimal channel) ++ ((32 ∷ class_word class) ++ ((32 ∷ decimal (length bytes)) ++ (32 ∷ hexadecimal bytes))))
 
--- the r bytes that a line holds begin with the first `at` of the line before; what follows them is left open
-abbrev pub Continued : List ℕ → ℕ → List ℕ → ℕ → Type 0
-Continued before at after r = take (min at line_size) (take r after) ≡ take at before
+-- a line begins with what it held before; what follows is left open
+abbrev pub Continued : List ℕ → List ℕ → Type 0
+Continued before after = take (length before) after ≡ before

@@ -3,6 +3,7 @@
 
 pub mod lines;
 pub mod numbers;
+pub mod words;
 
 // The numbers of standard output and standard error.
 pub const STDOUT_FILENO: i32 = 1;

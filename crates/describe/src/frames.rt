@@ -1,58 +1,41 @@
-// Frames in words, from their rows. Each function that prints answers whether the output takes it.
+// Frames in words, from their rows.
 use crate::words;
-use console_text::lines;
+use crate::words::Class;
+use console_text::STDOUT_FILENO;
+use console_text::lines::{Line, NotWritten};
+use console_text::words::Count;
 use row_tags::tagging;
 use rtp::sizes::{MAX_ROWS, ROW_AREA, ROW_WIDTH};
+use std::fmt::Write;
 
 // A frame of this format, by the four words of its row.
-fn print_words(format: u8, time: u32, tag: u32, start: u32, length: u32) -> bool {
+fn print_frame(format: u8, time: u32, tag: u32, start: u32, length: u32) -> Result<(), NotWritten> {
     let class = tagging::tag_class(tag);
-    let mut line = lines::blank();
-    let mut at = lines::put_number(&mut line, 0, b"    time ", time as u64);
-    at = lines::put_number(
-        &mut line,
-        at,
-        b", channel ",
-        tagging::tag_channel(tag) as u64,
-    );
-    at = lines::put(&mut line, at, b", ");
-    at = words::put_class(&mut line, at, class);
+    let channel = tagging::tag_channel(tag);
+    let mut line = Line::new();
+    write!(line, "    time {time}, channel {channel}, {}", Class(class))?;
     if class != 0 {
-        at = words::put_type(&mut line, at, format, class, length);
-        at = words::put_bytes(&mut line, at, b", ", length as usize);
-        at = lines::put_number(&mut line, at, b" from byte ", start as u64);
-    }
-    words::print(&mut line, at)
-}
-
-fn print_frame(format: u8, rows: &[u32; ROW_AREA], i: u32) -> bool {
-    if (i as usize) < MAX_ROWS {
-        let at = ROW_WIDTH * (i as usize);
-        return print_words(format, rows[at], rows[at + 1], rows[at + 2], rows[at + 3]);
-    }
-    true
-}
-
-fn print_frames(format: u8, rows: &[u32; ROW_AREA], count: u32) -> bool {
-    let mut i = 0;
-    while i < count {
-        if print_frame(format, rows, i) {
-            i += 1;
-        } else {
-            return false;
+        if let Some(kind) = words::type_of(format, class, length) {
+            write!(line, ", type {kind}")?;
         }
+        write!(
+            line,
+            ", {} from byte {start}",
+            words::bytes(length as usize)
+        )?;
     }
-    true
+    line.print(STDOUT_FILENO)
 }
 
 // How many frames of this format there are, and each of them.
-pub(crate) fn print(format: u8, rows: &[u32; ROW_AREA], count: u32) -> bool {
-    let mut line = lines::blank();
+pub(crate) fn print(format: u8, rows: &[u32; ROW_AREA], count: u32) -> Result<(), NotWritten> {
     if count == 0 {
-        let none = lines::put(&mut line, 0, b"  no frames");
-        return words::print(&mut line, none);
+        return words::print("  no frames");
     }
-    let mut at = lines::put(&mut line, 0, b"  ");
-    at = lines::put_count(&mut line, at, count as u64, b" frame:", b" frames:");
-    words::print(&mut line, at) && print_frames(format, rows, count)
+    words::print(format_args!("  {}", Count(count as u64, "frame:", "frames:")))?;
+    for i in 0..MAX_ROWS.min(count as usize) {
+        let at = ROW_WIDTH * i;
+        print_frame(format, rows[at], rows[at + 1], rows[at + 2], rows[at + 3])?;
+    }
+    Ok(())
 }

@@ -1,100 +1,77 @@
-// The RTP header in words, with the blocks of a redundancy payload. Each function that prints answers whether the output takes it.
+// The RTP header in words, with the blocks of a redundancy payload.
 use crate::{blocks, words};
-use console_text::lines;
-use console_text::lines::LINE;
+use console_text::STDOUT_FILENO;
+use console_text::lines::{Line, NotWritten};
+use console_text::words::Count;
 use read_headers::header;
-use read_headers::header::{Header, HeaderRead};
+use read_headers::header::Header;
 use rtp::settings::Settings;
+use std::fmt::Write;
 
 // The fields of the fixed header.
-fn print_fields(head: Header) -> bool {
-    let mut line = lines::blank();
-    let mut at = lines::put_number(&mut line, 0, b"  sequence ", head.sequence as u64);
-    at = lines::put_number(&mut line, at, b", timestamp ", head.timestamp as u64);
-    at = lines::put(&mut line, at, b", source 0x");
-    at = lines::put_word(&mut line, at, head.source);
-    at = lines::put_number(&mut line, at, b", payload type ", head.payload_type as u64);
-    if head.marker == 0 {
-        at = lines::put(&mut line, at, b", no marker");
+fn print_fields(head: Header) -> Result<(), NotWritten> {
+    let marker = if head.marker == 0 {
+        "no marker"
     } else {
-        at = lines::put(&mut line, at, b", marker");
-    }
-    words::print(&mut line, at)
+        "marker"
+    };
+    words::print(format_args!(
+        "  sequence {}, timestamp {}, source 0x{:08x}, payload type {}, {marker}",
+        head.sequence, head.timestamp, head.source, head.payload_type,
+    ))
 }
 
-// What the first byte says of contributing sources and extension.
-fn put_parts(line: &mut [u8; LINE], at: usize, first: u8) -> usize {
-    let sources = first % 16;
-    let mut end = lines::put(line, at, b"  ");
-    if sources == 0 {
-        end = lines::put(line, end, b"no contributing sources");
-    } else {
-        end = lines::put_count(
-            line,
-            end,
-            sources as u64,
-            b" contributing source",
-            b" contributing sources",
-        );
-    }
-    if first / 16 % 2 == 0 {
-        return lines::put(line, end, b", no extension");
-    }
-    lines::put(line, end, b", an extension")
-}
-
-// The padding, and the payload's place.
-fn put_bounds(line: &mut [u8; LINE], at: usize, length: usize, head: Header) -> usize {
-    let padding = std::num::wrapping_sub_usize(length, head.end);
-    let mut end = at;
-    if padding == 0 {
-        end = lines::put(line, end, b", no padding");
-    } else {
-        end = words::put_bytes(line, end, b", padding of ", padding);
-    }
-    end = words::put_bytes(
-        line,
-        end,
-        b"; payload of ",
-        std::num::wrapping_sub_usize(head.end, head.start),
+// The parts before the payload, of which the first byte tells, and its bounds, in a packet of so many bytes.
+fn print_parts(first: u8, length: usize, head: Header) -> Result<(), NotWritten> {
+    let sources = Count(
+        (first % 16) as u64,
+        "contributing source",
+        "contributing sources",
     );
-    lines::put_number(line, end, b" from byte ", head.start as u64)
-}
-
-// The parts before the payload, and its bounds, in a packet of so many bytes.
-fn print_parts(first: u8, length: usize, head: Header) -> bool {
-    let mut line = lines::blank();
-    let mut at = put_parts(&mut line, 0, first);
-    at = put_bounds(&mut line, at, length, head);
-    words::print(&mut line, at)
+    let extension = if first / 16 % 2 == 0 {
+        "no extension"
+    } else {
+        "an extension"
+    };
+    let padding = length.wrapping_sub(head.end);
+    let payload = words::bytes(head.end.wrapping_sub(head.start));
+    let mut line = Line::new();
+    if first % 16 == 0 {
+        write!(line, "  no contributing sources, {extension}")?;
+    } else {
+        write!(line, "  {sources}, {extension}")?;
+    }
+    if padding == 0 {
+        write!(line, ", no padding")?;
+    } else {
+        write!(line, ", padding of {}", words::bytes(padding))?;
+    }
+    write!(line, "; payload of {payload} from byte {}", head.start)?;
+    line.print(STDOUT_FILENO)
 }
 
 // The blocks, where the payload type is the redundancy type.
-fn print_blocks(settings: Settings, head: Header, bytes: &[u8]) -> bool {
-    let start = head.start;
-    let end = head.end;
+fn print_blocks(settings: Settings, head: Header, bytes: &[u8]) -> Result<(), NotWritten> {
     if head.payload_type == settings.redundancy_type {
-        if start <= end {
-            if end <= bytes.len() {
-                return blocks::print(settings.payload_type, head.timestamp, &bytes[start..end]);
-            }
+        if let Some(payload) = bytes.get(head.start..head.end) {
+            return blocks::print(settings.payload_type, head.timestamp, payload);
         }
     }
-    true
+    Ok(())
 }
 
 // The header, as far as there is one.
-pub(crate) fn print(settings: Settings, bytes: &[u8]) -> bool {
+pub(crate) fn print(settings: Settings, bytes: &[u8]) -> Result<(), NotWritten> {
     if bytes.len() == 0 {
-        return true;
+        return Ok(());
     }
     let first = bytes[0];
     match header::read_header(bytes) {
-        HeaderRead::Refused(_) => true,
-        HeaderRead::Header(head) => {
-            print_fields(head)
-                && print_parts(first, bytes.len(), head)
-                && print_blocks(settings, head, bytes)
+        Err(_) => Ok(()),
+        Ok(head) => {
+            print_fields(head)?;
+            print_parts(first, bytes.len(), head)?;
+            print_blocks(settings, head, bytes)
         }
     }
 }

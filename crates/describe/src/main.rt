@@ -9,60 +9,34 @@ mod header;
 mod places;
 mod words;
 
-use console::arguments::Asked;
-use console::stream::{AREA, Input};
-use console::{arguments, stream};
+use console::arguments::Program;
+use console::stream;
+use console_text::lines::NotWritten;
 use rtp::settings::Settings;
 use std::io::Read;
 
-// Prints the packet in the first n bytes of the area, and answers whether to go on.
-fn print_packet(settings: Settings, number: u64, n: usize, area: &[u8]) -> bool {
-    if n <= area.len() {
-        if description::print(settings, number, &area[..n]) {
-            return true;
-        }
-        arguments::say_fault(b"describe", b"standard output: ", b"not all is written");
-    }
-    false
-}
+const DESCRIBE: Program = Program {
+    name: "describe",
+    purpose: "Prints each packet in words: header, redundancy blocks and frames, or why it is refused.\n",
+};
 
-// Reads and prints a packet, and answers whether to go on.
-fn next_packet(
-    rt: &impl Eprint,
-    input: &mut impl Read,
-    settings: Settings,
-    number: u64,
-    area: &mut [u8; AREA],
-) -> bool {
-    match stream::next(rt, input, b"describe", number, area) {
-        Input::End => false,
-        Input::Packet(n) => print_packet(settings, number, n, area),
-    }
-}
-
-// A proved loop has to end, so this one ends at a number that no run reaches.
-fn all_packets(rt: &impl Eprint, input: &mut impl Read, settings: Settings, area: &mut [u8; AREA]) {
-    let mut number = 1;
-    while number < u64::MAX {
-        if next_packet(rt, input, settings, number, area) {
-            number += 1;
-        } else {
-            return;
+// All packets, up to a number that no run reaches.
+fn print_all(input: &mut impl Read, settings: Settings) -> Result<(), NotWritten> {
+    let mut area = io::large_buffer();
+    for number in 1..u64::MAX {
+        match stream::next(input, DESCRIBE, number, &mut area) {
+            Some(packet) => description::print(settings, number, packet)?,
+            None => break,
         }
     }
+    Ok(())
 }
 
 fn main(rt: HostRuntime) {
-    match arguments::read(
-        &rt,
-        b"describe",
-        b"Prints each packet in words: header, redundancy blocks and frames, or why it is refused.\n",
-    ) {
-        Asked::Nothing => {}
-        Asked::Agreed(settings) => {
-            let mut area = io::large_buffer();
-            let mut input = rt.reader();
-            all_packets(&rt, &mut input, settings, &mut area);
+    if let Some(settings) = DESCRIBE.read(&rt) {
+        let mut input = rt.reader();
+        if print_all(&mut input, settings).is_err() {
+            DESCRIBE.say_not_written();
         }
     }
 }

@@ -1,37 +1,43 @@
-// Words for numbers, classes and frame types, put into a line, and a line printed.
-use console_text::lines::LINE;
+// Words for numbers, classes and frame types, and a line printed.
+use console_text::lines::NotWritten;
+use console_text::words::Count;
 use console_text::{STDOUT_FILENO, lines};
 use formats::facts;
 use frame_codes::coding;
+use std::fmt;
+use std::fmt::{Display, Formatter, Write};
 
-// A number of bytes after a text.
-pub(crate) fn put_bytes(line: &mut [u8; LINE], at: usize, text: &[u8], n: usize) -> usize {
-    let end = lines::put(line, at, text);
-    lines::put_count(line, end, n as u64, b" byte", b" bytes")
+// So many bytes.
+pub(crate) fn bytes(n: usize) -> Count {
+    Count(n as u64, "byte", "bytes")
 }
 
-pub(crate) fn put_class(line: &mut [u8; LINE], at: usize, class: u32) -> usize {
-    match class {
-        0 => lines::put(line, at, b"no data"),
-        1 => lines::put(line, at, b"sound"),
-        2 => lines::put(line, at, b"silence descriptor (SID)"),
-        5 => lines::put(line, at, b"damaged sound"),
-        6 => lines::put(line, at, b"damaged silence descriptor (SID)"),
-        _ => lines::put_number(line, at, b"class ", class as u64),
+// A frame's class.
+#[derive(Clone, Copy, Drop)]
+pub(crate) struct Class(pub u32);
+
+impl Display for Class {
+    fn fmt<W: Write>(&self, f: &mut Formatter<W>) -> fmt::Result {
+        match self.0 {
+            0 => write!(f, "no data"),
+            1 => write!(f, "sound"),
+            2 => write!(f, "silence descriptor (SID)"),
+            5 => write!(f, "damaged sound"),
+            6 => write!(f, "damaged silence descriptor (SID)"),
+            class => write!(f, "class {class}"),
+        }
     }
 }
 
 // The frame type, in a format whose codes are a type and a quality bit: it follows from class and length.
-pub(crate) fn put_type(line: &mut [u8; LINE], at: usize, format: u8, class: u32, n: u32) -> usize {
+pub(crate) fn type_of(format: u8, class: u32, n: u32) -> Option<u32> {
     if facts::format_of(format).graded {
-        let code = coding::code_for(format, class, n);
-        return lines::put_number(line, at, b", type ", (code / 2) as u64);
+        return Some(coding::code_for(format, class, n) / 2);
     }
-    at
+    None
 }
 
-// The line's first `at` bytes and its end; answers whether the output takes them.
-pub(crate) fn print(line: &mut [u8; LINE], at: usize) -> bool {
-    let end = lines::put(line, at, b"\n");
-    lines::write(STDOUT_FILENO, line, end)
+// Words on a line of standard output.
+pub(crate) fn print(words: impl Display + Drop) -> Result<(), NotWritten> {
+    lines::print(STDOUT_FILENO, words)
 }

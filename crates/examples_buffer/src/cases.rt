@@ -6,123 +6,85 @@ use examples_text::script::LINE;
 use examples_text::values::ROOM;
 use examples_text::{script, values};
 
-// The buffer, the time of frame-block 0, and how many bytes the packet has.
-#[derive(Clone, Copy)]
+// The buffer and its store, the time of frame-block 0, and the packet: so many bytes of a room.
+#[derive(Drop)]
 pub(crate) struct Case {
     buffer: Buffer,
+    store: [u8; STORE_SIZE],
     base: u32,
+    bytes: [u8; ROOM],
     size: usize,
 }
 
-pub(crate) fn unsettled() -> Case {
-    let fresh = calls::new(values::no_settings());
-    let buffer = fresh.buffer;
-    Case {
-        buffer,
-        base: 0,
-        size: 0,
+impl Case {
+    pub(crate) fn new() -> Case {
+        Case {
+            buffer: calls::new(values::no_settings()).buffer,
+            store: [0; STORE_SIZE],
+            base: 0,
+            bytes: [0; ROOM],
+            size: 0,
+        }
     }
-}
 
-fn with_buffer(case: Case, buffer: Buffer) -> Case {
-    Case {
-        buffer,
-        base: case.base,
-        size: case.size,
+    fn offer(&mut self) {
+        if let Some(packet) = self.bytes.get(..self.size) {
+            self.buffer = example::offer(self.buffer, &mut self.store, packet);
+        }
     }
-}
 
-fn agree(line: &[u8; LINE]) -> Buffer {
-    let fresh = calls::new(values::settings(line));
-    fresh.buffer
-}
+    // The numbered packets of the line, each offered.
+    fn offer_all(&mut self, line: &[u8; LINE]) {
+        for k in 1..=script::count(line) {
+            let number = values::small(line, k);
+            self.buffer = example::offer_number(self.buffer, &mut self.store, self.base, number);
+        }
+    }
 
-fn with_base(case: Case, base: u32) -> Case {
-    let mut next = case;
-    next.base = base;
-    next
-}
+    // So many draws, in one line.
+    fn draw_all(&mut self, n: u32) {
+        io::write_all(1, b"draw");
+        for _ in 0..n {
+            self.buffer = example::draw_number(self.buffer, &self.store, self.base);
+        }
+        io::write_all(1, b"\n");
+    }
 
-fn with_size(case: Case, size: usize) -> Case {
-    let mut next = case;
-    next.size = size;
-    next
-}
+    // A line about the buffer.
+    fn run(&mut self, line: &[u8; LINE]) {
+        if script::has(line, b"settings", 4) {
+            self.buffer = calls::new(values::settings(line)).buffer;
+        } else if script::has_from(line, b"offer", 1) {
+            script::print_words(line);
+            self.offer();
+        } else if script::has_from(line, b"offer_blocks", 1) {
+            self.offer_all(line);
+        } else if script::has(line, b"draw", 0) {
+            self.buffer = example::draw(self.buffer, &self.store);
+        } else if script::has(line, b"draw_blocks", 1) {
+            self.draw_all(values::number(line, 1));
+        } else {
+            script::malformed(line);
+        }
+    }
 
-// The numbered packets of the line, each offered.
-fn offer_all(buffer: Buffer, store: &mut [u8; STORE_SIZE], base: u32, line: &[u8; LINE]) -> Buffer {
-    let n = script::count(line);
-    let mut reached = buffer;
-    let mut k = 0;
-    while k < n {
-        k += 1;
-        let next = example::offer_number(reached, store, base, values::small(line, k));
-        reached = next;
+    // A line about the packet or the times, or a label; or else about the buffer.
+    pub(crate) fn follow(&mut self, line: &[u8; LINE]) {
+        if script::is_comment(line) {
+            return;
+        }
+        if script::has_from(line, b"case", 1) {
+            script::print_label(line);
+        } else if script::has(line, b"base", 1) {
+            self.base = values::number(line, 1);
+        } else if script::has_from(line, b"packet", 1) {
+            self.size = values::put_bytes(line, 1, &mut self.bytes, 0);
+        } else if script::has_from(line, b"bytes", 1) {
+            self.size = values::put_bytes(line, 1, &mut self.bytes, self.size);
+        } else if script::has_from(line, b"text", 1) {
+            self.size = values::put_text(line, 1, &mut self.bytes, self.size);
+        } else {
+            self.run(line);
+        }
     }
-    reached
-}
-
-// So many draws, in one line.
-fn draw_all(buffer: Buffer, store: &[u8; STORE_SIZE], base: u32, n: u32) -> Buffer {
-    let mut reached = buffer;
-    let mut left = n;
-    io::write_all(1, b"draw");
-    while 0 < left {
-        let next = example::draw_number(reached, store, base);
-        reached = next;
-        left -= 1;
-    }
-    io::write_all(1, b"\n");
-    reached
-}
-
-// A line about the buffer.
-fn run(case: Case, line: &[u8; LINE], bytes: &[u8], store: &mut [u8; STORE_SIZE]) -> Buffer {
-    if script::has(line, b"settings", 4) {
-        return agree(line);
-    }
-    if script::has_from(line, b"offer", 1) {
-        script::print_words(line);
-        return example::offer_part(case.buffer, store, bytes, case.size);
-    }
-    if script::has_from(line, b"offer_blocks", 1) {
-        return offer_all(case.buffer, store, case.base, line);
-    }
-    if script::has(line, b"draw", 0) {
-        return example::draw(case.buffer, store);
-    }
-    if script::has(line, b"draw_blocks", 1) {
-        return draw_all(case.buffer, store, case.base, values::number(line, 1));
-    }
-    script::malformed(line);
-    case.buffer
-}
-
-// A line about the packet or the times, or a label.
-pub(crate) fn follow(
-    case: Case,
-    line: &[u8; LINE],
-    bytes: &mut [u8; ROOM],
-    store: &mut [u8; STORE_SIZE],
-) -> Case {
-    if script::is_comment(line) {
-        return case;
-    }
-    if script::has_from(line, b"case", 1) {
-        script::print_label(line);
-        return case;
-    }
-    if script::has(line, b"base", 1) {
-        return with_base(case, values::number(line, 1));
-    }
-    if script::has_from(line, b"packet", 1) {
-        return with_size(case, values::put_bytes(line, 1, bytes, 0));
-    }
-    if script::has_from(line, b"bytes", 1) {
-        return with_size(case, values::put_bytes(line, 1, bytes, case.size));
-    }
-    if script::has_from(line, b"text", 1) {
-        return with_size(case, values::put_text(line, 1, bytes, case.size));
-    }
-    with_buffer(case, run(case, line, bytes, store))
 }

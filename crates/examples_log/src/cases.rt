@@ -3,97 +3,78 @@ use crate::example;
 use examples_text::script::LINE;
 use examples_text::values::{NUMBERS, ROOM};
 use examples_text::{script, values};
+use log_lines::printing;
 use log_walk::opening::Cursor;
 use rtp::settings::Settings;
 
-// What is agreed, and how many bytes and words of rows are given.
-#[derive(Clone, Copy)]
+// What is agreed, the bytes and the words of rows that are given: so many of a room each.
+#[derive(Drop)]
 pub(crate) struct Case {
     settings: Settings,
-    bytes: usize,
+    bytes: [u8; ROOM],
+    size: usize,
+    rows: [u32; NUMBERS],
     words: usize,
 }
 
-pub(crate) fn unsettled() -> Case {
-    Case {
-        settings: values::no_settings(),
-        bytes: 0,
-        words: 0,
+impl Case {
+    pub(crate) fn new() -> Case {
+        Case {
+            settings: values::no_settings(),
+            bytes: [0; ROOM],
+            size: 0,
+            rows: [0; NUMBERS],
+            words: 0,
+        }
     }
-}
 
-pub(crate) fn no_rows() -> [u32; NUMBERS] {
-    [0; NUMBERS]
-}
-
-fn agree(case: Case, line: &[u8; LINE]) -> Case {
-    Case {
-        settings: values::settings(line),
-        bytes: case.bytes,
-        words: case.words,
+    // On from the place of the line's first number, with as many frames shown as the second says.
+    fn step(&self, line: &[u8; LINE]) {
+        let cursor = Cursor {
+            settings: self.settings,
+            place: values::number(line, 1) as usize,
+            count: values::number(line, 2) as usize,
+        };
+        if let Some(log) = self.bytes.get(..self.size) {
+            let _ = printing::print_from(cursor, log);
+        }
     }
-}
 
-// With so many bytes and words.
-fn given(case: Case, bytes: usize, words: usize) -> Case {
-    let mut next = case;
-    next.bytes = bytes;
-    next.words = words;
-    next
-}
-
-fn step(case: Case, line: &[u8; LINE], bytes: &[u8]) {
-    let settings = case.settings;
-    let cursor = Cursor {
-        settings,
-        place: values::number(line, 1) as usize,
-        count: values::number(line, 2) as usize,
-    };
-    example::read_on(cursor, bytes, case.bytes);
-}
-
-// A line that has a log read or written.
-fn run(case: Case, line: &[u8; LINE], bytes: &[u8], rows: &[u32]) {
-    if script::has(line, b"read", 0) {
-        example::read(bytes, case.bytes);
-    } else if script::has(line, b"step", 2) {
-        step(case, line, bytes);
-    } else if script::has(line, b"write", 1) {
+    // Into an area of as many bytes as the line's number says.
+    fn write(&self, line: &[u8; LINE]) {
         let room = values::number(line, 1) as usize;
         if example::AREA < room {
             script::malformed(line);
             return;
         }
-        example::write(case.settings, rows, case.words, bytes, case.bytes, room);
-    } else {
-        script::malformed(line);
+        let rows = self.rows.get(..self.words);
+        if let (Some(rows), Some(bytes)) = (rows, self.bytes.get(..self.size)) {
+            example::write(self.settings, rows, bytes, room);
+        }
     }
-}
 
-pub(crate) fn follow(
-    case: Case,
-    line: &[u8; LINE],
-    bytes: &mut [u8; ROOM],
-    rows: &mut [u32; NUMBERS],
-) -> Case {
-    if script::is_comment(line) {
-        return case;
+    pub(crate) fn follow(&mut self, line: &[u8; LINE]) {
+        if script::is_comment(line) {
+            return;
+        }
+        if script::has_from(line, b"case", 1) {
+            script::print_label(line);
+            self.size = 0;
+            self.words = 0;
+        } else if script::has_from(line, b"bytes", 1) {
+            self.size = values::put_bytes(line, 1, &mut self.bytes, self.size);
+        } else if script::has_from(line, b"row", 1) {
+            self.words = values::put_numbers(line, &mut self.rows, self.words);
+        } else if script::has(line, b"settings", 4) {
+            self.settings = values::settings(line);
+        } else if script::has(line, b"read", 0) {
+            example::read(&self.bytes, self.size);
+        } else if script::has(line, b"step", 2) {
+            self.step(line);
+        } else if script::has(line, b"write", 1) {
+            self.write(line);
+        } else {
+            script::malformed(line);
+        }
     }
-    if script::has_from(line, b"case", 1) {
-        script::print_label(line);
-        return given(case, 0, 0);
-    }
-    if script::has_from(line, b"bytes", 1) {
-        let n = values::put_bytes(line, 1, bytes, case.bytes);
-        return given(case, n, case.words);
-    }
-    if script::has_from(line, b"row", 1) {
-        let n = values::put_numbers(line, rows, case.words);
-        return given(case, case.bytes, n);
-    }
-    if script::has(line, b"settings", 4) {
-        return agree(case, line);
-    }
-    run(case, line, bytes, rows);
-    case
 }

@@ -1,7 +1,5 @@
 // Logs read and written, and printed.
 use log_lines::printing;
-use log_walk::opening::Cursor;
-use log_writer::field_bytes::LogWritten;
 use log_writer::writing;
 use rtp::refusal::Refusal;
 use rtp::settings::Settings;
@@ -9,29 +7,18 @@ use rtp::settings::Settings;
 // The most bytes that are written.
 pub(crate) const AREA: usize = 1024;
 
-fn area() -> [u8; AREA] {
-    [0; AREA]
-}
-
 // The log of the first n bytes.
 pub(crate) fn read(bytes: &[u8], n: usize) {
-    if n <= bytes.len() {
-        printing::print_log(&bytes[..n]);
-    }
-}
-
-// .. from a record on.
-pub(crate) fn read_on(cursor: Cursor, bytes: &[u8], n: usize) {
-    if n <= bytes.len() {
-        printing::print_from(cursor, &bytes[..n]);
+    if let Some(log) = bytes.get(..n) {
+        let _ = printing::print_log(log);
     }
 }
 
 // The log that is written, read, or the refusal.
-fn show(written: LogWritten, out: &[u8]) {
+fn show(written: Result<usize, Refusal>, out: &[u8]) {
     match written {
-        LogWritten::Bytes(n) => read(out, n),
-        LogWritten::Refused(why) => printing::print_refusal(why),
+        Ok(n) => read(out, n),
+        Err(why) => printing::print_refusal(why),
     }
 }
 
@@ -42,27 +29,14 @@ fn write_into(
     bytes: &[u8],
     out: &mut [u8],
     room: usize,
-) -> LogWritten {
-    if room <= out.len() {
-        return writing::write(settings, rows, bytes, &mut out[..room]);
-    }
-    LogWritten::Refused(Refusal::AreaTooShort)
+) -> Result<usize, Refusal> {
+    let area = out.get_mut(..room).ok_or(Refusal::AreaTooShort)?;
+    writing::write(settings, rows, bytes, area)
 }
 
-// The log of the first k words of rows, whose frames lie in the first n bytes.
-pub(crate) fn write(
-    settings: Settings,
-    rows: &[u32],
-    k: usize,
-    bytes: &[u8],
-    n: usize,
-    room: usize,
-) {
-    let mut out = area();
-    if k <= rows.len() {
-        if n <= bytes.len() {
-            let written = write_into(settings, &rows[..k], &bytes[..n], &mut out, room);
-            show(written, &out);
-        }
-    }
+// The same, and what it came to shown.
+pub(crate) fn write(settings: Settings, rows: &[u32], bytes: &[u8], room: usize) {
+    let mut out = [0; AREA];
+    let written = write_into(settings, rows, bytes, &mut out, room);
+    show(written, &out);
 }

@@ -5,59 +5,47 @@ use examples_text::values::ROOM;
 use examples_text::{script, values};
 use rtp::settings::Settings;
 
-// What is agreed, and the words of the area for rows.
-#[derive(Clone, Copy)]
+// What is agreed, the words of the area for rows, and the packet's bytes.
+#[derive(Drop)]
 pub(crate) struct Case {
     settings: Settings,
     words: u32,
+    bytes: [u8; ROOM],
 }
 
-pub(crate) fn unsettled() -> Case {
-    Case {
-        settings: values::no_settings(),
-        words: 0,
+impl Case {
+    pub(crate) fn new() -> Case {
+        Case {
+            settings: values::no_settings(),
+            words: 0,
+            bytes: [0; ROOM],
+        }
     }
-}
 
-fn agree(case: Case, line: &[u8; LINE]) -> Case {
-    Case {
-        settings: values::settings(line),
-        words: case.words,
+    pub(crate) fn follow(&mut self, line: &[u8; LINE]) {
+        if script::is_comment(line) {
+            return;
+        }
+        if script::has(line, b"settings", 4) {
+            self.settings = values::settings(line);
+        } else if script::has(line, b"area", 1) {
+            self.words = values::number(line, 1);
+        } else if script::has_from(line, b"case", 1) {
+            script::print_label(line);
+        } else if script::has_from(line, b"packet", 1) {
+            values::clear(&mut self.bytes);
+            values::put_bytes(line, 1, &mut self.bytes, 0);
+        } else if script::has_from(line, b"at", 2) {
+            values::put_bytes(line, 2, &mut self.bytes, values::number(line, 1) as usize);
+        } else if script::has(line, b"read", 1) {
+            example::read(
+                self.settings,
+                self.words,
+                &self.bytes,
+                values::number(line, 1),
+            );
+        } else {
+            script::malformed(line);
+        }
     }
-}
-
-fn give_area(case: Case, line: &[u8; LINE]) -> Case {
-    let mut next = case;
-    next.words = values::number(line, 1);
-    next
-}
-
-// A line that sets nothing: a label, bytes, or a packet to be read.
-fn run(case: Case, line: &[u8; LINE], bytes: &mut [u8; ROOM]) {
-    if script::has_from(line, b"case", 1) {
-        script::print_label(line);
-    } else if script::has_from(line, b"packet", 1) {
-        values::clear(bytes);
-        values::put_bytes(line, 1, bytes, 0);
-    } else if script::has_from(line, b"at", 2) {
-        values::put_bytes(line, 2, bytes, values::number(line, 1) as usize);
-    } else if script::has(line, b"read", 1) {
-        example::read(case.settings, case.words, bytes, values::number(line, 1));
-    } else {
-        script::malformed(line);
-    }
-}
-
-pub(crate) fn follow(case: Case, line: &[u8; LINE], bytes: &mut [u8; ROOM]) -> Case {
-    if script::is_comment(line) {
-        return case;
-    }
-    if script::has(line, b"settings", 4) {
-        return agree(case, line);
-    }
-    if script::has(line, b"area", 1) {
-        return give_area(case, line);
-    }
-    run(case, line, bytes);
-    case
 }

@@ -6,20 +6,12 @@
 mod cases;
 mod example;
 
+use cases::Case;
 use examples_text::script;
 
-// A proved loop has to end, so this one counts its turns down from a number that no text reaches.
 fn main() {
-    let mut bytes = io::buffer();
-    let mut case = cases::unsettled();
-    let mut turns = u64::MAX;
-    while turns > 0 {
-        let line = script::next();
-        if !script::is_line(&line) {
-            break;
-        }
-        let next = cases::follow(case, &line, &mut bytes);
-        case = next;
-        turns -= 1;
+    let mut case = Case::new();
+    for line in script::input() {
+        case.follow(&line);
     }
 }

@@ -1,21 +1,16 @@
 // A source, its packets and reports, printed.
+use examples_text::printing::print;
 use report::calls;
-use report::calls::{PacketAnswer, ReportAnswer, ReportBlock};
+use report::calls::ReportBlock;
 use report::record::Reception;
-use report_loss::signed;
-use rtp::refusal;
-
-fn print(text: &[u8], value: u32) {
-    io::write_all(1, text);
-    io::print_decimal(1, value as u64);
-}
+use rtp::refusal::Refusal;
 
 fn print_signed(text: &[u8], value: i32) {
     io::write_all(1, text);
     if value < 0 {
         io::write_all(1, b"-");
     }
-    io::print_decimal(1, signed::size(value) as u64);
+    io::print_decimal(1, value.unsigned_abs() as u64);
 }
 
 // A fresh record, under a label.
@@ -25,16 +20,16 @@ pub(crate) fn begin(label: &[u8]) -> Reception {
     calls::new()
 }
 
-fn print_answer(answer: PacketAnswer) {
+fn print_answer(answer: Result<bool, Refusal>) {
     match answer {
-        PacketAnswer::Valid => {
+        Ok(true) => {
             io::write_all(1, b": valid\n");
         }
-        PacketAnswer::Invalid => {
+        Ok(false) => {
             io::write_all(1, b": not valid\n");
         }
-        PacketAnswer::Refused(why) => {
-            print(b": refusal ", refusal::refusal_number(why));
+        Err(why) => {
+            print(b": refusal ", u32::from(why));
             io::write_all(1, b"\n");
         }
     }
@@ -46,8 +41,7 @@ pub(crate) fn hear(source: Reception, sequence: u16, timestamp: u32, arrival: u3
     print(b" at ", timestamp);
     print(b", arrived ", arrival);
     let heard = calls::packet(source, sequence, timestamp, arrival);
-    let answer = heard.answer;
-    print_answer(answer);
+    print_answer(heard.answer);
     heard.reception
 }
 
@@ -56,22 +50,21 @@ pub(crate) fn number(source: Reception, sequence: u16) -> Reception {
     hear(source, sequence, 0, 0)
 }
 
-pub(crate) fn three(source: Reception, a: u16, b: u16, c: u16) -> Reception {
-    let first = number(source, a);
-    let second = number(first, b);
-    number(second, c)
+// One such packet after the other.
+pub(crate) fn numbers(source: Reception, sequences: &[u16]) -> Reception {
+    let mut reached = source;
+    for sequence in sequences {
+        reached = number(reached, *sequence);
+    }
+    reached
 }
 
 fn hear_row(source: Reception, from: u16, step: u16, count: u32) -> Reception {
     let mut reached = source;
     let mut sequence = from;
-    let mut left = count;
-    while left > 0 {
-        let heard = calls::packet(reached, sequence, 0, 0);
-        let next = heard.reception;
-        reached = next;
-        sequence = std::num::wrapping_add_u16(sequence, step);
-        left -= 1;
+    for _ in 0..count {
+        reached = calls::packet(reached, sequence, 0, 0).reception;
+        sequence = sequence.wrapping_add(step);
     }
     reached
 }
@@ -95,10 +88,9 @@ fn print_block(block: ReportBlock) {
 // A report.
 pub(crate) fn tell(source: Reception) -> Reception {
     let told = calls::report(source);
-    let answer = told.answer;
-    match answer {
-        ReportAnswer::Block(block) => print_block(block),
-        ReportAnswer::Refused(why) => print(b"report: refusal ", refusal::refusal_number(why)),
+    match told.answer {
+        Ok(block) => print_block(block),
+        Err(why) => print(b"report: refusal ", u32::from(why)),
     }
     io::write_all(1, b"\n");
     told.reception

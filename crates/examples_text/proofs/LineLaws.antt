@@ -1,38 +1,41 @@
 -- Laws of lines, at a place of them: one more byte read, or none left.
 use mathlib.Core.Path.{◌≡◌, refl, sym, ap, ◌∙◌}
 use mathlib.Core.List.{List, [], ◌∷◌, ◌++◌, append_assoc, append-nil}
-use mathlib.Core.Bool.{false, cond}
+use mathlib.Core.Bool.{Bool, true, false, not, cond}
 use Prim.Native.Nat.{ℕ, zero, suc, ◌+◌, ◌-◌, ◌≤◌, ◌<◌}
 use native.Mathlib.Numerals.{add-one}
 use native.Mathlib.Omega.{arith}
-use lib.Dec.{leb, eqb}
-use lib.ListN.{length, get_or, set, take, drop, replicate, drop_of_length-le, length-replicate, length-set}
+use lib.Dec.{leb, ltb, eqb}
+use lib.ListN.{length, length-drop, get_or, set, take, drop, replicate, drop_of_length-le, length-replicate, length-set}
 use lib.Seq.{drop-cons, drop-drop, get_or-drop, take-suc-set, set_split, drop-set-lt, take_all}
-use borrow.Author.Tests.{le-leb, lt-leb, eq-eqb, ne_eqb}
+use borrow.Author.Tests.{ltb-false, le-leb, lt-leb, eq-eqb, ne_eqb}
+use Rattle.std.specs.Prelude.{Some, None}
+use Rattle.std.specs.List.{count_by, position, position_or_len}
+use Rattle.std.proofs.lemmas.List.Recursion.{is_count_by}
 use Rattle.examples_text.specs.Lines.{ended, spaces, after_spaces, starts_with, text}
 
 -- a list from a place on, by the place's element
 pub from_place : (l : List ℕ) (i : ℕ) → i < length l → drop i l ≡ get_or l i 0 ∷ drop (i + 1) l
 from_place l i h = drop-cons l i 0 h ∙ ap (λ (k : ℕ). get_or l i 0 ∷ drop k l) (sym (add-one i))
 
+-- a slice from a place on
+pub slice_from : (l : List ℕ) (i : ℕ) → take (length l - i) (drop i l) ≡ drop i l
+slice_from l i = take_all (length l - i) (drop i l) (omega (arith, length-drop i l))
+
 -- ---- spaces
 
-spaces_cons : (c : ℕ) (cs : List ℕ) → spaces (c ∷ cs) ≡ cond (eqb c 32) (suc (spaces cs)) (spaces cs)
+spaces_cons : (c : ℕ) (cs : List ℕ) → spaces (c ∷ cs) ≡ cond (eqb c 32) (1 + spaces cs) (spaces cs)
 unfolding spaces
-spaces_cons c cs = refl
+spaces_cons c cs =
+    let more : suc (spaces cs) ≡ 1 + spaces cs = omega arith in
+    ap (λ (n : ℕ). cond (eqb c 32) n (spaces cs)) more
 
 spaces_none : spaces [] ≡ 0
 unfolding spaces
 spaces_none = refl
 
-pub spaces_space : (l : List ℕ) (i : ℕ) → i < length l → get_or l i 0 ≡ 32 → spaces (drop i l) ≡ suc (spaces (drop (i + 1) l))
-spaces_space l i h e = ap spaces (from_place l i h) ∙ spaces_cons (get_or l i 0) (drop (i + 1) l) ∙ rw (eq-eqb _ _ e)
-
-pub spaces_other : (l : List ℕ) (i : ℕ) → i < length l → (get_or l i 0 ≡ 32 → ⊥) → spaces (drop i l) ≡ spaces (drop (i + 1) l)
-spaces_other l i h e = ap spaces (from_place l i h) ∙ spaces_cons (get_or l i 0) (drop (i + 1) l) ∙ rw (ne_eqb _ _ e)
-
-pub spaces_end : (l : List ℕ) (i : ℕ) → length l ≤ i → spaces (drop i l) ≡ 0
-spaces_end l i h = ap spaces (drop_of_length-le l {i = i} h) ∙ spaces_none
+pub spaces_counted : (l : List ℕ) → spaces l ≡ count_by (λ c. eqb c 32) l
+spaces_counted l = is_count_by spaces (λ c. eqb c 32) spaces_none spaces_cons l
 
 -- ---- what follows a space
 
@@ -61,10 +64,8 @@ pub after_other : (k : ℕ) (l : List ℕ) (i : ℕ) → 0 < k → i < length l 
 after_other zero l i p h e = absurd (omega (arith, p))
 after_other (suc k) l i p h e = ap (after_spaces (suc k)) (from_place l i h) ∙ after_cons k (get_or l i 0) (drop (i + 1) l) ∙ rw (ne_eqb _ _ e)
 
-pub after_end : (k : ℕ) (l : List ℕ) (i : ℕ) → length l ≤ i → drop i l ≡ after_spaces k (drop i l)
-after_end k l i h =
-    let e : drop i l ≡ [] = drop_of_length-le l {i = i} h in
-    e ∙ sym (after_none k) ∙ ap (after_spaces k) (sym e)
+pub after_end : (k : ℕ) (l : List ℕ) → l ≡ [] → after_spaces k l ≡ []
+after_end k l e = ap (after_spaces k) e ∙ after_none k
 
 -- ---- the first word
 
@@ -105,22 +106,36 @@ starts_end word line i h =
 
 -- ---- the bytes up to the end
 
-text_cons : (c : ℕ) (cs : List ℕ) → text (c ∷ cs) ≡ cond (leb c 10) [] (c ∷ text cs)
+text_step : (low : Bool) (n c : ℕ) (cs t : List ℕ) → take n cs ≡ t → take (cond (not low) (1 + n) 0) (c ∷ cs) ≡ cond low [] (c ∷ t)
+text_step true n c cs t e = refl
+text_step false n c cs t e =
+    let more : 1 + n ≡ suc n = omega arith in
+    ap (λ (k : ℕ). take k (c ∷ cs)) more ∙ ap (λ (x : List ℕ). c ∷ x) e
+
+-- up to the first byte of at most 10
+pub text_taken : (l : List ℕ) → take (position_or_len (λ c. leb c 10) l) l ≡ text l
 unfolding text
-text_cons c cs = refl
+text_taken [] = refl
+text_taken (c ∷ cs) = text_step (leb c 10) (position_or_len (λ d. leb d 10) cs) c cs (text cs) (text_taken cs)
 
-text_none : text [] ≡ []
-unfolding text
-text_none = refl
+text_from : (found : Bool) (p n : ℕ) → Some n ≡ cond found (Some p) None → n ≡ p
+text_from true p n e = cc
+text_from false p n e = cc
 
-pub text_next : (l : List ℕ) (i : ℕ) → i < length l → 10 < get_or l i 0 → text (drop i l) ≡ get_or l i 0 ∷ text (drop (i + 1) l)
-text_next l i h e = ap text (from_place l i h) ∙ text_cons (get_or l i 0) (drop (i + 1) l) ∙ rw (lt-leb _ _ e)
+not_found : (found : Bool) (p : ℕ) → None ≡ cond found (Some p) None → found ≡ false
+not_found true p e = cc
+not_found false p e = refl
 
-pub text_stop : (l : List ℕ) (i : ℕ) → i < length l → get_or l i 0 ≤ 10 → text (drop i l) ≡ []
-text_stop l i h e = ap text (from_place l i h) ∙ text_cons (get_or l i 0) (drop (i + 1) l) ∙ rw (le-leb _ _ e)
+pub text_found : (l : List ℕ) (n : ℕ) → Some n ≡ position (λ c. leb c 10) l → take n l ≡ text l
+text_found l n e =
+    let p : ℕ = position_or_len (λ c. leb c 10) l in
+    ap (λ (k : ℕ). take k l) (text_from (ltb p (length l)) p n e) ∙ text_taken l
 
-pub text_end : (l : List ℕ) (i : ℕ) → length l ≤ i → text (drop i l) ≡ []
-text_end l i h = ap text (drop_of_length-le l {i = i} h) ∙ text_none
+pub text_all : (l : List ℕ) → None ≡ position (λ c. leb c 10) l → l ≡ text l
+text_all l e =
+    let p : ℕ = position_or_len (λ c. leb c 10) l in
+    let past : length l ≤ p = ltb-false p (length l) (not_found (ltb p (length l)) p e) in
+    sym (take_all p l past) ∙ text_taken l
 
 -- ---- a line while it is read
 
@@ -136,11 +151,6 @@ ended_none = refl
 abbrev pub Reading : ℕ → List ℕ → ℕ → Type 0
 Reading room l i =
     (length l ≡ room) × (i ≤ room) × ((t : List ℕ) → ended (take i l ++ t) ≡ take i l ++ ended t) × (drop i l ≡ replicate (room - i) 0)
-
-pub reading_none : (room : ℕ) → Reading room (replicate room 0) 0
-reading_none room =
-    let all : room ≡ room - 0 = omega arith in
-    (length-replicate room 0, omega arith, λ t. refl, ap (λ (k : ℕ). replicate k 0) all)
 
 zeros_after : (room : ℕ) (l : List ℕ) (i : ℕ) → i < room → drop i l ≡ replicate (room - i) 0 → drop (i + 1) l ≡ replicate (room - (i + 1)) 0
 zeros_after room l i h e =

@@ -1,16 +1,25 @@
 -- Laws of the values of words and of laying them.
 use mathlib.Core.Path.{◌≡◌, refl, sym, ap, subst, ◌∙◌}
-use mathlib.Core.List.{List, [], ◌∷◌}
-use mathlib.Core.Bool.{cond}
-use Prim.Native.Nat.{ℕ, zero, suc, ◌+◌, ◌-◌, ◌*◌, ◌≤◌, ◌<◌}
+use mathlib.Core.List.{List, [], ◌∷◌, ◌++◌}
+use mathlib.Core.Bool.{Bool, true, false, cond}
+use Prim.Native.Nat.{ℕ, zero, suc, ◌+◌, ◌-◌, ◌*◌, ◌≤◌, ◌<◌, min}
 use native.Mathlib.Numerals.{add-one}
 use native.Mathlib.Omega.{arith}
 use lib.Dec.{ltb, leb, eqb}
 use lib.ListN.{length, get_or, set, take, drop, drop_of_length-le}
 use lib.Seq.{sets, take-nil}
 use borrow.Author.Tests.{lt-ltb, le-ltb, le-leb, lt-leb, eq-eqb, ne_eqb}
+use Rattle.std.proofs.lemmas.List.{nil_from_length}
+use Rattle.std.specs.Prelude.{Option, Some, None}
+use Rattle.std.specs.Option.{unwrap_or, UnwrapsOrElse}
+use Rattle.std.specs.Char.{digit_value}
+use Rattle.std.proofs.lemmas.Bool.Decides.{nat_tests}
 use Rattle.examples_text.specs.Values.{digit, with_digits, numbers_of, pair_of, bytes_of, fitting}
 use Rattle.examples_text.proofs.LineLaws.{from_place}
+
+same_cond : (b : Bool) (n : ℕ) → cond b n n ≡ n
+same_cond true n = refl
+same_cond false n = refl
 
 -- ---- decimal numbers
 
@@ -41,19 +50,35 @@ with_stop v [] i e = with_end v [] i (omega arith)
 with_stop v (c ∷ l) zero e = with_cons v c l ∙ rw (le-leb _ _ e)
 with_stop v (c ∷ l) (suc i) e = with_stop v l i e
 
--- no digit
-pub with_other : (v : ℕ) (l : List ℕ) (i d : ℕ) → i < length l → 32 < get_or l i 0 → d ≡ digit (get_or l i 0) → 9 < d → with_digits v (drop i l) ≡ 0
-with_other v l i d h e q t = with_at v l i h ∙ rw (lt-leb _ _ e, ← q, lt-ltb _ _ t)
+-- a decimal digit is what the library takes for one
+digit_ten : (c : ℕ) → digit_value c < 10 → digit c ≡ digit_value c
+unfolding digit
+digit_ten c = grind (arith, nat_tests)
 
--- one digit too many
+digit_above : (c : ℕ) → (digit_value c < 10 → ⊥) → 9 < digit c
+unfolding digit
+digit_above c = grind (arith, nat_tests)
+
+-- no digit
+pub with_other : (v : ℕ) (l : List ℕ) (i : ℕ) → i < length l → 32 < get_or l i 0 → (digit_value (get_or l i 0) < 10 → ⊥) → with_digits v (drop i l) ≡ 0
+with_other v l i h e t = with_at v l i h ∙ rw (lt-leb _ _ e, lt-ltb _ _ (digit_above (get_or l i 0) t))
+
+-- one digit too many, or none
 pub with_long :
-    (v : ℕ) (l : List ℕ) (i d : ℕ) → i < length l → 32 < get_or l i 0 → d ≡ digit (get_or l i 0) → d ≤ 9 → 4294967295 < 10 * v + d → with_digits v (drop i l) ≡ 0
-with_long v l i d h e q t u = with_at v l i h ∙ rw (lt-leb _ _ e, ← q, le-ltb _ _ t, lt-ltb _ _ u)
+    (v : ℕ) (l : List ℕ) (i : ℕ) → i < length l → 32 < get_or l i 0 → 4294967295 < 10 * v + digit (get_or l i 0) → with_digits v (drop i l) ≡ 0
+with_long v l i h e u = with_at v l i h ∙ rw (lt-leb _ _ e, lt-ltb _ _ u) (same_cond _ 0)
+
+pub with_long_ten :
+    (v : ℕ) (l : List ℕ) (i d : ℕ) → i < length l → 32 < get_or l i 0 → digit_value (get_or l i 0) < 10 → d ≡ digit_value (get_or l i 0) → 4294967295 < 10 * v + d →
+    with_digits v (drop i l) ≡ 0
+with_long_ten v l i d h e q t u = with_long v l i h e (omega (arith, u, t, digit_ten (get_or l i 0) q))
 
 pub with_next :
-    (v : ℕ) (l : List ℕ) (i d : ℕ) → i < length l → 32 < get_or l i 0 → d ≡ digit (get_or l i 0) → d ≤ 9 → 10 * v + d ≤ 4294967295 →
+    (v : ℕ) (l : List ℕ) (i d : ℕ) → i < length l → 32 < get_or l i 0 → digit_value (get_or l i 0) < 10 → d ≡ digit_value (get_or l i 0) → 10 * v + d ≤ 4294967295 →
     with_digits v (drop i l) ≡ with_digits (10 * v + d) (drop (i + 1) l)
-with_next v l i d h e q t u = with_at v l i h ∙ rw (lt-leb _ _ e, ← q, le-ltb _ _ t, le-ltb _ _ u)
+with_next v l i d h e q t u =
+    let k : digit (get_or l i 0) ≡ d = digit_ten (get_or l i 0) q ∙ sym t in
+    with_at v l i h ∙ rw (lt-leb _ _ e, k, le-ltb 9 d (omega (arith, q, t)), le-ltb _ _ u)
 
 -- ---- the numbers of all words
 
@@ -77,13 +102,6 @@ numbers_end l i h = ap numbers_of (drop_of_length-le l {i = i} h) ∙ numbers_no
 
 -- ---- bytes in hexadecimal
 
-bytes_front : (l : List ℕ) → 0 < length l → 10 < get_or l 0 0 → bytes_of l ≡ pair_of (get_or l 0 0) (get_or l 1 0) (get_or l 2 0) ∷ bytes_of (drop 3 l)
-unfolding bytes_of
-bytes_front [] h e = absurd (omega (arith, h))
-bytes_front (a ∷ []) h e = rw (lt-leb _ _ e)
-bytes_front (a ∷ b ∷ []) h e = rw (lt-leb _ _ e)
-bytes_front (a ∷ b ∷ c ∷ cs) h e = rw (lt-leb _ _ e)
-
 bytes_low : (l : List ℕ) → get_or l 0 0 ≤ 10 → bytes_of l ≡ []
 unfolding bytes_of
 bytes_low [] e = refl
@@ -91,30 +109,35 @@ bytes_low (a ∷ []) e = rw (le-leb _ _ e)
 bytes_low (a ∷ b ∷ []) e = rw (le-leb _ _ e)
 bytes_low (a ∷ b ∷ c ∷ cs) e = rw (le-leb _ _ e)
 
-next_at : (l : List ℕ) (i : ℕ) → i < length l → 10 < get_or l i 0 →
-    bytes_of (drop i l) ≡ pair_of (get_or l i 0) (get_or l (suc i) 0) (get_or l (suc (suc i)) 0) ∷ bytes_of (drop (suc (suc (suc i))) l)
-next_at [] i h e = absurd (omega (arith, h))
-next_at (x ∷ l) zero h e = bytes_front (x ∷ l) h e
-next_at (x ∷ l) (suc i) h e = next_at l i (omega (arith, h)) e
+pub bytes_none : (l : List ℕ) → length l ≡ 0 → bytes_of l ≡ []
+bytes_none l e = ap bytes_of (nil_from_length l e) ∙ bytes_low [] (omega arith)
 
-pub bytes_next : (l : List ℕ) (i : ℕ) → i < length l → 10 < get_or l i 0 →
-    bytes_of (drop i l) ≡ pair_of (get_or l i 0) (get_or l (i + 1) 0) (get_or l (i + 2) 0) ∷ bytes_of (drop (i + 3) l)
-bytes_next l i h e =
-    let one : suc i ≡ i + 1 = omega arith in
-    let two : suc (suc i) ≡ i + 2 = omega arith in
-    let three : suc (suc (suc i)) ≡ i + 3 = omega arith in
-    next_at l i h e
-    ∙ ap (λ (k : ℕ). pair_of (get_or l i 0) (get_or l k 0) (get_or l (suc (suc i)) 0) ∷ bytes_of (drop (suc (suc (suc i))) l)) one
-    ∙ ap (λ (k : ℕ). pair_of (get_or l i 0) (get_or l (i + 1) 0) (get_or l k 0) ∷ bytes_of (drop (suc (suc (suc i))) l)) two
-    ∙ ap (λ (k : ℕ). pair_of (get_or l i 0) (get_or l (i + 1) 0) (get_or l (i + 2) 0) ∷ bytes_of (drop k l)) three
+-- a piece of three, or of what is left
+pub bytes_piece :
+    (l piece rest : List ℕ) → l ≡ piece ++ rest → length piece ≡ min 3 (length l) → 10 < get_or piece 0 0 →
+    bytes_of l ≡ pair_of (get_or piece 0 0) (get_or piece 1 0) (get_or piece 2 0) ∷ bytes_of rest
+unfolding bytes_of
+bytes_piece l [] rest e n h = absurd (omega (arith, h))
+bytes_piece l (a ∷ []) rest e n h =
+    let size = ap length e in
+    let none : rest ≡ [] = nil_from_length rest (omega (arith, n, size)) in
+    rw (e, none, lt-leb _ _ h)
+bytes_piece l (a ∷ b ∷ []) rest e n h =
+    let size = ap length e in
+    let none : rest ≡ [] = nil_from_length rest (omega (arith, n, size)) in
+    rw (e, none, lt-leb _ _ h)
+bytes_piece l (a ∷ b ∷ c ∷ []) rest e n h = rw (e, lt-leb _ _ h)
+bytes_piece l (a ∷ b ∷ c ∷ d ∷ more) rest e n h = absurd (omega (arith, n))
 
-pub bytes_stop : (l : List ℕ) (i : ℕ) → get_or l i 0 ≤ 10 → bytes_of (drop i l) ≡ []
-bytes_stop l zero e = bytes_low l e
-bytes_stop [] (suc i) e = bytes_low [] e
-bytes_stop (x ∷ l) (suc i) e = bytes_stop l i e
+pub bytes_piece_low : (l piece rest : List ℕ) → l ≡ piece ++ rest → length piece ≡ min 3 (length l) → get_or piece 0 0 ≤ 10 → bytes_of l ≡ []
+bytes_piece_low [] piece rest e n h = bytes_low [] (omega arith)
+bytes_piece_low (x ∷ l) [] rest e n h = absurd (omega (arith, n))
+bytes_piece_low (x ∷ l) (a ∷ piece) rest e n h = ap bytes_of e ∙ bytes_low (a ∷ (piece ++ rest)) h
 
-pub bytes_end : (l : List ℕ) (i : ℕ) → length l ≤ i → bytes_of (drop i l) ≡ []
-bytes_end l i h = ap bytes_of (drop_of_length-le l {i = i} h) ∙ bytes_low [] (omega arith)
+-- a value, or 0 in its place
+pub value_or_zero : (o : Option ℕ) (v t : ℕ) → UnwrapsOrElse o (λ x. x ≡ 0) v → unwrap_or o 0 ≡ t → v ≡ t
+value_or_zero None v t d e = d ∙ e
+value_or_zero (Some x) v t d e = d ∙ e
 
 -- ---- laying values
 

@@ -2,5 +2,6 @@
 // that start with # are passed over. A line that is not as it should be is printed as malformed on standard output.
 #![tactic(auto)]
 
+pub mod printing;
 pub mod script;
 pub mod values;

@@ -1,5 +1,6 @@
 // The values that the words of a line are.
-ghost use Rattle.std.specs.Prelude.{◌+◌, ◌<◌, ◌≡◌, length, get_or, drop, replicate};
+ghost use Rattle.std.specs.Prelude.{◌+◌, ◌<◌, ◌≡◌, length, get_or, replicate, unwrap_or, SomeIff};
+ghost use Rattle.std.specs.Option.{UnwrapsOrElse};
 ghost use Rattle.std.proofs.lemmas.List.Edits.{sets};
 ghost use Rattle.examples_text.specs.Lines.{after_spaces, text};
 ghost use Rattle.examples_text.specs.Values.{byte_room, number_room, digit as digit_of, with_digits, number_of, small_of, settings_of, no_settings, numbers_of, pair_of, bytes_of, fitting};
@@ -13,76 +14,59 @@ pub const ROOM: usize = 4096;
 
 pub const NUMBERS: usize = 64;
 
-// The greatest number of 32 bits.
-const GREATEST: u64 = 4294967295;
-
-// The value of a hexadecimal digit, 16 where a byte is none.
-fn digit(byte: u8) -> u8
-    ensures { result ≡ digit_of byte }
+// The value of a hexadecimal digit.
+#[tactic(auto, unfolding(crate::specs::Values::digit))]
+fn digit(byte: u8) -> Option<u8>
+    ensures { SomeIff result (digit_of byte < 16) (digit_of byte) }
 {
-    if byte < b'0' {
-        return 16;
+    match byte {
+        b'0'..=b'9' => Some(byte - b'0'),
+        b'A'..=b'F' => Some(byte - b'A' + 10),
+        _ => None,
     }
-    if byte <= b'9' {
-        return byte - b'0';
-    }
-    if byte < b'A' {
-        return 16;
-    }
-    if byte <= b'F' {
-        return byte - b'A' + 10;
-    }
-    16
 }
 
-// The number that the decimal digits from a place on are; 0 and a fault said where they are none, too many, or not a whole word.
-fn decimal(line: &[u8; LINE], at: usize) -> u32
-    ensures { result ≡ with_digits 0 (drop at line.now) }
+// The number that the decimal digits up to a word's end are; none where they are none, too many, or not a whole word.
+fn decimal(word: &[u8]) -> Option<u32>
+    ensures { unwrap_or result 0 ≡ with_digits 0 word.now }
 {
-    let bytes: &[u8] = line;
-    if script::byte(bytes, at) <= SPACE {
-        script::malformed(line);
-        return 0;
+    if script::byte(word, 0) <= SPACE {
+        return None;
     }
     let mut value: u32 = 0;
-    let mut i = at;
-    while i < bytes.len() {
-        if bytes[i] <= SPACE {
-            return value;
+    for byte in word {
+        if *byte <= SPACE {
+            return Some(value);
         }
-        let next = digit(bytes[i]);
-        if 9 < next {
-            script::malformed(line);
-            return 0;
-        }
-        let longer = 10 * (value as u64) + next as u64;
-        if GREATEST < longer {
-            script::malformed(line);
-            return 0;
-        }
-        value = longer as u32;
-        i += 1;
+        value = value
+            .checked_mul(10)?
+            .checked_add(char::from(*byte).to_digit(10)?)?;
     }
-    value
+    Some(value)
+}
+
+// A value, or 0 and a fault said.
+fn or_malformed<T: Default + Drop>(line: &[u8; LINE], value: Option<T>) -> T
+    ensures { UnwrapsOrElse value T.is_default result }
+{
+    if value.is_none() {
+        script::malformed(line);
+    }
+    value.unwrap_or_default()
 }
 
 // The number that the k-th word after the first is.
 pub fn number(line: &[u8; LINE], k: usize) -> u32
     ensures { result ≡ number_of line.now k }
 {
-    decimal(line, script::place(line, k))
+    or_malformed(line, decimal(script::after(line, k)))
 }
 
 // The same, up to 255.
 pub fn small(line: &[u8; LINE], k: usize) -> u8
     ensures { result ≡ small_of line.now k }
 {
-    let value = number(line, k);
-    if value < 256 {
-        return value as u8;
-    }
-    script::malformed(line);
-    0
+    or_malformed(line, u8::try_from(number(line, k)).ok())
 }
 
 // The format, the channels, the payload type and the redundancy type that the four words after the first are.
@@ -109,27 +93,17 @@ pub fn no_settings() -> Settings
     }
 }
 
-// The byte of the two hexadecimal digits at a place, which are a whole word.
-fn pair(line: &[u8; LINE], at: usize) -> u8
-    requires { at < length line.now }
-    ensures { result ≡ pair_of (get_or line.now at 0) (get_or line.now (at + 1) 0) (get_or line.now (at + 2) 0) }
+// The byte that a word of two hexadecimal digits is, with what parts it from the next.
+#[tactic(auto, unfolding(crate::specs::Values::pair_of))]
+fn pair(word: &[u8]) -> Option<u8>
+    ensures { unwrap_or result 0 ≡ pair_of (get_or word.now 0 0) (get_or word.now 1 0) (get_or word.now 2 0) }
 {
-    let bytes: &[u8] = line;
-    if SPACE < script::byte(bytes, at + 2) {
-        script::malformed(line);
-        return 0;
+    if SPACE < script::byte(word, 2) {
+        return None;
     }
-    let high = digit(script::byte(bytes, at));
-    if 15 < high {
-        script::malformed(line);
-        return 0;
-    }
-    let low = digit(script::byte(bytes, at + 1));
-    if 15 < low {
-        script::malformed(line);
-        return 0;
-    }
-    16 * high + low
+    let high = digit(script::byte(word, 0))?;
+    let low = digit(script::byte(word, 1))?;
+    Some(16 * high + low)
 }
 
 // Zeros all over.
@@ -145,20 +119,17 @@ pub fn put_bytes(line: &[u8; LINE], k: usize, area: &mut [u8; ROOM], at: usize) 
     ensures value { result ≡ at + length (fitting byte_room at (bytes_of (after_spaces k line.now))) }
     ensures area_after { area.new ≡ sets area.old at (fitting byte_room at (bytes_of (after_spaces k line.now))) }
 {
-    let bytes: &[u8] = line;
     let mut to = at;
-    let mut i = script::place(bytes, k);
-    while i < bytes.len() {
-        if bytes[i] <= NEWLINE {
+    for word in script::after(line, k).chunks(3) {
+        if script::byte(word, 0) <= NEWLINE {
             return to;
         }
         if ROOM <= to {
             script::malformed(line);
             return to;
         }
-        area[to] = pair(line, i);
+        area[to] = or_malformed(line, pair(word));
         to += 1;
-        i += 3;
     }
     to
 }
@@ -168,20 +139,15 @@ pub fn put_text(line: &[u8; LINE], k: usize, area: &mut [u8; ROOM], at: usize) -
     ensures value { result ≡ at + length (fitting byte_room at (text (after_spaces k line.now))) }
     ensures area_after { area.new ≡ sets area.old at (fitting byte_room at (text (after_spaces k line.now))) }
 {
-    let bytes: &[u8] = line;
+    let text = script::text(script::after(line, k));
     let mut to = at;
-    let mut i = script::place(bytes, k);
-    while i < bytes.len() {
-        if bytes[i] <= NEWLINE {
-            return to;
-        }
+    for byte in text {
         if ROOM <= to {
             script::malformed(line);
             return to;
         }
-        area[to] = bytes[i];
+        area[to] = *byte;
         to += 1;
-        i += 1;
     }
     to
 }
@@ -193,17 +159,15 @@ pub fn put_numbers(line: &[u8; LINE], area: &mut [u32; NUMBERS], at: usize) -> u
 {
     let bytes: &[u8] = line;
     let mut to = at;
-    let mut i = 0;
-    while i < bytes.len() {
-        if bytes[i] == SPACE {
+    for (i, byte) in bytes.iter().enumerate() {
+        if *byte == SPACE {
             if NUMBERS <= to {
                 script::malformed(line);
                 return to;
             }
-            area[to] = decimal(line, i + 1);
+            area[to] = or_malformed(line, decimal(&bytes[i + 1..]));
             to += 1;
         }
-        i += 1;
     }
     to
 }

@@ -7,161 +7,103 @@ use rtp::settings::Settings;
 use rtp::sizes::{ROW_AREA, ROW_WIDTH};
 
 // The room for rows, in words: one row more than a packet has.
-pub(crate) const LIST: usize = ROW_AREA + ROW_WIDTH;
+const LIST: usize = ROW_AREA + ROW_WIDTH;
 
-// What is agreed, the mode request, and how many words of rows there are.
-#[derive(Clone, Copy)]
+// What is agreed, the mode request, and the rows: so many words of a room.
+#[derive(Drop)]
 pub(crate) struct Case {
     settings: Settings,
     mode_request: u8,
+    rows: [u32; LIST],
     words: usize,
-}
-
-pub(crate) fn unsettled() -> Case {
-    Case {
-        settings: values::no_settings(),
-        mode_request: 0,
-        words: 0,
-    }
-}
-
-fn agree(case: Case, line: &[u8; LINE]) -> Case {
-    Case {
-        settings: values::settings(line),
-        mode_request: case.mode_request,
-        words: case.words,
-    }
-}
-
-fn request(case: Case, line: &[u8; LINE]) -> Case {
-    let mut next = case;
-    next.mode_request = values::small(line, 1);
-    next
-}
-
-// With so many words of rows.
-fn with_words(case: Case, words: usize) -> Case {
-    let mut next = case;
-    next.words = words;
-    next
-}
-
-fn no_numbers() -> [u32; NUMBERS] {
-    [0; NUMBERS]
-}
-
-pub(crate) fn no_rows() -> [u32; LIST] {
-    [0; LIST]
 }
 
 // The numbers of all words after the first.
 fn numbers_of(line: &[u8; LINE]) -> [u32; NUMBERS] {
-    let mut numbers = no_numbers();
+    let mut numbers = [0; NUMBERS];
     values::put_numbers(line, &mut numbers, 0);
     numbers
 }
 
-// The same laid after the rows' words; answers how many there are then.
-fn put_row(line: &[u8; LINE], rows: &mut [u32; LIST], words: usize) -> usize {
-    let numbers = numbers_of(line);
-    let n = script::count(line);
-    let mut to = words;
-    let mut k = 0;
-    while k < n {
-        if LIST <= to {
+impl Case {
+    pub(crate) fn new() -> Case {
+        Case {
+            settings: values::no_settings(),
+            mode_request: 0,
+            rows: [0; LIST],
+            words: 0,
+        }
+    }
+
+    // The line's numbers laid after the rows' words.
+    fn put_row(&mut self, line: &[u8; LINE]) {
+        let numbers = numbers_of(line);
+        for k in 0..script::count(line) {
+            if LIST <= self.words {
+                script::malformed(line);
+                return;
+            }
+            if let Some(number) = numbers.get(k) {
+                self.rows[self.words] = *number;
+            }
+            self.words += 1;
+        }
+    }
+
+    // The last row once more, so many ticks later.
+    fn repeat_row(&mut self, ticks: u32) {
+        let end = self.words;
+        if end < ROW_WIDTH || LIST - ROW_WIDTH < end {
+            return;
+        }
+        self.rows.copy_within(end - ROW_WIDTH..end, end);
+        self.rows[end] = self.rows[end].wrapping_add(ticks);
+        self.words = end + ROW_WIDTH;
+    }
+
+    // The last row so many times more, each so many ticks after the one before.
+    fn repeat(&mut self, times: u32, ticks: u32) {
+        for _ in 0..times {
+            self.repeat_row(ticks);
+        }
+    }
+
+    fn write_payload(&self) {
+        if let Some(rows) = self.rows.get(..self.words) {
+            example::payload(self.settings, self.mode_request, rows);
+        }
+    }
+
+    // By the line's counts.
+    fn write_packet(&self, line: &[u8; LINE]) {
+        let numbers = numbers_of(line);
+        let counts = numbers.get(..script::count(line));
+        if let (Some(counts), Some(rows)) = (counts, self.rows.get(..self.words)) {
+            example::packet(self.settings, self.mode_request, counts, rows);
+        }
+    }
+
+    pub(crate) fn follow(&mut self, line: &[u8; LINE]) {
+        if script::is_comment(line) {
+            return;
+        }
+        if script::has_from(line, b"case", 1) {
+            script::print_label(line);
+            self.words = 0;
+        } else if script::has_from(line, b"row", 1) {
+            self.put_row(line);
+        } else if script::has(line, b"repeat", 2) {
+            self.repeat(values::number(line, 1), values::number(line, 2));
+        } else if script::has(line, b"settings", 4) {
+            self.settings = values::settings(line);
+        } else if script::has(line, b"request", 1) {
+            self.mode_request = values::small(line, 1);
+        } else if script::has(line, b"payload", 0) {
+            self.write_payload();
+        } else if script::has_from(line, b"packet", 0) {
+            self.write_packet(line);
+        } else {
             script::malformed(line);
-            break;
         }
-        if k < NUMBERS {
-            rows[to] = numbers[k];
-        }
-        to += 1;
-        k += 1;
     }
-    to
-}
-
-// The last row once more, so many ticks later; answers how many words there are then.
-fn repeat_row(rows: &mut [u32; LIST], words: usize, ticks: u32) -> usize {
-    if words < ROW_WIDTH {
-        return words;
-    }
-    if LIST - ROW_WIDTH < words {
-        return words;
-    }
-    rows[words] = std::num::wrapping_add_u32(rows[words - 4], ticks);
-    rows[words + 1] = rows[words - 3];
-    rows[words + 2] = rows[words - 2];
-    rows[words + 3] = rows[words - 1];
-    words + ROW_WIDTH
-}
-
-// The last row so many times more, each so many ticks after the one before.
-fn repeat(rows: &mut [u32; LIST], words: usize, times: u32, ticks: u32) -> usize {
-    let mut reached = words;
-    let mut left = times;
-    while 0 < left {
-        let next = repeat_row(rows, reached, ticks);
-        reached = next;
-        left -= 1;
-    }
-    reached
-}
-
-fn write_packet(case: Case, line: &[u8; LINE], rows: &[u32]) {
-    let counts = numbers_of(line);
-    example::packet_of(
-        case.settings,
-        case.mode_request,
-        &counts,
-        script::count(line),
-        rows,
-        case.words,
-    );
-}
-
-// A line that has the rows written.
-fn write(case: Case, line: &[u8; LINE], rows: &[u32]) {
-    if script::has(line, b"payload", 0) {
-        example::payload(case.settings, case.mode_request, rows, case.words);
-    } else if script::has_from(line, b"packet", 0) {
-        write_packet(case, line, rows);
-    } else {
-        script::malformed(line);
-    }
-}
-
-// A line that adds to the rows.
-fn add(case: Case, line: &[u8; LINE], rows: &mut [u32; LIST]) -> Case {
-    if script::has(line, b"repeat", 2) {
-        let times = values::number(line, 1);
-        let ticks = values::number(line, 2);
-        return with_words(case, repeat(rows, case.words, times, ticks));
-    }
-    with_words(case, put_row(line, rows, case.words))
-}
-
-fn is_added(line: &[u8; LINE]) -> bool {
-    script::has_from(line, b"row", 1) || script::has(line, b"repeat", 2)
-}
-
-pub(crate) fn follow(case: Case, line: &[u8; LINE], rows: &mut [u32; LIST]) -> Case {
-    if script::is_comment(line) {
-        return case;
-    }
-    if script::has_from(line, b"case", 1) {
-        script::print_label(line);
-        return with_words(case, 0);
-    }
-    if is_added(line) {
-        return add(case, line, rows);
-    }
-    if script::has(line, b"settings", 4) {
-        return agree(case, line);
-    }
-    if script::has(line, b"request", 1) {
-        return request(case, line);
-    }
-    write(case, line, rows);
-    case
 }

@@ -1,42 +1,20 @@
 // Lists of frames written and printed.
+use examples_text::printing::print;
 use read_packet::reading;
-use read_packet::reading::{Packet, Reading};
+use read_packet::reading::Packet;
 use row_tags::tagging;
-use rtp::refusal;
-use rtp::settings::{AMR, Settings};
-use rtp::sizes::{MAX_PACKET, MAX_ROWS, ROW_AREA};
+use rtp::payload_format::PayloadFormat;
+use rtp::refusal::Refusal;
+use rtp::settings::Settings;
+use rtp::sizes::{MAX_PACKET, ROW_AREA, ROW_WIDTH};
 use write_packet::packets;
 use write_payload::writing;
-use write_sizes::measuring::Written;
-
-fn print(text: &[u8], value: u32) {
-    io::write_all(1, text);
-    io::print_decimal(1, value as u64);
-}
 
 // The frames' bytes: each its own place modulo 251.
 const FRAME_BYTES: usize = 512;
 
-fn zeros() -> [u8; FRAME_BYTES] {
-    [0; FRAME_BYTES]
-}
-
 fn sound() -> [u8; FRAME_BYTES] {
-    let mut bytes = zeros();
-    let mut i: usize = 0;
-    while i < FRAME_BYTES {
-        bytes[i] = (i % 251) as u8;
-        i += 1;
-    }
-    bytes
-}
-
-fn area() -> [u8; MAX_PACKET] {
-    [0; MAX_PACKET]
-}
-
-fn row_area() -> [u32; ROW_AREA] {
-    [0; ROW_AREA]
+    std::array::from_fn(|i| (i % 251) as u8)
 }
 
 fn print_byte(x: u8) {
@@ -44,78 +22,61 @@ fn print_byte(x: u8) {
 }
 
 fn print_bytes(bytes: &[u8], n: usize) {
-    let mut i: usize = 0;
-    while i < n {
-        if i < bytes.len() {
-            print_byte(bytes[i]);
-        }
-        i += 1;
+    for byte in bytes.iter().take(n) {
+        print_byte(*byte);
     }
     io::write_all(1, b"\n");
 }
 
-// The bytes written, or the refusal.
-fn show(written: Written, bytes: &[u8]) -> usize {
+// The bytes written, or the refusal; answers those bytes.
+fn show(written: Result<usize, Refusal>, bytes: &[u8]) -> Option<&[u8]> {
     match written {
-        Written::Refused(why) => {
-            print(b"refusal ", refusal::refusal_number(why));
+        Err(why) => {
+            print(b"refusal ", u32::from(why));
             io::write_all(1, b"\n");
-            0
+            None
         }
-        Written::Bytes(n) => {
+        Ok(n) => {
             io::print_decimal(1, n as u64);
             io::write_all(1, b" bytes ");
             print_bytes(bytes, n);
-            n
+            bytes.get(..n)
         }
     }
 }
 
-// The first `n` words of the rows written as a payload.
-pub(crate) fn payload(settings: Settings, mode_request: u8, rows: &[u32], n: usize) {
+// The rows written as a payload.
+pub(crate) fn payload(settings: Settings, mode_request: u8, rows: &[u32]) {
     let bytes = sound();
-    let mut out = area();
-    if n <= rows.len() {
-        let written = writing::write_payload(settings, mode_request, &rows[..n], &bytes, &mut out);
-        show(written, &out);
-    }
+    let mut out = [0; MAX_PACKET];
+    let written = writing::write_payload(settings, mode_request, rows, &bytes, &mut out);
+    show(written, &out);
 }
 
 fn print_first(start: u32, packet: &[u8]) {
-    let at = start as usize;
-    if at < packet.len() {
+    if let Some(byte) = packet.get(start as usize) {
         io::write_all(1, b" first byte ");
-        print_byte(packet[at]);
+        print_byte(*byte);
     }
 }
 
-// The words of a row read: time, class, channel, start and length, and whether it was heard first-hand.
-fn print_words(time: u32, tag: u32, start: u32, length: u32) {
-    print(b"row ", time);
-    print(b" ", tagging::tag_class(tag));
-    print(b" ", tagging::tag_channel(tag));
-    print(b" ", start);
-    print(b" ", length);
-    print(b" primary ", tagging::tag_mark(tag));
-}
-
-// The words of a row read, and its first byte.
-fn print_row(rows: &[u32], i: usize, packet: &[u8]) {
-    if i < MAX_ROWS {
-        if 4 * i + 3 < rows.len() {
-            let start = rows[4 * i + 2];
-            print_words(rows[4 * i], rows[4 * i + 1], start, rows[4 * i + 3]);
-            print_first(start, packet);
-            io::write_all(1, b"\n");
-        }
+// The words of a row read: time, class, channel, start and length, and whether it was heard first-hand; and its first byte.
+fn print_row(row: &[u32], packet: &[u8]) {
+    if let [time, tag, start, length] = row {
+        print(b"row ", *time);
+        print(b" ", tagging::tag_class(*tag));
+        print(b" ", tagging::tag_channel(*tag));
+        print(b" ", *start);
+        print(b" ", *length);
+        print(b" primary ", tagging::tag_mark(*tag));
+        print_first(*start, packet);
+        io::write_all(1, b"\n");
     }
 }
 
 fn print_rows(rows: &[u32], count: u32, packet: &[u8]) {
-    let mut i = 0;
-    while i < count {
-        print_row(rows, i as usize, packet);
-        i += 1;
+    for row in rows.chunks(ROW_WIDTH).take(count as usize) {
+        print_row(row, packet);
     }
 }
 
@@ -126,21 +87,21 @@ fn print_head(format: u8, head: Packet) {
     print(b" sequence ", head.sequence as u32);
     print(b" timestamp ", head.timestamp);
     print(b" source ", head.source);
-    if AMR <= format {
+    if let Ok(PayloadFormat::Amr | PayloadFormat::AmrWb) = PayloadFormat::try_from(format) {
         print(b" mode request ", head.mode_request as u32);
     }
     io::write_all(1, b"\n");
 }
 
 fn read_back(settings: Settings, packet: &[u8]) {
-    let mut rows = row_area();
+    let mut rows = [0; ROW_AREA];
     match reading::read(settings, packet, &mut rows) {
-        Reading::Refused(fault) => {
+        Err(fault) => {
             let why = fault.refusal;
-            print(b"read back: refusal ", refusal::refusal_number(why));
+            print(b"read back: refusal ", u32::from(why));
             io::write_all(1, b"\n");
         }
-        Reading::Read(head) => {
+        Ok(head) => {
             print_head(settings.format, head);
             print_rows(&rows, head.rows, packet);
         }
@@ -148,9 +109,9 @@ fn read_back(settings: Settings, packet: &[u8]) {
 }
 
 // The same as a packet with marker 1, sequence 65244 and source 2712847316, read back.
-fn packet(settings: Settings, mode_request: u8, counts: &[u32], rows: &[u32]) {
+pub(crate) fn packet(settings: Settings, mode_request: u8, counts: &[u32], rows: &[u32]) {
     let bytes = sound();
-    let mut out = area();
+    let mut out = [0; MAX_PACKET];
     let written = packets::write_packet(
         settings,
         mode_request,
@@ -162,26 +123,7 @@ fn packet(settings: Settings, mode_request: u8, counts: &[u32], rows: &[u32]) {
         &bytes,
         &mut out,
     );
-    let n = show(written, &out);
-    if 0 < n {
-        if n <= out.len() {
-            read_back(settings, &out[..n]);
-        }
-    }
-}
-
-// The first `n` words of the rows, by the first `k` counts.
-pub(crate) fn packet_of(
-    settings: Settings,
-    mode_request: u8,
-    counts: &[u32],
-    k: usize,
-    rows: &[u32],
-    n: usize,
-) {
-    if k <= counts.len() {
-        if n <= rows.len() {
-            packet(settings, mode_request, &counts[..k], &rows[..n]);
-        }
+    if let Some(packet) = show(written, &out) {
+        read_back(settings, packet);
     }
 }

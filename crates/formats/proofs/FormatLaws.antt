@@ -1,17 +1,19 @@
 -- Laws of the formats: each is proved once, at every row of `format_of`.
-use mathlib.Core.Path.{◌≡◌, refl, subst}
+use mathlib.Core.Path.{◌≡◌, refl, sym, subst}
+use Rattle.std.specs.Prelude.{None, Option, Some}
 use mathlib.Core.Bool.{Bool, true, false, cond}
 use Prim.Native.Nat.{ℕ, ◌+◌, ◌*◌, ◌/◌, ◌%◌, ◌≤◌, ◌<◌}
 use native.Mathlib.Omega.{arith}
 use lib.Dec.{T, eqb, leb}
 use lib.ListN.{get_or-eq_default}
 use borrow.Author.Tests.{leb-true, le-ltb, ne_eqb}
+use Rattle.rtp.specs.declared.payload_format.PayloadFormat.{PayloadFormat}
+use Rattle.rtp.specs.PayloadFormats.{format_number}
 use Rattle.rtp.specs.Ranges.{g719, g719_interleaved, gsm_hr, amr, amr_wb}
 use Rattle.rtp.specs.Sizes.{max_frame}
 use Rattle.rtp.proofs.TestLaws.{by-test}
 use Rattle.formats.specs.declared.facts.Format.{Format}
 use Rattle.formats.specs.declared.frames.Frame.{Frame}
-use Rattle.formats.specs.declared.frames.Coded.{Coded}
 use Rattle.formats.specs.Formats.{no_code, g719_format, gsm_format, amr_format, amr_wb_format, no_format, format_of, step_of, max_gap}
 use Rattle.formats.specs.Frames.{max_class, reserved, g719_length, amr_lengths, amr_length, amr_wb_lengths, amr_wb_length, length_in, type_of, frame_in, frame_of}
 use Rattle.formats.specs.Room.{InTable}
@@ -26,6 +28,18 @@ each P g h a w n format =
     (λ e2. by-test (eqb format gsm_hr) (λ e3. rw (e1, e2, e3) h)
     (λ e3. by-test (eqb format amr) (λ e4. rw (e1, e2, e3, e4) a)
     (λ e4. by-test (eqb format amr_wb) (λ e5. rw (e1, e2, e3, e4, e5) w) (λ e5. rw (e1, e2, e3, e4, e5) n)))))
+
+-- what no format's number is has the facts of none
+pub unknown_format : (n : ℕ) → ((format : PayloadFormat) → format_number format ≡ n → ⊥) → format_of n ≡ no_format
+unfolding format_of
+unknown_format n none =
+    rw (
+      ne_eqb n g719 (λ e. none PayloadFormat.G719 (sym e)),
+      ne_eqb n g719_interleaved (λ e. none PayloadFormat.G719Interleaved (sym e)),
+      ne_eqb n gsm_hr (λ e. none PayloadFormat.GsmHr (sym e)),
+      ne_eqb n amr (λ e. none PayloadFormat.Amr (sym e)),
+      ne_eqb n amr_wb (λ e. none PayloadFormat.AmrWb (sym e)),
+    )
 
 -- a frame-block's ticks: none has more than G.719's
 abbrev pub max_step : ℕ
@@ -71,10 +85,10 @@ in_table format code =
     each (λ f. code < f.codes → InTable f.table (type_of f.graded code)) (λ b h. h) (λ h. tt) (λ h. omega arith) (λ h. omega arith) (λ h. tt) format
 
 -- and no code past its codes stands for a frame
-pub beyond : (format code : ℕ) → (format_of format).codes ≤ code → frame_of format code ≡ Coded.Reserved
+pub beyond : (format code : ℕ) → (format_of format).codes ≤ code → frame_of format code ≡ None
 unfolding frame_in length_in g719_length amr_length amr_wb_length
 beyond format code =
-    each (λ f. f.codes ≤ code → frame_in f code ≡ Coded.Reserved)
+    each (λ f. f.codes ≤ code → frame_in f code ≡ None)
     (λ b h. rw (ne_eqb code 0 (λ e. absurd (omega arith)), le-ltb code 8 (omega arith), le-ltb code 23 (omega arith), le-ltb code 28 (omega arith)))
     (λ h. rw (ne_eqb code 0 (λ e. absurd (omega arith)), ne_eqb code 2 (λ e. absurd (omega arith)), ne_eqb code 7 (λ e. absurd (omega arith))))
     (λ h. rw (ne_eqb (code / 2) 15 (λ e. absurd (omega arith)), get_or-eq_default amr_lengths reserved {n = code / 2} (omega arith)))
@@ -87,15 +101,15 @@ pub record Small (f : Frame) : Type 0 where
   pub short : f.length ≤ max_frame
 
 -- a rule on class and length that every frame of a format keeps, computed at each of its codes
-abbrev kept : (ℕ → ℕ → Bool) → Coded → Bool
-kept p Coded.Reserved = true
-kept p (Coded.Frame g) = p g.class g.length
+abbrev kept : (ℕ → ℕ → Bool) → Option Frame → Bool
+kept p None = true
+kept p (Some g) = p g.class g.length
 
 abbrev pub keeps : Format → (ℕ → ℕ → Bool) → Bool
 keeps f p = all_below (λ k. kept p (frame_in f k)) f.codes
 
-pub keeps_at : (f : Format) (p : ℕ → ℕ → Bool) → T (keeps f p) → (code : ℕ) → code < f.codes → (g : Frame) → frame_in f code ≡ Coded.Frame g → T (p g.class g.length)
-keeps_at f p t code h g e = subst (λ (c : Coded). T (kept p c)) e (at (λ k. kept p (frame_in f k)) f.codes t code h)
+pub keeps_at : (f : Format) (p : ℕ → ℕ → Bool) → T (keeps f p) → (code : ℕ) → code < f.codes → (g : Frame) → frame_in f code ≡ Some g → T (p g.class g.length)
+keeps_at f p t code h g e = subst (λ (c : Option Frame). T (kept p c)) e (at (λ k. kept p (frame_in f k)) f.codes t code h)
 
 abbrev pub small_frame : ℕ → ℕ → Bool
 small_frame class n = cond (leb class max_class) (leb n max_frame) false
@@ -110,5 +124,5 @@ pub small_all : (format : ℕ) → T (keeps (format_of format) small_frame)
 unfolding frame_in length_in g719_length amr_length amr_wb_length
 small_all = each (λ f. T (keeps f small_frame)) (λ b. tt) tt tt tt tt
 
-pub small_frame_lem : (format code : ℕ) (g : Frame) → code < (format_of format).codes → frame_of format code ≡ Coded.Frame g → Small g
+pub small_frame_lem : (format code : ℕ) (g : Frame) → code < (format_of format).codes → frame_of format code ≡ Some g → Small g
 small_frame_lem format code g h e = small_is g.class g.length (keeps_at (format_of format) small_frame (small_all format) code h g e)

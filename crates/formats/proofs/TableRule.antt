@@ -1,11 +1,11 @@
 -- A rule proved at all numbers below a bound, or at all entries of a table, by one computation.
-use mathlib.Core.Path.{◌≡◌, ap, sym, subst, ◌∙◌}
+use mathlib.Core.Path.{◌≡◌, refl, ap, sym, subst, ◌∙◌}
 use mathlib.Core.List.{List, [], ◌∷◌}
 use mathlib.Core.Bool.{Bool, true, false}
 use Prim.Native.Nat.{ℕ, zero, suc, ◌+◌, ◌<◌}
 use native.Mathlib.Omega.{arith}
-use lib.Dec.{T, ltb, eqb, ltb→lt}
-use lib.ListN.{get_or}
+use lib.Dec.{T, eqb}
+use lib.ListN.{get_or, length}
 use borrow.Author.Tests.{eqb-true, eqb-false}
 use Rattle.rtp.proofs.TestLaws.{by-test}
 
@@ -38,15 +38,15 @@ abbrev pub entries : (ℕ → ℕ) → ℕ → ℕ → List ℕ
 entries rule i zero = []
 entries rule i (suc n) = rule i ∷ entries rule (suc i) n
 
-entry_from : (rule : ℕ → ℕ) (i n k : ℕ) → k < n → get_or (entries rule i n) k 0 ≡ rule (i + k)
-entry_from rule i zero k h = absurd (omega arith)
-entry_from rule i (suc n) zero h = ap rule (omega arith)
-entry_from rule i (suc n) (suc k) h = entry_from rule (suc i) n k (omega arith) ∙ ap rule (omega arith)
+entry_from : (rule : ℕ → ℕ) (i n k d : ℕ) → k < n → get_or (entries rule i n) k d ≡ rule (i + k)
+entry_from rule i zero k d h = absurd (omega arith)
+entry_from rule i (suc n) zero d h = ap rule (omega arith)
+entry_from rule i (suc n) (suc k) d h = entry_from rule (suc i) n k d (omega arith) ∙ ap rule (omega arith)
 
--- so a table that is computed to these entries keeps the rule at each of them
-pub entry : (rule : ℕ → ℕ) (n k : ℕ) → k < n → get_or (entries rule 0 n) k 0 ≡ rule k
-entry rule n k h = entry_from rule 0 n k h ∙ ap rule (omega arith)
+-- so a table that is computed to these entries keeps the rule at each of them, whatever is read past its end
+pub entry : (rule : ℕ → ℕ) (n k d : ℕ) → k < n → get_or (entries rule 0 n) k d ≡ rule k
+entry rule n k d h = entry_from rule 0 n k d h ∙ ap rule (omega arith)
 
--- and fits in 16 bits there where the rule does at each
-pub entry_fits : (rule : ℕ → ℕ) (n k : ℕ) → T (all_below (λ i. ltb (rule i) 65536) n) → k < n → get_or (entries rule 0 n) k 0 < 65536
-entry_fits rule n k t h = subst (λ (m : ℕ). m < 65536) (sym (entry rule n k h)) (ltb→lt (rule k) 65536 (at (λ i. ltb (rule i) 65536) n t k h))
+pub entries_length : (rule : ℕ → ℕ) (i n : ℕ) → length (entries rule i n) ≡ n
+entries_length rule i zero = refl
+entries_length rule i (suc n) = ap suc (entries_length rule (suc i) n)

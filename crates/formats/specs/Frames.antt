@@ -1,10 +1,10 @@
 -- Document 01, "G.719 tables of contents" and "GSM-HR tables", and document 02, P1: frame codes, classes and lengths.
-use Rattle.std.specs.Prelude.{ℕ, ◌+◌, ◌-◌, ◌*◌, ◌/◌, ◌%◌, ◌≡◌, ◌⊎◌, Bool, cond, List, [], ◌∷◌, get_or, ltb, eqb}
+use Rattle.std.specs.Prelude.{ℕ, ◌+◌, ◌-◌, ◌*◌, ◌/◌, ◌%◌, ◌≡◌, ◌⊎◌, Bool, cond, List, [], ◌∷◌, get_or, ltb, eqb, None, Option, Some}
+use Rattle.formats.specs.declared.frames.Frame.{Frame}
 use Rattle.rtp.specs.Refusals.{number}
 use Rattle.rtp.specs.declared.refusal.Refusal.TheVariants.{ReservedCode}
 use Rattle.formats.specs.declared.facts.Format.{Format}
 use Rattle.formats.specs.declared.facts.FrameTable.{FrameTable}
-use Rattle.formats.specs.declared.frames.Coded.{Coded}
 use Rattle.formats.specs.Formats.{format_of}
 pub use Rattle.formats.specs.Formats.{step_of}
 
@@ -89,21 +89,21 @@ abbrev pub good_class : ℕ → ℕ → ℕ
 good_class sidType type = cond (eqb type sidType) sid sound
 
 -- a frame of a class and a length
-abbrev pub frame : ℕ → ℕ → Coded
-frame class length = Coded.Frame (record { class = class; length = length })
+abbrev pub frame : ℕ → ℕ → Option Frame
+frame class length = Some (record { class = class; length = length })
 
 -- a code of a class and a length: a reserved one, no data whatever its quality bit, or a frame
-abbrev pub coded_frame : ℕ → ℕ → Coded
-coded_frame class length = cond (eqb length reserved) Coded.Reserved (cond (eqb length 0) (frame no_data 0) (frame class length))
+abbrev pub coded_frame : ℕ → ℕ → Option Frame
+coded_frame class length = cond (eqb length reserved) None (cond (eqb length 0) (frame no_data 0) (frame class length))
 
 -- the frame of a code
-unfoldable pub frame_in : Format → ℕ → Coded
+unfoldable pub frame_in : Format → ℕ → Option Frame
 frame_in f code =
     coded_frame
     (damage_of f.graded code + good_class f.sid (type_of f.graded code))
     (length_in f.table (type_of f.graded code))
 
-abbrev pub frame_of : ℕ → ℕ → Coded
+abbrev pub frame_of : ℕ → ℕ → Option Frame
 frame_of format code = frame_in (format_of format) code
 
 -- The answer in numbers: 0, or the refusal number of a reserved code; then class and length, 0 of a reserved code
@@ -112,6 +112,6 @@ pub record CodedNumbers : Type 0 where
   pub class : ℕ
   pub length : ℕ
 
-abbrev pub coded_numbers : Coded → CodedNumbers
-coded_numbers Coded.Reserved = record { refusal = number ReservedCode; class = 0; length = 0 }
-coded_numbers (Coded.Frame f) = record { refusal = 0; class = f.class; length = f.length }
+abbrev pub coded_numbers : Option Frame → CodedNumbers
+coded_numbers None = record { refusal = number ReservedCode; class = 0; length = 0 }
+coded_numbers (Some f) = record { refusal = 0; class = f.class; length = f.length }

@@ -1,11 +1,12 @@
 // What each format is. No other module tests a format's number.
 ghost use Rattle.std.specs.Prelude.{◌≡◌};
+ghost use Rattle.rtp.specs.PayloadFormats.{format_number};
 ghost use Rattle.formats.specs.Formats.{g719_format, graded_format, format_of};
 
-use rtp::settings::{AMR, AMR_WB, G719, G719_INTERLEAVED, GSM_HR};
+use rtp::payload_format::PayloadFormat;
 
 // The frame tables; an empty one has reserved codes only.
-#[derive(Clone, Copy)]
+#[derive(Clone, Copy, Debug, PartialEq, Eq)]
 pub enum FrameTable {
     G719,
     GsmHr,
@@ -17,7 +18,7 @@ pub enum FrameTable {
 // The bytes before the table of contents; the ticks of a frame-block; the weight of the code's lowest bit in an entry's first byte, and the number of codes; whether an entry's second byte
 // counts frame-blocks, which then join in runs, or it is one frame-block; whether it has a displacement for each frame-block; whether the code's lowest bit is a quality bit below the frame
 // type, or the code is the type; the type that is a SID.
-#[derive(Clone, Copy)]
+#[derive(Clone, Copy, Debug, PartialEq, Eq)]
 pub struct Format {
     pub header: usize,
     pub step: u32,
@@ -76,18 +77,15 @@ fn graded_format(step: u32, sid: usize, table: FrameTable) -> Format
     }
 }
 
-// The format of a number. What is no format has no frames.
-pub fn format_of(format: u8) -> Format
-    ensures { result ≡ format_of format }
+// What a format is.
+#[tactic(auto, unfolding(crate::specs::Formats::format_of))]
+fn known_format(format: PayloadFormat) -> Format
+    ensures { result ≡ format_of (format_number format) }
 {
-    if format == G719 {
-        return g719_format(false);
-    }
-    if format == G719_INTERLEAVED {
-        return g719_format(true);
-    }
-    if format == GSM_HR {
-        return Format {
+    match format {
+        PayloadFormat::G719 => g719_format(false),
+        PayloadFormat::G719Interleaved => g719_format(true),
+        PayloadFormat::GsmHr => Format {
             header: 0,
             step: 160,
             unit: 16,
@@ -97,23 +95,28 @@ pub fn format_of(format: u8) -> Format
             graded: false,
             sid: 2,
             table: FrameTable::GsmHr,
-        };
+        },
+        PayloadFormat::Amr => graded_format(160, AMR_SID, FrameTable::Amr),
+        PayloadFormat::AmrWb => graded_format(320, AMR_WB_SID, FrameTable::AmrWb),
     }
-    if format == AMR {
-        return graded_format(160, AMR_SID, FrameTable::Amr);
-    }
-    if format == AMR_WB {
-        return graded_format(320, AMR_WB_SID, FrameTable::AmrWb);
-    }
-    Format {
-        header: 0,
-        step: 1,
-        unit: 128,
-        codes: 1,
-        counted: false,
-        displaced: false,
-        graded: false,
-        sid: NO_SID,
-        table: FrameTable::Empty,
+}
+
+// The format of a number. What is no format has no frames.
+pub fn format_of(format: u8) -> Format
+    ensures { result ≡ format_of format }
+{
+    match PayloadFormat::try_from(format) {
+        Ok(format) => known_format(format),
+        Err(_) => Format {
+            header: 0,
+            step: 1,
+            unit: 128,
+            codes: 1,
+            counted: false,
+            displaced: false,
+            graded: false,
+            sid: NO_SID,
+            table: FrameTable::Empty,
+        },
     }
 }

@@ -1,10 +1,11 @@
 // Frame tables: class and length of the frames of each format, and its step.
 ghost use Rattle.std.specs.Prelude.{◌≡◌, ◌<◌, ◌≤◌};
-ghost use Rattle.formats.specs.Frames.{step_of, damaged, g719_length, length_in, type_of, damage_of, frame_of, coded_numbers};
+ghost use Rattle.formats.specs.Frames.{step_of, damaged, good_class, length_in, type_of, damage_of, frame_of, coded_numbers};
 ghost use Rattle.formats.specs.Room.{InTable};
 
+use crate::amr::{AMR_LENGTHS, AMR_WB_LENGTHS};
+use crate::facts;
 use crate::facts::FrameTable;
-use crate::{amr, facts};
 
 // Frame classes: no data, sound, and a description of silence (SID).
 pub const NO_DATA: usize = 0;
@@ -32,39 +33,22 @@ const G719_LENGTHS: [u16; 32] = [
 // The bytes of a GSM-HR frame.
 pub const GSM_HR_FRAME: usize = 14;
 
-#[derive(Clone, Copy)]
+// What a code in a table of contents stands for.
+#[derive(Clone, Copy, Debug, PartialEq, Eq)]
 pub struct Frame {
     pub class: usize,
     pub length: usize,
 }
 
-// What a code in a table of contents stands for.
-#[derive(Clone, Copy)]
-pub enum Coded {
-    Frame(Frame),
-    Reserved,
-}
-
-fn g719_length(code: usize) -> usize
-    requires { code < 32 }
-    ensures { result ≡ g719_length code }
+#[tactic(auto, unfolding(crate::specs::Frames::length_in))]
+fn gsm_hr_length(kind: usize) -> usize
+    ensures { result ≡ length_in FrameTable.GsmHr kind }
 {
-    G719_LENGTHS[code] as usize
-}
-
-fn gsm_hr_length(code: usize) -> usize
-    ensures { result ≡ length_in FrameTable.GsmHr code }
-{
-    if code == 0 {
-        return GSM_HR_FRAME;
+    match kind {
+        0 | 2 => GSM_HR_FRAME,
+        7 => 0,
+        _ => RESERVED,
     }
-    if code == 2 {
-        return GSM_HR_FRAME;
-    }
-    if code == 7 {
-        return 0;
-    }
-    RESERVED
 }
 
 // The length of a frame type in a frame table.
@@ -73,10 +57,10 @@ fn length_in(table: FrameTable, kind: usize) -> usize
     ensures { result ≡ length_in table kind }
 {
     match table {
-        FrameTable::G719 => g719_length(kind),
+        FrameTable::G719 => usize::from(G719_LENGTHS[kind]),
         FrameTable::GsmHr => gsm_hr_length(kind),
-        FrameTable::Amr => amr::amr_length(kind),
-        FrameTable::AmrWb => amr::amr_wb_length(kind),
+        FrameTable::Amr => usize::from(AMR_LENGTHS[kind]),
+        FrameTable::AmrWb => usize::from(AMR_WB_LENGTHS[kind]),
         FrameTable::Empty => RESERVED,
     }
 }
@@ -85,53 +69,44 @@ fn length_in(table: FrameTable, kind: usize) -> usize
 fn type_of(graded: bool, code: usize) -> usize
     ensures { result ≡ type_of graded code }
 {
-    if graded {
-        return code / 2;
-    }
-    code
+    if graded { code / 2 } else { code }
 }
 
 // What a damaged frame's class has more: in a graded format a frame is damaged where the quality bit is 0.
 fn damage_of(graded: bool, code: usize) -> usize
     ensures { (result ≡ damage_of graded code) × (result ≤ damaged) }
 {
-    if graded {
-        if code % 2 == 0 {
-            return DAMAGED;
-        }
-    }
-    0
+    if graded && code % 2 == 0 { DAMAGED } else { 0 }
 }
 
-// The frame that a code of a format stands for.
-pub fn frame_of(format: u8, code: usize) -> Coded
+// The class of a good frame of a type that has bytes, where `sid` is the type that is a SID.
+pub fn good_class(sid: usize, kind: usize) -> usize
+    ensures { (result ≡ good_class sid kind) × (result ≤ 2) }
+{
+    if kind == sid { SID } else { SOUND }
+}
+
+// The frame that a code of a format stands for; none where the code is reserved.
+pub fn frame_of(format: u8, code: usize) -> Option<Frame>
     ensures { coded_numbers result ≡ coded_numbers (frame_of format code) }
 {
     let facts = facts::format_of(format);
     if facts.codes <= code {
-        return Coded::Reserved;
+        return None;
     }
-    let table = facts.table;
     let kind = type_of(facts.graded, code);
-    let length = length_in(table, kind);
+    let length = length_in(facts.table, kind);
     if length == RESERVED {
-        return Coded::Reserved;
+        return None;
     }
     if length == 0 {
-        return Coded::Frame(Frame {
+        return Some(Frame {
             class: NO_DATA,
-            length: 0,
-        });
-    }
-    let damage = damage_of(facts.graded, code);
-    if kind == facts.sid {
-        return Coded::Frame(Frame {
-            class: damage + SID,
             length,
         });
     }
-    Coded::Frame(Frame {
-        class: damage + SOUND,
+    Some(Frame {
+        class: damage_of(facts.graded, code) + good_class(facts.sid, kind),
         length,
     })
 }

@@ -1,17 +1,19 @@
 -- Laws of the codes of AMR and AMR-WB, as the code finds them: by one test at every class and length.
-use mathlib.Core.Path.{◌≡◌, refl, sym, ◌∙◌}
+use mathlib.Core.Path.{◌≡◌, refl, sym, ap, ◌∙◌}
 use mathlib.Core.Bool.{Bool, true, false, cond}
-use Prim.Native.Nat.{ℕ, zero, suc, ◌/◌, ◌%◌, ◌^◌, ◌≤◌, ◌<◌}
+use Prim.Native.Nat.{ℕ, suc, ◌/◌, ◌%◌, ◌^◌, ◌≤◌, ◌<◌, zero}
 use native.Mathlib.Omega.{arith}
 use lib.Dec.{T, eqb, ltb, leb, eqb→eq}
-use borrow.Author.Tests.{ne_eqb, le-leb, lt-leb, le-ltb, ltb-true, ltb-false, leb-true, leb-false}
+use mathlib.Core.List.{List}
+use lib.ListN.{get_or, get_or-eq_default}
+use borrow.Author.Tests.{ne_eqb, lt-leb, le-ltb, ltb-true, ltb-false, leb-true, leb-false, le-leb}
 use Rattle.rtp.proofs.TestLaws.{by-test}
 use Rattle.formats.specs.declared.facts.Format.{Format}
 use Rattle.formats.specs.declared.facts.FrameTable.{FrameTable}
 use Rattle.formats.specs.Formats.{no_code, amr_format, amr_wb_format, format_of}
-use Rattle.formats.specs.Frames.{no_data, no_data_type, sound, sid, damaged_sound, damaged_sid, max_class, amr_length, amr_wb_length, length_in, good_class, frame_in}
-use Rattle.frame_codes.specs.Codes.{code_below, highest_code, code_for, NoDataCodes, amr_longest, amr_wb_longest, no_type, type_below, type_for, graded_code, sid_bits, length_bits, has_length, sound_bits, table_code}
-use Rattle.formats.proofs.TableRule.{all_below, at}
+use Rattle.formats.specs.Frames.{no_data, no_data_type, sound, sid, damaged_sound, damaged_sid, max_class, amr_length, amr_wb_length, length_in, frame_in}
+use Rattle.frame_codes.specs.Codes.{code_below, highest_code, code_for, NoDataCodes, amr_longest, amr_wb_longest, no_type, type_below, type_for, graded_code, length_bits, has_length, sound_bits, table_code, sid_bits}
+use Rattle.formats.proofs.TableRule.{all_below, at, entries, entry, entries_length}
 use Rattle.formats.proofs.FormatLaws.{keeps}
 use Rattle.frame_codes.proofs.CodeLaws.{none}
 
@@ -25,9 +27,10 @@ no_class s t class h =
     (λ d. rw (a, b, d, ne_eqb class sid (λ e. absurd (omega arith)), ne_eqb class damaged_sid (λ e. absurd (omega arith))))
     (λ d. rw (a, b, d, ne_eqb class sound (λ e. absurd (omega arith)), ne_eqb class damaged_sound (λ e. absurd (omega arith))))))
 
--- a good frame's class is that of sound or a SID
-pub good_small : (s t : ℕ) → good_class s t ≤ sid
-good_small s t = by-test (eqb t s) (λ a. rw a (omega arith)) (λ a. rw a (omega arith))
+-- nor has what is no type, whatever the class
+pub no_kind : (s t class : ℕ) → t ≡ no_type → graded_code s t class ≡ no_code
+unfolding graded_code
+no_kind s t class h = rw h
 
 abbrev ruled : ℕ → ℕ → ℕ → Bool
 ruled longest class n = cond (leb class max_class) (leb n longest) false
@@ -47,25 +50,25 @@ module _ (f : Format) (longest : ℕ) (k : T (keeps f (ruled longest))) (few : f
       eqb→eq _ _ (at (right f class) (suc longest) (at (λ c. all_below (right f c) (suc longest)) (suc max_class) t class (omega arith)) n (omega arith)))
       (λ a. no_class f.sid (type_for f.table n) class (leb-false class max_class a) ∙ none f class n (ruled longest) k few (rw a))
 
-  past : longest < n → no_code ≡ highest_code f class n
-  past h = none f class n (ruled longest) k few (by-test (leb class max_class) (λ a. rw (a, lt-leb n longest h)) (λ a. rw a))
+  -- the code by the highest type of each length
+  by_length : T (rights f longest) → graded_code f.sid (get_or (entries (type_for f.table) 0 (suc longest)) n no_type) class ≡ highest_code f class n
+  by_length t =
+      let types : List ℕ = entries (type_for f.table) 0 (suc longest) in
+      by-test (leb n longest)
+      (λ a. let h = leb-true n longest a in
+      ap (λ (k : ℕ). graded_code f.sid k class) (entry (type_for f.table) (suc longest) n no_type (omega arith)) ∙ within t h)
+      (λ a. let h = leb-false n longest a in
+      ap (λ (k : ℕ). graded_code f.sid k class) (get_or-eq_default types no_type {n = n} (omega (arith, entries_length (type_for f.table) 0 (suc longest), h)))
+      ∙ no_kind f.sid no_type class refl
+      ∙ none f class n (ruled longest) k few (by-test (leb class max_class) (λ b. rw (b, a)) (λ b. rw b)))
 
-module _ (class n : ℕ) where
-  pub amr_code : n ≤ amr_longest → graded_code amr_format.sid (type_for FrameTable.Amr n) class ≡ highest_code amr_format class n
-  unfolding right code_below frame_in length_in amr_length type_below graded_code
-  amr_code = within amr_format amr_longest tt (omega arith) class n tt
+pub amr_code : (class n : ℕ) → graded_code amr_format.sid (get_or (entries (type_for FrameTable.Amr) 0 (suc amr_longest)) n no_type) class ≡ highest_code amr_format class n
+unfolding right code_below frame_in length_in amr_length type_below graded_code
+amr_code class n = by_length amr_format amr_longest tt (omega arith) class n tt
 
-  pub amr_past : amr_longest < n → no_code ≡ highest_code amr_format class n
-  unfolding frame_in length_in amr_length
-  amr_past = past amr_format amr_longest tt (omega arith) class n
-
-  pub amr_wb_code : n ≤ amr_wb_longest → graded_code amr_wb_format.sid (type_for FrameTable.AmrWb n) class ≡ highest_code amr_wb_format class n
-  unfolding right code_below frame_in length_in amr_wb_length type_below graded_code
-  amr_wb_code = within amr_wb_format amr_wb_longest tt (omega arith) class n tt
-
-  pub amr_wb_past : amr_wb_longest < n → no_code ≡ highest_code amr_wb_format class n
-  unfolding frame_in length_in amr_wb_length
-  amr_wb_past = past amr_wb_format amr_wb_longest tt (omega arith) class n
+pub amr_wb_code : (class n : ℕ) → graded_code amr_wb_format.sid (get_or (entries (type_for FrameTable.AmrWb) 0 (suc amr_wb_longest)) n no_type) class ≡ highest_code amr_wb_format class n
+unfolding right code_below frame_in length_in amr_wb_length type_below graded_code
+amr_wb_code class n = by_length amr_wb_format amr_wb_longest tt (omega arith) class n tt
 
 -- Whether there is a code
 

@@ -1,31 +1,32 @@
 -- Laws of frame codes: a code that is found stands for its frame, and where a code does, one is found.
 use mathlib.Core.Path.{◌≡◌, refl, sym, subst, ◌∙◌}
+use Rattle.std.specs.Prelude.{None, Option, Some}
+use Rattle.formats.specs.declared.frames.Frame.{Frame}
 use mathlib.Core.Bool.{Bool, true, false, cond}
 use Prim.Native.Nat.{ℕ, zero, suc, ◌+◌, ◌/◌, ◌%◌, ◌≤◌, ◌<◌}
 use native.Mathlib.Omega.{arith}
 use lib.Dec.{T, ltb, leb, eqb, eqb→eq}
-use borrow.Author.Tests.{lt-ltb, le-ltb, lt-leb, eq-eqb, ltb-true, ltb-false, leb-true, leb-false, eqb-true, eqb-false}
+use borrow.Author.Tests.{lt-ltb, le-ltb, lt-leb, eq-eqb, ne_eqb, ltb-true, ltb-false, leb-true, leb-false, eqb-true, eqb-false}
 use Rattle.rtp.specs.Sizes.{max_frame}
 use Rattle.rtp.proofs.TestLaws.{by-test, not-both, both}
 use Rattle.formats.specs.declared.facts.Format.{Format}
 use Rattle.formats.specs.declared.facts.FrameTable.{FrameTable}
-use Rattle.formats.specs.declared.frames.Coded.{Coded}
 use Rattle.formats.specs.Formats.{no_code, g719_format, gsm_format, format_of}
 use Rattle.formats.specs.Frames.{no_data, sound, sid, g719_length, gsm_length, length_in, frame, frame_in, frame_of}
 use Rattle.frame_codes.specs.Codes.{is_frame, code_below, highest_code, code_for, table_code}
 use Rattle.formats.proofs.TableRule.{all_below, at}
 use Rattle.formats.proofs.FormatLaws.{each, code_placed, Small, keeps, keeps_at, small_frame, small_is, small_all}
 
-frame_is : (class n : ℕ) (c : Coded) → is_frame class n c ≡ true → c ≡ frame class n
-frame_is class n Coded.Reserved h = not-both false h refl
-frame_is class n (Coded.Frame f) h =
+frame_is : (class n : ℕ) (c : Option Frame) → is_frame class n c ≡ true → c ≡ frame class n
+frame_is class n None h = not-both false h refl
+frame_is class n (Some f) h =
     by-test (eqb f.class class)
     (λ a. by-test (eqb f.length n)
-    (λ b. let p = eqb-true _ _ a in let q = eqb-true _ _ b in λ j. Coded.Frame (record { class = p j; length = q j }))
+    (λ b. let p = eqb-true _ _ a in let q = eqb-true _ _ b in λ j. Some (record { class = p j; length = q j }))
     (λ b. not-both false (rw (a, b) at h) refl))
     (λ a. not-both false (rw a at h) refl)
 
-is_frame_lem : (class n : ℕ) (c : Coded) → c ≡ frame class n → is_frame class n c ≡ true
+is_frame_lem : (class n : ℕ) (c : Option Frame) → c ≡ frame class n → is_frame class n c ≡ true
 is_frame_lem class n c h = rw h (rw (eq-eqb class class refl, eq-eqb n n refl))
 
 -- The search
@@ -92,7 +93,7 @@ module _ (format class n : ℕ) where
 
 -- the lengths of G.719's sound, and their codes
 unfoldable pub is_length : ℕ → Bool
-is_length n = cond (ltb n 80) false (cond (leb n 220) (eqb (n % 10) 0) (cond (leb n max_frame) (eqb (n % 20) 0) false))
+is_length n = cond (leb n 220) (cond (leb 80 n) (eqb (n % 10) 0) false) (cond (leb n max_frame) (eqb (n % 20) 0) false)
 
 unfoldable pub sound_code : ℕ → ℕ
 sound_code n = cond (leb n 220) (n / 10) (n / 20 + 11)
@@ -108,6 +109,13 @@ pub g719_no_data : ◌≡◌ {A = ℕ} 0 (highest_code (g719_format false) 0 0)
 unfolding code_below frame_in length_in g719_length
 g719_no_data = refl
 
+pub g719_not : (class n : ℕ) → (class ≡ no_data → n ≡ 0 → ⊥) → (class ≡ sound → ⊥) → no_code ≡ highest_code (g719_format false) class n
+g719_not class n a b =
+    g719_none class n
+    (by-test (eqb class no_data)
+    (λ e. rw (e, ne_eqb n 0 (λ z. a (eqb-true class no_data e) z)))
+    (λ e. rw (e, ne_eqb class sound b)))
+
 -- by one test at every length
 right : ℕ → Bool
 right n = eqb (cond (is_length n) (sound_code n) no_code) (highest_code (g719_format false) sound n)
@@ -119,9 +127,7 @@ right_all = tt
 no_longer : (n : ℕ) → max_frame < n → is_length n ≡ false
 unfolding is_length
 no_longer n h =
-    let a : 80 ≤ n = omega arith in
-    let b : 220 < n = omega arith in
-    rw (le-ltb n 80 a, lt-leb n 220 b, lt-leb n max_frame h)
+    let b : 220 < n = omega arith in rw (lt-leb n 220 b, lt-leb n max_frame h)
 
 pub sound_code_lem : (n : ℕ) → cond (is_length n) (sound_code n) no_code ≡ highest_code (g719_format false) sound n
 unfolding right
@@ -170,6 +176,20 @@ gsm_rule class n = cond (eqb class no_data) (eqb n 0) (cond (eqb n gsm_length) (
 pub gsm_none : (class n : ℕ) → gsm_rule class n ≡ false → no_code ≡ highest_code gsm_format class n
 unfolding frame_in length_in
 gsm_none class n h = none gsm_format class n gsm_rule tt (omega arith) h
+
+pub gsm_not : (class n : ℕ) → (class ≡ no_data → n ≡ 0 → ⊥) → (class ≡ sound → n ≡ gsm_length → ⊥) → (class ≡ sid → n ≡ gsm_length → ⊥) → no_code ≡ highest_code gsm_format class n
+gsm_not class n a b d =
+    gsm_none class n
+    (by-test (eqb class no_data)
+    (λ e. rw (e, ne_eqb n 0 (λ z. a (eqb-true class no_data e) z)))
+    (λ e. by-test (eqb n gsm_length)
+    (λ f. let x = eqb-false class no_data e in
+    let y = eqb-true n gsm_length f in
+    let p : class ≡ sound → ⊥ = λ z. b z y in
+    let q : class ≡ sid → ⊥ = λ z. d z y in
+    let h : sid < class = omega (arith, x, p, q) in
+    rw (e, f, lt-leb class sid h))
+    (λ f. rw (e, f))))
 
 pub gsm_codes : (◌≡◌ {A = ℕ} 7 (highest_code gsm_format 0 0)) × (◌≡◌ {A = ℕ} 0 (highest_code gsm_format 1 gsm_length)) × (◌≡◌ {A = ℕ} 2 (highest_code gsm_format 2 gsm_length))
 unfolding code_below frame_in length_in

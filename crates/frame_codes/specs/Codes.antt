@@ -1,17 +1,22 @@
 -- Frame codes for writing: the inverse of a format's frame table.
-use Rattle.std.specs.Prelude.{◌≡◌, ℕ, zero, suc, ◌+◌, ◌*◌, ◌/◌, ◌%◌, ◌^◌, Bool, false, cond, ltb, eqb}
+use Rattle.std.specs.Prelude.{◌≡◌, ℕ, zero, suc, ◌+◌, ◌*◌, ◌/◌, ◌%◌, ◌^◌, Bool, false, cond, ltb, eqb, None, Option, Some}
+use Rattle.formats.specs.declared.frames.Frame.{Frame}
 use Rattle.rtp.specs.Ranges.{amr, amr_wb}
 use Rattle.formats.specs.declared.facts.Format.{Format}
 use Rattle.formats.specs.declared.facts.FrameTable.{FrameTable}
-use Rattle.formats.specs.declared.frames.Coded.{Coded}
 use Rattle.formats.specs.Formats.{g719_format, gsm_format, amr_format, amr_wb_format, format_of}
 use Rattle.formats.specs.Frames.{no_data, no_data_type, sound, sid, damaged, damaged_sound, damaged_sid, length_in, good_class, frame_in}
 pub use Rattle.formats.specs.Formats.{no_code}
 
+-- a code that was found, or no code
+abbrev pub code_or_none : Option ℕ → ℕ
+code_or_none None = no_code
+code_or_none (Some code) = code
+
 -- a code stands for a frame of this class and length
-abbrev pub is_frame : ℕ → ℕ → Coded → Bool
-is_frame class n Coded.Reserved = false
-is_frame class n (Coded.Frame f) = cond (eqb f.class class) (eqb f.length n) false
+abbrev pub is_frame : ℕ → ℕ → Option Frame → Bool
+is_frame class n None = false
+is_frame class n (Some f) = cond (eqb f.class class) (eqb f.length n) false
 
 -- the highest code below k that stands for a frame of this class and length, or none
 unfoldable pub code_below : Format → ℕ → ℕ → ℕ → ℕ

@@ -1,18 +1,11 @@
 // The codes of AMR and AMR-WB (RFC 4867), found by length.
-ghost use Rattle.std.specs.Prelude.{◌≡◌, ◌≤◌};
-ghost use Rattle.formats.specs.declared.facts.FrameTable.{FrameTable};
+ghost use Rattle.std.specs.Prelude.{◌≡◌, get_or};
 ghost use Rattle.formats.specs.Formats.{amr_format, amr_wb_format};
-ghost use Rattle.formats.specs.Frames.{good_class};
-ghost use Rattle.frame_codes.specs.Codes.{amr_longest, amr_wb_longest, type_for, graded_code, highest_code, length_bits, has_length, sound_bits};
+ghost use Rattle.frame_codes.specs.Codes.{no_type, code_or_none, graded_code, highest_code, length_bits, has_length, sound_bits};
 
-use crate::coding::NO_CODE;
 use formats::facts::{AMR_SID, AMR_WB_SID, FrameTable};
+use formats::frames;
 use formats::frames::DAMAGED;
-
-// The bytes of the longest frames.
-const AMR_LONGEST: u32 = 31;
-
-const AMR_WB_LONGEST: u32 = 60;
 
 // No type: a length that the format has not. And the highest type that is no data.
 const NO_TYPE: u8 = 16;
@@ -31,70 +24,46 @@ const AMR_WB_TYPES: [u8; 61] = [
     16, 6, 16, 16, 16, 16, 16, 16, 16, 7, 16, 8,
 ];
 
-fn amr_type(n: usize) -> u8
-    requires { n ≤ amr_longest }
-    ensures { result ≡ type_for FrameTable.Amr n }
-{
-    AMR_TYPES[n]
-}
-
-fn amr_wb_type(n: usize) -> u8
-    requires { n ≤ amr_wb_longest }
-    ensures { result ≡ type_for FrameTable.AmrWb n }
-{
-    AMR_WB_TYPES[n]
-}
-
-// The class of a good frame of a type that has bytes, where `sid` is the type that is a SID.
-fn good_class(sid: u8, kind: u8) -> u32
-    ensures { result ≡ good_class sid kind }
-{
-    if kind == sid {
-        return 2;
-    }
-    1
-}
-
 // The code of a frame type and a class: the type above the quality bit, which no data has set.
-fn graded_code(sid: u8, kind: u8, class: u32) -> u32
-    ensures { result ≡ graded_code sid kind class }
+fn graded_code(sid: usize, kind: u8, class: u32) -> Option<u32>
+    ensures { code_or_none result ≡ graded_code sid kind class }
 {
     if kind == NO_TYPE {
-        return NO_CODE;
+        return None;
     }
     if kind == NO_DATA_TYPE {
-        if class == 0 {
-            return 31;
-        }
-        return NO_CODE;
+        return if class == 0 { Some(31) } else { None };
     }
-    let good = good_class(sid, kind);
+    let good = frames::good_class(sid, usize::from(kind)) as u32;
     if class == good {
-        return 2 * (kind as u32) + 1;
+        return Some(2 * u32::from(kind) + 1);
     }
     if class == good + (DAMAGED as u32) {
-        return 2 * (kind as u32);
+        return Some(2 * u32::from(kind));
     }
-    NO_CODE
+    None
 }
 
-// The code of a class and a length, which is that of one type at most.
-pub(crate) fn amr_code(class: u32, n: u32) -> u32
-    ensures { result ≡ highest_code amr_format class n }
+// The code of a class and a length, which is that of one type at most; `types` has the highest type of each length.
+fn code_by_length(types: &[u8], sid: usize, class: u32, n: u32) -> Option<u32>
+    ensures { code_or_none result ≡ graded_code sid (get_or types.now n no_type) class }
 {
-    if n <= AMR_LONGEST {
-        return graded_code(AMR_SID as u8, amr_type(n as usize), class);
+    match types.get(n as usize) {
+        Some(kind) => graded_code(sid, *kind, class),
+        None => None,
     }
-    NO_CODE
 }
 
-pub(crate) fn amr_wb_code(class: u32, n: u32) -> u32
-    ensures { result ≡ highest_code amr_wb_format class n }
+pub(crate) fn amr_code(class: u32, n: u32) -> Option<u32>
+    ensures { code_or_none result ≡ highest_code amr_format class n }
 {
-    if n <= AMR_WB_LONGEST {
-        return graded_code(AMR_WB_SID as u8, amr_wb_type(n as usize), class);
-    }
-    NO_CODE
+    code_by_length(&AMR_TYPES, AMR_SID, class, n)
+}
+
+pub(crate) fn amr_wb_code(class: u32, n: u32) -> Option<u32>
+    ensures { code_or_none result ≡ highest_code amr_wb_format class n }
+{
+    code_by_length(&AMR_WB_TYPES, AMR_WB_SID, class, n)
 }
 
 // The lengths of a class as the bits of a word, so that a frame is asked for without a table.
@@ -127,14 +96,11 @@ fn length_bits(sounds: u64, class: u32) -> u64
     0
 }
 
+#[tactic(auto, unfolding(crate::specs::Codes::has_length))]
 pub(crate) fn has_length(sounds: u64, class: u32, n: u32) -> bool
     ensures { result ≡ has_length sounds class n }
 {
-    if n < 64 {
-        let shifted = length_bits(sounds, class) >> n;
-        return shifted % 2 == 1;
-    }
-    false
+    n < 64 && (length_bits(sounds, class) >> n) % 2 == 1
 }
 
 // The word of sound of a table, 0 where it is not that of AMR or AMR-WB.

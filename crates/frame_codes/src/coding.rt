@@ -2,7 +2,7 @@
 ghost use Rattle.std.specs.Prelude.{◌≡◌, false, ltb};
 ghost use Rattle.formats.specs.Formats.{g719_format, gsm_format};
 ghost use Rattle.formats.specs.Frames.{sound};
-ghost use Rattle.frame_codes.specs.Codes.{no_code, highest_code, table_code, code_for};
+ghost use Rattle.frame_codes.specs.Codes.{no_code, code_or_none, highest_code, table_code, code_for};
 ghost use Rattle.frame_codes.specs.Allowed.{allowed_in, allowed};
 
 use crate::amr_codes;
@@ -14,81 +14,77 @@ use rtp::sizes::MAX_FRAME;
 // No code: a class and a length that the format has not.
 pub const NO_CODE: u32 = 32;
 
+// The bytes of the longest frame of G.719, and of every frame of GSM-HR.
+const LONGEST: u32 = MAX_FRAME as u32;
+
+const GSM_HR_LENGTH: u32 = GSM_HR_FRAME as u32;
+
 // Whether sound of G.719 has this length: from 80 bytes in tens, from 240 in twenties.
 fn is_length(n: u32) -> bool
     ensures { result ≡ ltb (highest_code (g719_format false) sound n) no_code }
 {
-    if n < 80 {
-        return false;
-    }
     if n <= 220 {
-        return n % 10 == 0;
+        80 <= n && n % 10 == 0
+    } else {
+        n <= LONGEST && n % 20 == 0
     }
-    if n <= (MAX_FRAME as u32) {
-        return n % 20 == 0;
-    }
-    false
 }
 
 // Its code.
-fn length_code(n: u32) -> u32
-    ensures { result ≡ highest_code (g719_format false) sound n }
+fn length_code(n: u32) -> Option<u32>
+    ensures { code_or_none result ≡ highest_code (g719_format false) sound n }
 {
-    if is_length(n) {
-        if n <= 220 {
-            return n / 10;
-        }
-        return n / 20 + 11;
+    if !is_length(n) {
+        None
+    } else if n <= 220 {
+        Some(n / 10)
+    } else {
+        Some(n / 20 + 11)
     }
-    NO_CODE
 }
 
-fn g719_code(class: u32, n: u32) -> u32
-    ensures { result ≡ highest_code (g719_format false) class n }
+fn g719_code(class: u32, n: u32) -> Option<u32>
+    ensures { code_or_none result ≡ highest_code (g719_format false) class n }
 {
-    if class == 0 {
-        if n == 0 {
-            return 0;
-        }
-        return NO_CODE;
+    match (class, n) {
+        (0, 0) => Some(0),
+        (1, _) => length_code(n),
+        _ => None,
     }
-    if class == 1 {
-        return length_code(n);
-    }
-    NO_CODE
 }
 
-fn gsm_hr_code(class: u32, n: u32) -> u32
-    ensures { result ≡ highest_code gsm_format class n }
+fn gsm_hr_code(class: u32, n: u32) -> Option<u32>
+    ensures { code_or_none result ≡ highest_code gsm_format class n }
 {
-    if class == 0 {
-        if n == 0 {
-            return 7;
-        }
-        return NO_CODE;
+    match (class, n) {
+        (0, 0) => Some(7),
+        (1, GSM_HR_LENGTH) => Some(0),
+        (2, GSM_HR_LENGTH) => Some(2),
+        _ => None,
     }
-    if n == (GSM_HR_FRAME as u32) {
-        if class == 1 {
-            return 0;
-        }
-        if class == 2 {
-            return 2;
-        }
-    }
-    NO_CODE
 }
 
-// The code of a class and a length.
-pub fn code_for(format: u8, class: u32, n: u32) -> u32
-    ensures { result ≡ code_for format class n }
+// The code of a class and a length in a frame table.
+fn table_code(table: FrameTable, class: u32, n: u32) -> Option<u32>
+    ensures { code_or_none result ≡ table_code table class n }
 {
-    let table = facts::format_of(format).table;
     match table {
         FrameTable::G719 => g719_code(class, n),
         FrameTable::GsmHr => gsm_hr_code(class, n),
         FrameTable::Amr => amr_codes::amr_code(class, n),
         FrameTable::AmrWb => amr_codes::amr_wb_code(class, n),
-        FrameTable::Empty => NO_CODE,
+        FrameTable::Empty => None,
+    }
+}
+
+// .. in a format.
+pub fn code_for(format: u8, class: u32, n: u32) -> u32
+    ensures { result ≡ code_for format class n }
+{
+    let table = facts::format_of(format).table;
+    match table_code(table, class, n) {
+        Some(code) => code,
+        None => NO_CODE,
     }
 }
 
@@ -96,24 +92,20 @@ fn has_g719(class: u32, n: u32) -> bool
     ensures { result ≡ ltb (highest_code (g719_format false) class n) no_code }
 {
     if class == 0 {
-        return n == 0;
+        n == 0
+    } else {
+        class == 1 && is_length(n)
     }
-    if class == 1 {
-        return is_length(n);
-    }
-    false
 }
 
 fn has_gsm_hr(class: u32, n: u32) -> bool
     ensures { result ≡ ltb (highest_code gsm_format class n) no_code }
 {
     if class == 0 {
-        return n == 0;
+        n == 0
+    } else {
+        n == GSM_HR_LENGTH && class <= 2
     }
-    if n == (GSM_HR_FRAME as u32) {
-        return class <= 2;
-    }
-    false
 }
 
 // Whether a class and a length have a code in a frame table. It is asked of each held entry, so it finds none, and asks both tables of AMR
@@ -146,10 +138,7 @@ pub fn has_code(format: u8, class: u32, n: u32) -> bool
 pub fn is_allowed(table: FrameTable, class: u32, length: u32) -> bool
     ensures { result ≡ allowed_in table class length }
 {
-    if class == (NO_DATA as u32) {
-        return false;
-    }
-    table_has(table, class, length)
+    class != (NO_DATA as u32) && table_has(table, class, length)
 }
 
 // .. under a format.

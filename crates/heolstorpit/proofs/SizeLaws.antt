@@ -22,7 +22,8 @@ use Rattle.write_sizes.proofs.RequestLaws.{asked}
 use Rattle.write_payload.proofs.WritingLaws.{in_range_some}
 use Rattle.write_parts.specs.Parts.{Parts, no_parts, parts_of, primary_time, parts, counts_fit}
 use Rattle.write_packet.specs.Packets.{body_bytes, packet_type, redundancy_missing, within_packet, assembled_from, assembled, sending}
-use Rattle.write_parts.specs.Headings.{Heading, header_bytes}
+use Rattle.write_parts.specs.Headings.{header_bytes}
+use Rattle.write_parts.specs.declared.headers.Heading.{Heading}
 
 abbrev Short : ℕ → Encoded → Type 0
 Short m (no_bytes r) = Unit {0}

@@ -1,5 +1,9 @@
 -- Logs and readers of different editions: they differ in the channels that they allow alone.
 use mathlib.Core.Path.{◌≡◌, refl, sym, ap, subst, ◌∙◌}
+use Rattle.std.specs.Prelude.{Err, None, Ok, Option, Result, Some}
+use Rattle.log_walk.specs.declared.frames.Shown.{Shown}
+use Rattle.rtp.specs.declared.refusal.Refusal.{Refusal}
+use Rattle.rtp.specs.declared.refusal.Fault.{Fault}
 use mathlib.Core.List.{List}
 use mathlib.Core.Bool.{true, cond}
 use Prim.Native.Nat.{ℕ, zero, suc, ◌<◌, ◌≤◌}
@@ -15,8 +19,6 @@ use Rattle.rtp.proofs.RangeLaws.{more_in_range, more_out_of_range}
 use Rattle.log_fields.specs.declared.fields.Field.{Field}
 use Rattle.log_fields.specs.Fields.{settings_tag, settings_size, field_of, settings_in}
 use Rattle.log_walk.specs.declared.opening.Cursor.{Cursor}
-use Rattle.log_walk.specs.declared.opening.OpenAnswer.{OpenAnswer}
-use Rattle.log_walk.specs.declared.stepping.StepAnswer.{StepAnswer}
 use Rattle.log_walk.specs.Opening.{settings_field, opened_by, opening, opened_cursor}
 use Rattle.log_walk.specs.Stepping.{step, cursor_after}
 use Rattle.log_claims.specs.Logs.{shows, opened, unopened, read_log}
@@ -26,15 +28,15 @@ use Rattle.log_claims.proofs.ReadingTheorem.{reading_is_exact}
 use Rattle.log_claims.proofs.RoundTripTheorem.{round_trip}
 
 -- what one edition opens another opens if it has the channels
-open_asks : (a b : Edition) (log : List ℕ) (st : Settings) → opening b log ≡ OpenAnswer.Opened st
-    → opening a log ≡ cond (in_range a st) (OpenAnswer.Opened st) (OpenAnswer.Refused NotAllowed)
+open_asks : (a b : Edition) (log : List ℕ) (st : Settings) → opening b log ≡ Ok st
+    → opening a log ≡ cond (in_range a st) (Ok st) (Err NotAllowed)
 unfolding opening settings_field
 open_asks a b log st = go (field_of log)
   where
-    same : (x : Settings) → OpenAnswer.Opened x ≡ OpenAnswer.Opened st → x ≡ st
+    same : (x : Settings) → ◌≡◌ {A = Result Settings Refusal} (Ok x) (Ok st) → x ≡ st
     same x e = cc
 
-    go : (f : Field) → opened_by b log f ≡ OpenAnswer.Opened st → opened_by a log f ≡ cond (in_range a st) (OpenAnswer.Opened st) (OpenAnswer.Refused NotAllowed)
+    go : (f : Field) → opened_by b log f ≡ Ok st → opened_by a log f ≡ cond (in_range a st) (Ok st) (Err NotAllowed)
     go Field.Stopped e = let z : ◌≡◌ {A = ℕ} 0 1 = cc in absurd (omega arith)
     go (Field.Cut tag) e =
         by-test (eqb tag settings_tag)
@@ -52,10 +54,10 @@ open_asks a b log st = go (field_of log)
         (λ t. let y = rw t at e in let z : ◌≡◌ {A = ℕ} 0 1 = cc in absurd (omega arith))
 
 -- settings that were opened are in range
-opened_ranged : (a : Edition) (log : List ℕ) (st : Settings) → opening a log ≡ OpenAnswer.Opened st → in_range a st ≡ true
+opened_ranged : (a : Edition) (log : List ℕ) (st : Settings) → opening a log ≡ Ok st → in_range a st ≡ true
 opened_ranged a log st h =
     by-test (in_range a st) (λ r. r)
-    (λ r. let y : OpenAnswer.Opened st ≡ OpenAnswer.Refused NotAllowed = sym h ∙ open_asks a a log st h ∙ rw r in let z : ◌≡◌ {A = ℕ} 0 1 = cc in absurd (omega arith))
+    (λ r. let y : ◌≡◌ {A = Result Settings Refusal} (Ok st) (Err NotAllowed) = sym h ∙ open_asks a a log st h ∙ rw r in let z : ◌≡◌ {A = ℕ} 0 1 = cc in absurd (omega arith))
 
 pub steps_alike : StepsAlike
 unfolding step
@@ -67,26 +69,26 @@ unfolding steps_by
 steps_same a b l zero log c r = refl
 steps_same a b l (suc k) log c r = rw (steps_alike a b l log c r) (go (step a c log) (λ d q. steps_same a b l k log d q))
   where
-    go : (x : StepAnswer) → ((d : Cursor) → in_range a d.settings ≡ true → steps_by b k log d ≡ steps_by a k log d)
+    go : (x : Result (Option Shown) Fault) → ((d : Cursor) → in_range a d.settings ≡ true → steps_by b k log d ≡ steps_by a k log d)
         → stepped (λ d. steps_by b k log d) log c x ≡ stepped (λ d. steps_by a k log d) log c x
-    go (StepAnswer.Frame f) ih = ap (shows (part_of log f)) (ih (cursor_after c (StepAnswer.Frame f)) r)
-    go StepAnswer.End ih = refl
-    go (StepAnswer.Refused f) ih = refl
+    go (Ok (Some f)) ih = ap (shows (part_of log f)) (ih (cursor_after c (Ok (Some f))) r)
+    go (Ok None) ih = refl
+    go (Err f) ih = refl
 
 walked_alike : (a b : Edition) → most_channels a ≤ most_channels b → (log : List ℕ) (st : Settings) → in_range a st ≡ true
-    → walked b log (OpenAnswer.Opened st) ≡ walked a log (OpenAnswer.Opened st)
-walked_alike a b l log st r = ap (opened st) (steps_same a b l (suc (length log)) log (opened_cursor (OpenAnswer.Opened st)) r)
+    → walked b log (Ok st) ≡ walked a log (Ok st)
+walked_alike a b l log st r = ap (opened st) (steps_same a b l (suc (length log)) log (opened_cursor (Ok st)) r)
 
 pub opens_alike : OpensAlike
 opens_alike a b l log st h =
     let r = opened_ranged a log st h in
-    let q : opening b log ≡ OpenAnswer.Opened st = open_asks b a log st h ∙ rw (more_in_range a b st l r) in
+    let q : opening b log ≡ Ok st = open_asks b a log st h ∙ rw (more_in_range a b st l r) in
     (q ∙ sym h, sym (reading_is_exact b log) ∙ ap (walked b log) q ∙ walked_alike a b l log st r ∙ ap (walked a log) (sym h) ∙ reading_is_exact a log)
 
 pub refuses_more : RefusesMore
 unfolding step in_range
 refuses_more a b log st h l =
-    let q : opening a log ≡ OpenAnswer.Refused NotAllowed = open_asks a b log st h ∙ rw (more_out_of_range a st l) in
+    let q : opening a log ≡ Err NotAllowed = open_asks a b log st h ∙ rw (more_out_of_range a st l) in
     (q, sym (reading_is_exact a log) ∙ ap (walked a log) q, rw q)
 
 pub shows_none : ShowsNone
@@ -96,11 +98,11 @@ shows_none a log c l = rw (more_out_of_range a c.settings l)
 pub refuses_written : RefusesWritten
 refuses_written a b st ws bytes area p words h l = go (opening b p) refl
   where
-    go : (x : OpenAnswer) → opening b p ≡ x → read_log a p ≡ unopened 19
-    go (OpenAnswer.Refused r) e =
+    go : (x : Result Settings Refusal) → opening b p ≡ x → read_log a p ≡ unopened 19
+    go (Err r) e =
         let y = sym (ap (walked b p) e) ∙ reading_is_exact b p ∙ round_trip b st ws bytes area p words h in
         let z : ◌≡◌ {A = ℕ} 0 1 = cc in absurd (omega arith)
-    go (OpenAnswer.Opened s) e =
+    go (Ok s) e =
         let y = sym (ap (walked b p) e) ∙ reading_is_exact b p ∙ round_trip b st ws bytes area p words h in
         let q : s ≡ st = cc in
         (refuses_more a b p s e (subst (λ (x : Settings). most_channels a < x.channels) (sym q) l)).1

@@ -1,5 +1,8 @@
 -- No step leaves the log.
 use mathlib.Core.Path.{◌≡◌, subst}
+use Rattle.std.specs.Prelude.{Err, None, Ok, Option, Result, Some}
+use Rattle.log_walk.specs.declared.frames.Shown.{Shown}
+use Rattle.rtp.specs.declared.refusal.Fault.{Fault}
 use mathlib.Core.List.{List}
 use mathlib.Core.Bool.{true}
 use Prim.Native.Nat.{ℕ, ◌+◌, ◌-◌}
@@ -11,24 +14,23 @@ use Rattle.rtp.specs.Ranges.{in_range}
 use Rattle.rtp.proofs.TestLaws.{by-test}
 use Rattle.log_fields.specs.Fields.{first_size}
 use Rattle.log_walk.specs.declared.opening.Cursor.{Cursor}
-use Rattle.log_walk.specs.declared.stepping.StepAnswer.{StepAnswer}
 use Rattle.log_walk.specs.Stepping.{further, walk, cursor_fits, step}
 use Rattle.log_walk.proofs.WalkLaws.{Inside, behind_inside, walk_inside, fits_is, shown_inside}
 use Rattle.log_claims.specs.Claims.{StepsStayInside, FaultsStayInside, FrameIsShown}
 
 -- a frame is shown to a record that fits, under settings in range
-abbrev Ready : Edition → Cursor → ℕ → StepAnswer → Type 0
-Ready ed c l (StepAnswer.Frame f) = (in_range ed c.settings ≡ true) × (cursor_fits c l ≡ true)
-Ready ed c l StepAnswer.End = Unit {0}
-Ready ed c l (StepAnswer.Refused f) = Unit {0}
+abbrev Ready : Edition → Cursor → ℕ → Result (Option Shown) Fault → Type 0
+Ready ed c l (Ok (Some f)) = (in_range ed c.settings ≡ true) × (cursor_fits c l ≡ true)
+Ready ed c l (Ok None) = Unit {0}
+Ready ed c l (Err f) = Unit {0}
 
-ready_both : (ed : Edition) (c : Cursor) (l : ℕ) (a : StepAnswer) → in_range ed c.settings ≡ true → cursor_fits c l ≡ true → Ready ed c l a
-ready_both ed c l (StepAnswer.Frame f) r h = (r, h)
-ready_both ed c l StepAnswer.End r h = tt
-ready_both ed c l (StepAnswer.Refused f) r h = tt
+ready_both : (ed : Edition) (c : Cursor) (l : ℕ) (a : Result (Option Shown) Fault) → in_range ed c.settings ≡ true → cursor_fits c l ≡ true → Ready ed c l a
+ready_both ed c l (Ok (Some f)) r h = (r, h)
+ready_both ed c l (Ok None) r h = tt
+ready_both ed c l (Err f) r h = tt
 
 -- so an answer lies inside the log
-record Answers (ed : Edition) (c : Cursor) (log : List ℕ) (a : StepAnswer) : Type 0 where
+record Answers (ed : Edition) (c : Cursor) (log : List ℕ) (a : Result (Option Shown) Fault) : Type 0 where
   ready : Ready ed c (length log) a
   inside : Inside (length log) a
 

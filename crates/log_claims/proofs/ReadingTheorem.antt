@@ -1,5 +1,8 @@
 -- Opening a log and stepping through it gives what the log means.
 use mathlib.Core.Path.{◌≡◌, refl, ap, ap₂, sym, ◌∙◌}
+use Rattle.std.specs.Prelude.{Err, None, Ok, Option, Result, Some}
+use Rattle.log_walk.specs.declared.frames.Shown.{Shown}
+use Rattle.rtp.specs.declared.refusal.Fault.{Fault}
 use mathlib.Core.List.{List}
 use mathlib.Core.Bool.{true}
 use Prim.Native.Nat.{ℕ, zero, suc, ◌+◌, ◌≤◌, ◌<◌}
@@ -14,8 +17,6 @@ use Rattle.rtp.proofs.TestLaws.{by-test}
 use Rattle.log_fields.specs.declared.fields.Field.{Field}
 use Rattle.log_fields.specs.Fields.{settings_tag, settings_size, head_size, first_size, field_of, settings_in}
 use Rattle.log_walk.specs.declared.opening.Cursor.{Cursor}
-use Rattle.log_walk.specs.declared.opening.OpenAnswer.{OpenAnswer}
-use Rattle.log_walk.specs.declared.stepping.StepAnswer.{StepAnswer}
 use Rattle.log_walk.specs.Opening.{settings_field, opened_by, opening, opened_cursor}
 use Rattle.log_walk.specs.Stepping.{further, walk, step}
 use Rattle.log_claims.specs.Logs.{fields_of, shows, read_on, opened, settled, read_fields, read_log}
@@ -43,23 +44,23 @@ steps_read ed (suc k) log c f h =
     rw (step_walks ed log c f)
     (go (walk c.settings c.count (drop c.place log)) (agrees c.settings c.count (drop c.place log)) (λ d g l. steps_read ed k log d g l))
   where
-    go : (a : StepAnswer) → Agrees c.settings c.count (drop c.place log) a
+    go : (a : Result (Option Shown) Fault) → Agrees c.settings c.count (drop c.place log) a
         → ((d : Cursor) → Fit ed log d → length log < d.place + k → steps_by ed k log d ≡ read_on d.settings d.count (fields_of (drop d.place log)))
         → stepped (λ d. steps_by ed k log d) log c (further c.place a) ≡ read_on c.settings c.count (fields_of (drop c.place log))
-    go (StepAnswer.Frame x) (low, high, r) ih =
+    go (Ok (Some x)) (low, high, r) ih =
         let d : Cursor = record { settings = c.settings; place = c.place + x.start + x.length; count = c.count + 1 } in
         let l : c.place + x.start + x.length ≤ length log = omega (arith, length-drop c.place log, f.inside) in
         let g : Fit ed log d = record { ranged = f.ranged; behind = omega (arith, f.behind); inside = l; counted = omega (arith, f.counted) } in
         let e = ap (λ (t : List ℕ). read_on c.settings (c.count + 1) (fields_of t)) (rest_moved c.place log x) in
         ap₂ shows (sym (part_moved c.place log x)) (ih d g (omega arith) ∙ sym e) ∙ sym r
-    go StepAnswer.End a ih = sym a
-    go (StepAnswer.Refused x) a ih = sym a
+    go (Ok None) a ih = sym a
+    go (Err x) a ih = sym a
 
 -- an opened log
 opened_reads : (ed : Edition) (log : List ℕ) (st : Settings) → in_range ed st ≡ true → first_size ≤ length log
-    → steps_by ed (suc (length log)) log (opened_cursor (OpenAnswer.Opened st)) ≡ read_on st 0 (fields_of (drop first_size log))
+    → steps_by ed (suc (length log)) log (opened_cursor (Ok st)) ≡ read_on st 0 (fields_of (drop first_size log))
 opened_reads ed log st i h =
-    steps_read ed (suc (length log)) log (opened_cursor (OpenAnswer.Opened st)) (record { ranged = i; behind = omega arith; inside = h; counted = omega arith }) (omega arith)
+    steps_read ed (suc (length log)) log (opened_cursor (Ok st)) (record { ranged = i; behind = omega arith; inside = h; counted = omega arith }) (omega arith)
 
 settings_read : (ed : Edition) (log : List ℕ) (n : ℕ) → head_size + n ≤ length log → walked ed log (settings_field ed log n) ≡ settled ed (content log n) (fields_of (drop (head_size + n) log))
 unfolding settings_field settled

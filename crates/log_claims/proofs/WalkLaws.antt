@@ -1,5 +1,7 @@
 -- A walk to the next frame agrees with what the fields mean.
 use mathlib.Core.Path.{◌≡◌, refl, ap, ap₂, ◌∙◌}
+use Rattle.std.specs.Prelude.{Err, None, Ok, Option, Result, Some}
+use Rattle.rtp.specs.declared.refusal.Fault.{Fault}
 use mathlib.Core.List.{List}
 use mathlib.Core.Bool.{cond}
 use Prim.Native.Nat.{ℕ, zero, suc, ◌+◌, ◌-◌, ◌≤◌, ◌<◌}
@@ -17,7 +19,6 @@ use Rattle.log_fields.specs.declared.fields.FieldHead.{FieldHead}
 use Rattle.log_fields.specs.Fields.{settings_tag, frame_tag, end_tag, head_size, frame_head, end_size, field_of, field_size, frame_fits}
 use Rattle.log_walk.specs.declared.frames.Shown.{Shown}
 use Rattle.log_walk.specs.declared.frames.Next.{Next}
-use Rattle.log_walk.specs.declared.stepping.StepAnswer.{StepAnswer}
 use Rattle.log_walk.specs.Stepping.{frame_field, end_field, next_by, next_field, further, onward, walk_by, walk}
 use Rattle.log_claims.specs.Logs.{fields_of, frame_of, frame_allowed, ends, shows, end_of, read_on}
 use Rattle.log_claims.specs.Claims.{part_of}
@@ -25,12 +26,12 @@ use Rattle.log_claims.proofs.FieldLaws.{fields_behind, fields_step, whole_inside
 use Rattle.log_claims.proofs.ContentLaws.{content, content_length_lem, content_four, content_shown, content_allowed, content_short}
 
 -- the answer of a walk over s, after n frames, is what its fields mean; a frame's bytes lie in s, behind a field's head and the frame's own
-abbrev pub Agrees : Settings → ℕ → List ℕ → StepAnswer → Type 0
-Agrees st n s (StepAnswer.Frame f) =
+abbrev pub Agrees : Settings → ℕ → List ℕ → Result (Option Shown) Fault → Type 0
+Agrees st n s (Ok (Some f)) =
     (head_size + frame_head ≤ f.start) × (f.start + f.length ≤ length s)
     × (read_on st n (fields_of s) ≡ shows (part_of s f) (read_on st (n + 1) (fields_of (drop (f.start + f.length) s))))
-Agrees st n s StepAnswer.End = read_on st n (fields_of s) ≡ ends 0
-Agrees st n s (StepAnswer.Refused f) = read_on st n (fields_of s) ≡ ends (number f.refusal)
+Agrees st n s (Ok None) = read_on st n (fields_of s) ≡ ends 0
+Agrees st n s (Err f) = read_on st n (fields_of s) ≡ ends (number f.refusal)
 
 -- a frame that stands m bytes on
 abbrev pub moved_on : ℕ → Shown → Shown
@@ -46,20 +47,20 @@ rest_moved m s f =
 
 -- a field that is passed over
 passed : (st : Settings) (n : ℕ) (s : List ℕ) (m : ℕ) → m ≤ length s → read_on st n (fields_of s) ≡ read_on st n (fields_of (drop m s))
-    → (a : StepAnswer) → Agrees st n (drop m s) a → Agrees st n s (further m a)
-passed st n s m h e (StepAnswer.Frame f) (low, high, r) =
+    → (a : Result (Option Shown) Fault) → Agrees st n (drop m s) a → Agrees st n s (further m a)
+passed st n s m h e (Ok (Some f)) (low, high, r) =
     (omega arith, omega (arith, length-drop m s), e ∙ r ∙ ap₂ shows (part_moved m s f) (ap (λ (l : List ℕ). read_on st (n + 1) (fields_of l)) (rest_moved m s f)))
-passed st n s m h e StepAnswer.End r = e ∙ r
-passed st n s m h e (StepAnswer.Refused f) r = e ∙ r
+passed st n s m h e (Ok None) r = e ∙ r
+passed st n s m h e (Err f) r = e ∙ r
 
 -- one field, at the front of s
 module _ (st : Settings) (n : ℕ) (s : List ℕ) where
   -- what it comes to is what the fields mean; if it is passed over, so is what follows it
-  abbrev Meant : Next → Type 0
-  Meant (Next.Frame f) = Agrees st n s (StepAnswer.Frame f)
-  Meant Next.End = Agrees st n s StepAnswer.End
-  Meant (Next.Pass m) = (1 ≤ m) × (m ≤ length s) × (read_on st n (fields_of s) ≡ read_on st n (fields_of (drop m s)))
-  Meant (Next.Refused f) = Agrees st n s (StepAnswer.Refused f)
+  abbrev Meant : Result Next Fault → Type 0
+  Meant (Ok (Next.Frame f)) = Agrees st n s (Ok (Some f))
+  Meant (Ok Next.End) = Agrees st n s (Ok None)
+  Meant (Ok (Next.Pass m)) = (1 ≤ m) × (m ≤ length s) × (read_on st n (fields_of s) ≡ read_on st n (fields_of (drop m s)))
+  Meant (Err f) = Agrees st n s (Err f)
 
   -- a frame's field with m bytes of content
   frame_meant : (m : ℕ) → head_size + m ≤ length s
@@ -119,11 +120,11 @@ unfolding walk_by
 agrees_by zero st n s h = absurd (omega arith)
 agrees_by (suc k) st n s h = go (next_field st n s) (meant st n s) (λ t l. agrees_by k st n t l)
   where
-    go : (x : Next) → Meant st n s x → ((t : List ℕ) → length t < k → Agrees st n t (walk_by k st n t)) → Agrees st n s (onward (λ t. walk_by k st n t) s x)
-    go (Next.Frame f) e ih = e
-    go Next.End e ih = e
-    go (Next.Pass m) e ih = passed st n s m e.1 e.2 (walk_by k st n (drop m s)) (ih (drop m s) (omega (arith, length-drop m s)))
-    go (Next.Refused f) e ih = e
+    go : (x : Result Next Fault) → Meant st n s x → ((t : List ℕ) → length t < k → Agrees st n t (walk_by k st n t)) → Agrees st n s (onward (λ t. walk_by k st n t) s x)
+    go (Ok (Next.Frame f)) e ih = e
+    go (Ok Next.End) e ih = e
+    go (Ok (Next.Pass m)) e ih = passed st n s m e.1 e.2 (walk_by k st n (drop m s)) (ih (drop m s) (omega (arith, length-drop m s)))
+    go (Err f) e ih = e
 
 pub agrees : (st : Settings) (n : ℕ) (s : List ℕ) → Agrees st n s (walk st n s)
 unfolding walk

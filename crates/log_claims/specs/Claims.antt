@@ -1,5 +1,6 @@
 -- Document 02, P3: claims about kept logs.
-use Rattle.std.specs.Prelude.{ℕ, zero, suc, ◌+◌, ◌^◌, ◌<◌, ◌≤◌, ◌≡◌, List, [], ◌∷◌, ◌++◌, true, false, length, take, drop}
+use Rattle.std.specs.Prelude.{ℕ, zero, suc, ◌+◌, ◌^◌, ◌<◌, ◌≤◌, ◌≡◌, List, [], ◌∷◌, ◌++◌, true, false, length, take, drop, Err, None, Ok, Option, Result, Some}
+use Rattle.rtp.specs.declared.refusal.Refusal.{Refusal}
 use Rattle.rtp.specs.Editions.{Edition}
 use Rattle.rtp.specs.Sizes.{max_frame}
 use Rattle.rtp.specs.Ranges.{in_range}
@@ -13,8 +14,6 @@ use Rattle.rtp.specs.Numbers.{Words}
 use Rattle.log_fields.specs.Fields.{head_size, frame_head}
 use Rattle.log_walk.specs.declared.frames.Shown.{Shown}
 use Rattle.log_walk.specs.declared.opening.Cursor.{Cursor}
-use Rattle.log_walk.specs.declared.opening.OpenAnswer.{OpenAnswer}
-use Rattle.log_walk.specs.declared.stepping.StepAnswer.{StepAnswer}
 use Rattle.log_walk.specs.Opening.{opening, opened_cursor}
 use Rattle.log_walk.specs.Stepping.{step, cursor_fits, cursor_after}
 use Rattle.log_reader.specs.Readers.{part_at}
@@ -30,10 +29,10 @@ abbrev pub part_of : List ℕ → Shown → Frame
 part_of log f = record { time = f.time; channel = f.channel; class = f.class; bytes = take f.length (drop f.start log) }
 
 -- what a step's answer comes to, where `go` steps on
-abbrev pub stepped : (Cursor → Read) → List ℕ → Cursor → StepAnswer → Read
-stepped go log c (StepAnswer.Frame f) = shows (part_of log f) (go (cursor_after c (StepAnswer.Frame f)))
-stepped go log c StepAnswer.End = ends 0
-stepped go log c (StepAnswer.Refused f) = ends (number f.refusal)
+abbrev pub stepped : (Cursor → Read) → List ℕ → Cursor → Result (Option Shown) Fault → Read
+stepped go log c (Ok (Some f)) = shows (part_of log f) (go (cursor_after c (Ok (Some f))))
+stepped go log c (Ok None) = ends 0
+stepped go log c (Err f) = ends (number f.refusal)
 
 -- at most so many steps
 unfoldable pub steps_by : Edition → ℕ → List ℕ → Cursor → Read
@@ -41,26 +40,26 @@ steps_by ed zero log c = ends 0
 steps_by ed (suc k) log c = stepped (λ d. steps_by ed k log d) log c (step ed c log)
 
 -- opened, and stepped through: a step reads a byte at least, so the log's length is steps enough
-abbrev pub walked : Edition → List ℕ → OpenAnswer → Log
-walked ed log (OpenAnswer.Refused r) = unopened (number r)
-walked ed log (OpenAnswer.Opened st) = opened st (steps_by ed (suc (length log)) log (opened_cursor (OpenAnswer.Opened st)))
+abbrev pub walked : Edition → List ℕ → Result Settings Refusal → Log
+walked ed log (Err r) = unopened (number r)
+walked ed log (Ok st) = opened st (steps_by ed (suc (length log)) log (opened_cursor (Ok st)))
 
 abbrev pub ReadingIsExact : Edition → Type 0
 ReadingIsExact ed = (log : List ℕ) → walked ed log (opening ed log) ≡ read_log ed log
 
 -- No step leaves the log: what is shown lies inside it, behind the record's place, and the record stays fit for the next step
 abbrev pub StepsStayInside : Edition → Type 0
-StepsStayInside ed = (log : List ℕ) (c : Cursor) (f : Shown) → step ed c log ≡ StepAnswer.Frame f
+StepsStayInside ed = (log : List ℕ) (c : Cursor) (f : Shown) → step ed c log ≡ Ok (Some f)
     → (c.place < f.start) × (f.start + f.length ≤ length log) × (c.count + 1 ≤ f.start + f.length)
-    × (in_range ed c.settings ≡ true) × (cursor_fits (cursor_after c (StepAnswer.Frame f)) (length log) ≡ true)
+    × (in_range ed c.settings ≡ true) × (cursor_fits (cursor_after c (Ok (Some f))) (length log) ≡ true)
 
 -- nor does the place of a field at fault
 abbrev pub FaultsStayInside : Edition → Type 0
-FaultsStayInside ed = (log : List ℕ) (c : Cursor) (g : Fault) → step ed c log ≡ StepAnswer.Refused g → g.offset ≤ length log
+FaultsStayInside ed = (log : List ℕ) (c : Cursor) (g : Fault) → step ed c log ≡ Err g → g.offset ≤ length log
 
 -- the part of the log that a `LogReader` gives (log_reader: `frame`) is the frame that is shown
 abbrev pub FrameIsShown : Edition → Type 0
-FrameIsShown ed = (log : List ℕ) (c : Cursor) (f : Shown) → step ed c log ≡ StepAnswer.Frame f → part_at f.start f.length log ≡ (part_of log f).bytes
+FrameIsShown ed = (log : List ℕ) (c : Cursor) (f : Shown) → step ed c log ≡ Ok (Some f) → part_at f.start f.length log ≡ (part_of log f).bytes
 
 -- A written log reads back to the same settings and frames, in turn, and then the end
 

@@ -1,5 +1,5 @@
 -- Document 02, P12: logs and readers of different editions.
-use Rattle.std.specs.Prelude.{ℕ, ◌<◌, ◌≤◌, ◌≡◌, List, true}
+use Rattle.std.specs.Prelude.{ℕ, ◌<◌, ◌≤◌, ◌≡◌, List, true, Err, Ok}
 use Rattle.rtp.specs.Editions.{Edition, first_edition, current}
 use Rattle.rtp.specs.Ranges.{most_channels, in_range}
 use Rattle.rtp.specs.Refusals.{number}
@@ -8,8 +8,6 @@ use Rattle.rtp.specs.Numbers.{Words}
 use Rattle.rtp.specs.declared.settings.Settings.{Settings}
 use Rattle.rtp.specs.declared.refusal.Refusal.TheVariants.{NotAllowed, SettingsOutOfRange}
 use Rattle.log_walk.specs.declared.opening.Cursor.{Cursor}
-use Rattle.log_walk.specs.declared.opening.OpenAnswer.{OpenAnswer}
-use Rattle.log_walk.specs.declared.stepping.StepAnswer.{StepAnswer}
 use Rattle.log_walk.specs.Opening.{opening, opened_cursor}
 use Rattle.log_walk.specs.Stepping.{step}
 use Rattle.log_writer.specs.FieldBytes.{bytes_of}
@@ -18,7 +16,7 @@ use Rattle.log_claims.specs.Logs.{unopened, read_log}
 
 -- Old logs read as before: what a reader opens, one that has as many channels or more opens and reads alike, in one go and step by step
 abbrev pub OpensAlike : Type 0
-OpensAlike = (a b : Edition) → most_channels a ≤ most_channels b → (log : List ℕ) (st : Settings) → opening a log ≡ OpenAnswer.Opened st
+OpensAlike = (a b : Edition) → most_channels a ≤ most_channels b → (log : List ℕ) (st : Settings) → opening a log ≡ Ok st
     → (opening b log ≡ opening a log) × (read_log b log ≡ read_log a log)
 
 abbrev pub StepsAlike : Type 0
@@ -27,13 +25,13 @@ StepsAlike = (a b : Edition) → most_channels a ≤ most_channels b → (log : 
 -- A log of more channels than a reader has, which some other opens: the reader refuses its first field with 19, and so the whole log, and the record that
 -- it leaves shows nothing
 abbrev pub RefusesMore : Type 0
-RefusesMore = (a b : Edition) (log : List ℕ) (st : Settings) → opening b log ≡ OpenAnswer.Opened st → most_channels a < st.channels
-    → (opening a log ≡ OpenAnswer.Refused NotAllowed) × (read_log a log ≡ unopened (number NotAllowed))
-    × (step a (opened_cursor (opening a log)) log ≡ StepAnswer.Refused (fault SettingsOutOfRange))
+RefusesMore = (a b : Edition) (log : List ℕ) (st : Settings) → opening b log ≡ Ok st → most_channels a < st.channels
+    → (opening a log ≡ Err NotAllowed) × (read_log a log ≡ unopened (number NotAllowed))
+    × (step a (opened_cursor (opening a log)) log ≡ Err (fault SettingsOutOfRange))
 
 -- .. nor does any record of so many channels that it is handed (one of fewer channels, made by hand, is the caller's own)
 abbrev pub ShowsNone : Type 0
-ShowsNone = (a : Edition) (log : List ℕ) (c : Cursor) → most_channels a < c.settings.channels → step a c log ≡ StepAnswer.Refused (fault SettingsOutOfRange)
+ShowsNone = (a : Edition) (log : List ℕ) (c : Cursor) → most_channels a < c.settings.channels → step a c log ≡ Err (fault SettingsOutOfRange)
 
 -- so it refuses every log of so many channels that another edition writes; the first edition's reader has two
 abbrev pub RefusesWritten : Type 0

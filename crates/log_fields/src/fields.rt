@@ -24,14 +24,14 @@ pub const END_SIZE: usize = 4;
 // The bytes of the first field, which is the settings.
 pub const FIRST_SIZE: usize = HEAD_SIZE + SETTINGS_SIZE;
 
-#[derive(Clone, Copy)]
+#[derive(Clone, Copy, Debug, PartialEq, Eq)]
 pub struct FieldHead {
     pub tag: u8,
     pub length: u16,
 }
 
 // No byte is left; a field of this tag that is cut; a whole field.
-#[derive(Clone, Copy)]
+#[derive(Clone, Copy, Debug, PartialEq, Eq)]
 pub enum Field {
     Stopped,
     Cut(u8),
@@ -60,8 +60,5 @@ pub fn field_of(s: &[u8]) -> Field
 pub fn frame_fits(settings: Settings, channel: u32, class: u32, n: u32) -> bool
     ensures { result ≡ frame_fits settings channel class n }
 {
-    if channel < settings.channels as u32 {
-        return coding::allowed(settings.format, class, n);
-    }
-    false
+    channel < settings.channels as u32 && coding::allowed(settings.format, class, n)
 }

@@ -1,24 +1,11 @@
 -- Laws of the lines of a log.
-use mathlib.Core.Path.{◌≡◌, sym, ap, ◌∙◌}
+use mathlib.Core.Path.{◌≡◌}
 use mathlib.Core.List.{List, ◌++◌, append_assoc}
-use Prim.Native.Nat.{ℕ, ◌≤◌, ◌<◌, min}
-use native.Mathlib.Omega.{arith}
-use lib.ListN.{length, take, length-take}
+use Prim.Native.Nat.{ℕ, ◌≤◌, ◌<◌}
 use borrow.Author.Tests.{lt-ltb, le-ltb}
-use Rattle.io.specs.Counts.{IsPrefixLen}
 use Rattle.console_text.specs.Ascii.{ascii}
-use Rattle.console_text.specs.Lines.{line_size, gathered, decimal, Continued}
-use Rattle.log_lines.specs.LineTexts.{refusal_text, fault_text, Begun}
-
--- a text, and then words that are left open
-pub begun : (line middle after : List ℕ) (at end r : ℕ) (text : List ℕ) → IsPrefixLen end middle → take end middle ≡ gathered line at text
-    → Continued middle end after r → Begun line at text after r
-unfolding gathered
-begun line middle after at end r text counts held more =
-    let size : length (gathered line at text) ≡ end = sym (ap length held) ∙ sym counts.1 in
-    let room : length (gathered line at text) ≡ min line_size (length (take at line ++ text)) = length-take line_size (take at line ++ text) in
-    let least : length (gathered line at text) ≡ min end line_size = omega (arith, size, room) in
-    ap (λ (k : ℕ). take k (take r after)) least ∙ more ∙ held
+use Rattle.console_text.specs.Lines.{decimal}
+use Rattle.log_lines.specs.LineTexts.{refusal_text, fault_text}
 
 -- pieces in turn
 pub three : (a b c : List ℕ) → (a ++ b) ++ c ≡ a ++ (b ++ c)

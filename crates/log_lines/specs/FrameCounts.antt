@@ -1,10 +1,10 @@
 -- How many frames a log has, by the steps that show them.
-use Rattle.std.specs.Prelude.{ℕ, zero, suc, ◌≡◌, List, Bool, false, cond, eqb, length}
+use Rattle.std.specs.Prelude.{ℕ, zero, suc, ◌≡◌, List, Bool, false, cond, eqb, length, Result, Ok, Err}
 use Rattle.rtp.specs.Editions.{current}
 use Rattle.log_walk.specs.declared.opening.Cursor.{Cursor}
 use Rattle.log_walk.specs.Opening.{open_call}
 use Rattle.log_walk.specs.Stepping.{StepNumbers, step_call}
-use Rattle.log_lines.specs.declared.printing.Printed.{Printed}
+use Rattle.console_text.specs.declared.lines.NotWritten.{NotWritten}
 
 -- a step shows a frame where it is not refused and not at the end
 abbrev pub is_shown : StepNumbers → Bool
@@ -29,6 +29,6 @@ unfoldable pub frames_of : List ℕ → ℕ
 frames_of log = cond (eqb (open_call current log).answer.refusal 0) (frames_from (open_call current log).cursor log) 0
 
 -- Whether standard output takes what is printed is the operating system's answer, and left open; but where all is printed, so are all n frames
-abbrev pub AllPrinted : Printed → ℕ → Type 0
-AllPrinted (Printed.Frames k) n = k ≡ n
-AllPrinted Printed.Failed n = Unit
+abbrev pub AllPrinted : Result ℕ NotWritten → ℕ → Type 0
+AllPrinted (Ok k) n = k ≡ n
+AllPrinted (Err why) n = Unit

@@ -1,11 +1,11 @@
 -- The lines of a log in words, without the byte that ends a line. A frame's line is console_text: Lines.frame_text.
-use Rattle.std.specs.Prelude.{ℕ, ◌≡◌, List, [], ◌++◌, cond, ltb, eqb, length, take}
+use Rattle.std.specs.Prelude.{ℕ, List, [], ◌++◌, cond, ltb, eqb}
 use Rattle.rtp.specs.Ranges.{no_redundancy}
 use Rattle.rtp.specs.declared.settings.Settings.{Settings}
 use Rattle.log_walk.specs.declared.frames.Shown.{Shown}
 use Rattle.log_reader.specs.Readers.{part_at}
 use Rattle.console_text.specs.Ascii.{ascii}
-use Rattle.console_text.specs.Lines.{gathered, decimal, counted, frame_text}
+use Rattle.console_text.specs.Lines.{gathered, decimal, counted, frame_text, Continued}
 
 -- the settings
 
@@ -45,6 +45,6 @@ fault_text number offset =
     cond (ltb number 17) (refusal_text number)
     (ascii "refusal " ++ (decimal number ++ (ascii " at byte " ++ (decimal offset ++ ascii ": "))))
 
--- the r bytes that a line holds begin with the first `at` of the line before and this text; what follows is left open
-abbrev pub Begun : List ℕ → ℕ → List ℕ → List ℕ → ℕ → Type 0
-Begun before at text after r = take (length (gathered before at text)) (take r after) ≡ gathered before at text
+-- a line begins with what it held before and this text; what follows is left open
+abbrev pub Begun : List ℕ → List ℕ → List ℕ → Type 0
+Begun before text after = Continued (gathered before text) after

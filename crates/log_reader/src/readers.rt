@@ -6,9 +6,10 @@ ghost use Rattle.log_walk.specs.Opening.{open_call};
 ghost use Rattle.log_walk.specs.Stepping.{step_numbers, step_call};
 ghost use Rattle.log_reader.specs.Readers.{part_at};
 
+use log_walk::frames::Shown;
 use log_walk::opening::Cursor;
-use log_walk::stepping::StepAnswer;
 use log_walk::{opening, stepping};
+use rtp::refusal::Fault;
 
 #[derive(Clone, Copy)]
 pub struct LogReader<'a> {
@@ -21,15 +22,14 @@ pub struct LogReader<'a> {
 pub fn open<'a>(log: &'a [u8]) -> LogReader<'a>
     ensures { (result.log ≡ log.entry) × (result.cursor ≡ (open_call current log.now).cursor) }
 {
-    let opened = opening::open(log);
     LogReader {
         log,
-        cursor: opened.cursor,
+        cursor: opening::open(log).cursor,
     }
 }
 
 // A step: the next frame, and the reader moves behind it; or the end or a refusal, and the reader stays.
-pub fn next<'s, 'a>(r: &'s mut LogReader<'a>) -> StepAnswer
+pub fn next<'s, 'a>(r: &'s mut LogReader<'a>) -> Result<Option<Shown>, Fault>
     ensures { (r.new.log ≡ r.old.log) × (record { answer = step_numbers result; cursor = r.new.cursor } ≡ step_call current r.old.cursor r.old.log.now) }
 {
     let stepped = stepping::step(r.cursor, r.log);

@@ -2,7 +2,7 @@
 ghost use Rattle.std.specs.Prelude.{◌≡◌, ◌+◌, ◌≤◌, length};
 ghost use Rattle.rtp.specs.Editions.{current};
 ghost use Rattle.log_fields.specs.Fields.{head_size, first_size, settings_in};
-ghost use Rattle.log_walk.specs.Opening.{settings_field, opening, no_cursor, open_numbers, open_call};
+ghost use Rattle.log_walk.specs.Opening.{settings_field, opening, open_numbers, open_call};
 
 use log_fields::fields;
 use log_fields::fields::{FIRST_SIZE, Field, SETTINGS_SIZE, SETTINGS_TAG};
@@ -12,22 +12,17 @@ use rtp::settings::Settings;
 
 // What the log reader's record keeps beside the log: settings, the place of the next field, and the number of frames shown.
 #[repr(C)]
-#[derive(Clone, Copy)]
+#[derive(Clone, Copy, Debug, Default, PartialEq, Eq)]
 pub struct Cursor {
     pub settings: Settings,
     pub place: usize,
     pub count: usize,
 }
 
-#[derive(Clone, Copy)]
-pub enum OpenAnswer {
-    Opened(Settings),
-    Refused(Refusal),
-}
-
-#[derive(Clone, Copy)]
-pub struct Opened {
-    pub answer: OpenAnswer,
+// What a call answers, and the record that it leaves.
+#[derive(Clone, Copy, Debug, PartialEq, Eq)]
+pub struct Answered<A> {
+    pub answer: A,
     pub cursor: Cursor,
 }
 
@@ -45,73 +40,57 @@ fn settings_in(s: &[u8]) -> Settings
 }
 
 // A whole field with the settings' tag and so many bytes of content.
-fn settings_field(s: &[u8], n: u16) -> OpenAnswer
+fn settings_field(s: &[u8], n: u16) -> Result<Settings, Refusal>
     requires { head_size + n ≤ length s.now }
     ensures { result ≡ settings_field current s.now n }
 {
     if n as usize != SETTINGS_SIZE {
-        return OpenAnswer::Refused(Refusal::NotAllowed);
+        return Err(Refusal::NotAllowed);
     }
     let found = settings_in(s);
     if settings::in_range(found) {
-        return OpenAnswer::Opened(found);
+        return Ok(found);
     }
-    OpenAnswer::Refused(Refusal::NotAllowed)
+    Err(Refusal::NotAllowed)
 }
 
 // What the first field comes to.
-fn first_field(s: &[u8]) -> OpenAnswer
+fn first_field(s: &[u8]) -> Result<Settings, Refusal>
     ensures { result ≡ opening current s.now }
 {
     match fields::field_of(s) {
-        Field::Stopped => OpenAnswer::Refused(Refusal::MisplacedTag),
+        Field::Stopped => Err(Refusal::MisplacedTag),
         Field::Cut(tag) => {
             if tag == SETTINGS_TAG {
-                return OpenAnswer::Refused(Refusal::CutField);
+                return Err(Refusal::CutField);
             }
-            OpenAnswer::Refused(Refusal::MisplacedTag)
+            Err(Refusal::MisplacedTag)
         }
         Field::Whole(head) => {
             if head.tag == SETTINGS_TAG {
                 return settings_field(s, head.length);
             }
-            OpenAnswer::Refused(Refusal::MisplacedTag)
+            Err(Refusal::MisplacedTag)
         }
     }
 }
 
-// The record before any first field, and after a refused one.
-fn no_cursor() -> Cursor
-    ensures { result ≡ no_cursor }
-{
-    Cursor {
-        settings: Settings {
-            format: 0,
-            channels: 0,
-            payload_type: 0,
-            redundancy_type: 0,
-        },
-        place: 0,
-        count: 0,
-    }
-}
-
 // Opens a log: the record behind its settings, or a refusal and a record of zeros.
-pub fn open(log: &[u8]) -> Opened
+pub fn open(log: &[u8]) -> Answered<Result<Settings, Refusal>>
     ensures { record { answer = open_numbers result.answer; cursor = result.cursor } ≡ open_call current log.now }
 {
     match first_field(log) {
-        OpenAnswer::Opened(settings) => Opened {
-            answer: OpenAnswer::Opened(settings),
+        Ok(settings) => Answered {
+            answer: Ok(settings),
             cursor: Cursor {
                 settings,
                 place: FIRST_SIZE,
                 count: 0,
             },
         },
-        OpenAnswer::Refused(refusal) => Opened {
-            answer: OpenAnswer::Refused(refusal),
-            cursor: no_cursor(),
+        Err(refusal) => Answered {
+            answer: Err(refusal),
+            cursor: Cursor::default(),
         },
     }
 }

@@ -4,8 +4,8 @@ use mathlib.Core.List.{List, [], ◌∷◌, ◌++◌, append_assoc, append-nil}
 use mathlib.Core.Bool.{Bool, true, false, cond}
 use Prim.Native.Nat.{ℕ, ◌+◌, ◌-◌, ◌*◌, ◌≤◌, ◌<◌}
 use native.Mathlib.Omega.{arith}
-use lib.ListN.{length, get_or, take, drop, length-append, length-drop, take-append-drop, drop_of_length-le}
-use lib.Seq.{take_at, drop_at, drop-drop, get_or-drop, length-take-le}
+use lib.ListN.{length, take, drop, length-append, length-drop, take-append-drop, drop_of_length-le}
+use lib.Seq.{take_at, drop_at, length-take-le}
 use lib.Dec.{ltb}
 use borrow.Author.Tests.{ltb-false}
 use borrow.Rule.Slice.PartMut.{put_mid, same_len_mid}
@@ -15,36 +15,38 @@ use Rattle.rtp.specs.declared.settings.Settings.{Settings}
 use Rattle.rtp.proofs.TestLaws.{both, neither}
 use Rattle.rtp.proofs.AreaLaws.{over_none, over_more, length_over, part_to_end, part_length, part_cut, part_size}
 use Rattle.row_tags.specs.Tags.{tag_class, tag_channel}
-use Rattle.read_rows.specs.Rows.{Row, frame_in}
-use Rattle.write_plan.specs.Lists.{rows_in, outside}
+use Rattle.read_rows.specs.Rows.{Row, frame_in, rows_in}
+use Rattle.write_plan.specs.Lists.{outside}
 use Rattle.write_plan.specs.Room.{words_at, row_as}
 use Rattle.write_plan.specs.declared.lists.RowWords.{RowWords}
-use Rattle.write_plan.proofs.ListLaws.{rows_none, rows_more}
+use Rattle.write_plan.proofs.ListLaws.{rows_none}
 use Rattle.log_writer.specs.FieldBytes.{frame_bytes}
 use Rattle.log_writer.specs.Writings.{row_bytes, rows_bytes, row_fits, all_fit}
 use Rattle.log_writer.specs.Room.{frame_start, rows_size, SmallRow, SmallRows, RowRoom, RowsRoom}
 use Rattle.log_writer.proofs.FieldBytesLaws.{length_frame, fits_small}
 
--- The row at a word, and the rows behind it
+-- The next row of words, and the rows behind it
 
-module _ (ws : List ℕ) (at : ℕ) where
-  pub none_left : length ws - at < row_width → rows_in (drop at ws) ≡ []
-  none_left h = rows_none (drop at ws) (simp length-drop h)
+next_row : (x t : List ℕ) → length x ≡ row_width → rows_in (x ++ t) ≡ row_as (words_at x 0) ∷ rows_in t
+unfolding rows_in
+next_row [] t h = absurd (omega arith)
+next_row (a ∷ []) t h = absurd (omega arith)
+next_row (a ∷ b ∷ []) t h = absurd (omega arith)
+next_row (a ∷ b ∷ c ∷ []) t h = absurd (omega arith)
+next_row (a ∷ b ∷ c ∷ d ∷ []) t h = refl
+next_row (a ∷ b ∷ c ∷ d ∷ e ∷ x) t h = absurd (omega arith)
 
-  pub next_row : (w : RowWords) → w ≡ words_at (take (length ws - at) (drop at ws)) 0 → row_width ≤ length ws - at
-      → rows_in (drop at ws) ≡ row_as w ∷ rows_in (drop (at + row_width) ws)
-  next_row w e h =
-      rows_more (drop at ws) (simp length-drop h)
-      ∙ ap (λ (v : RowWords). row_as v ∷ rows_in (drop row_width (drop at ws))) (sym (e ∙ ap (λ (l : List ℕ). words_at l 0) (part_to_end at ws)))
-      ∙ ap (λ (l : List ℕ). row_as w ∷ rows_in l) (drop-drop row_width at ws)
+module _ (ws x t : List ℕ) (w : RowWords) (e : ws ≡ x ++ t) (h : length x ≡ row_width) (k : w ≡ words_at x 0) where
+  pub row_next : rows_in ws ≡ row_as w ∷ rows_in t
+  row_next = ap rows_in e ∙ next_row x t h ∙ ap (λ (v : RowWords). row_as v ∷ rows_in t) (sym k)
 
-  pub none_size : length ws - at < row_width → rows_size (rows_in (drop at ws)) ≡ 0
+  pub size_next : rows_size (rows_in ws) ≡ (frame_start + w.length) + rows_size (rows_in t)
   unfolding rows_size
-  none_size h = ap rows_size (none_left h)
+  size_next = ap rows_size row_next
 
-  pub next_size : row_width ≤ length ws - at → rows_size (rows_in (drop at ws)) ≡ (frame_start + get_or ws (at + 3) 0) + rows_size (rows_in (drop (at + row_width) ws))
-  unfolding rows_size
-  next_size h = ap rows_size (rows_more (drop at ws) (simp length-drop h)) ∙ simp (get_or-drop, drop-drop)
+pub size_none : (ws : List ℕ) → length ws < row_width → rows_size (rows_in ws) ≡ 0
+unfolding rows_size
+size_none ws h = ap rows_size (rows_none ws h)
 
 -- Whether the settings allow them
 
@@ -125,35 +127,34 @@ from_more place a b l e h q =
     ∙ append_assoc (take place l) a (over b rest)
     ∙ ap (λ (x : List ℕ). take place l ++ x) (sym (over_more a b (drop place l)))
 
--- after the rows before a word, whose fields end at a place: the others have room, and with them all is done
-pub record Going (ws bytes l m : List ℕ) (at place : ℕ) : Type 0 where
-  pub words : at ≤ length ws
-  pub small : SmallRows (rows_in (drop at ws))
-  pub inside : outside (length bytes) (rows_in (drop at ws)) ≡ false
-  pub room : place + rows_size (rows_in (drop at ws)) ≤ length m
+-- after the rows before the rest, whose fields end at a place: the others have room, and with them all is done
+pub record Going (ws bytes l m rest : List ℕ) (place : ℕ) : Type 0 where
+  pub small : SmallRows (rows_in rest)
+  pub inside : outside (length bytes) (rows_in rest) ≡ false
+  pub room : place + rows_size (rows_in rest) ≤ length m
   pub kept : length m ≡ length l
-  pub laid : over_from place (rows_bytes bytes (rows_in (drop at ws))) m ≡ over (rows_bytes bytes (rows_in ws)) l
+  pub laid : over_from place (rows_bytes bytes (rows_in rest)) m ≡ over (rows_bytes bytes (rows_in ws)) l
 
-pub going_start : (ws bytes l : List ℕ) → RowsRoom (rows_in ws) (length bytes) (length l) → Going ws bytes l l 0 0
-going_start ws bytes l r = record { words = omega arith; small = r.small; inside = r.inside; room = omega (arith, r.room); kept = refl; laid = refl }
+pub going_start : (ws bytes l : List ℕ) → RowsRoom (rows_in ws) (length bytes) (length l) → Going ws bytes l l ws 0
+going_start ws bytes l r = record { small = r.small; inside = r.inside; room = omega (arith, r.room); kept = refl; laid = refl }
 
-module _ (ws bytes l m : List ℕ) (at place : ℕ) (g : Going ws bytes l m at place) where
-  pub going_end : rows_in (drop at ws) ≡ [] → m ≡ over (rows_bytes bytes (rows_in ws)) l
+module _ (ws bytes l m rest : List ℕ) (place : ℕ) (g : Going ws bytes l m rest place) where
+  pub going_end : rows_in rest ≡ [] → m ≡ over (rows_bytes bytes (rows_in ws)) l
   unfolding rows_bytes
   going_end e = sym (from_end place m) ∙ ap (λ (rs : List Row). over_from place (rows_bytes bytes rs) m) (sym e) ∙ g.laid
 
-  module _ (r : Row) (e : rows_in (drop at ws) ≡ r ∷ rows_in (drop (at + row_width) ws)) where
-    small_here : SmallRow r × SmallRows (rows_in (drop (at + row_width) ws))
+  module _ (r : Row) (next : List ℕ) (e : rows_in rest ≡ r ∷ rows_in next) where
+    small_here : SmallRow r × SmallRows (rows_in next)
     small_here = rw e at g.small
 
-    inside_here : (r.start + r.length ≤ length bytes) × (outside (length bytes) (rows_in (drop (at + row_width) ws)) ≡ false)
+    inside_here : (r.start + r.length ≤ length bytes) × (outside (length bytes) (rows_in next) ≡ false)
     inside_here = inside_more (length bytes) r _ (rw e at g.inside)
 
-    bytes_here : rows_bytes bytes (rows_in (drop at ws)) ≡ row_bytes bytes r ++ rows_bytes bytes (rows_in (drop (at + row_width) ws))
+    bytes_here : rows_bytes bytes (rows_in rest) ≡ row_bytes bytes r ++ rows_bytes bytes (rows_in next)
     unfolding rows_bytes
     bytes_here = ap (rows_bytes bytes) e
 
-    size_here : rows_size (rows_in (drop at ws)) ≡ (frame_start + r.length) + rows_size (rows_in (drop (at + row_width) ws))
+    size_here : rows_size (rows_in rest) ≡ (frame_start + r.length) + rows_size (rows_in next)
     unfolding rows_size
     size_here = ap rows_size e
 
@@ -164,21 +165,20 @@ module _ (ws bytes l m : List ℕ) (at place : ℕ) (g : Going ws bytes l m at p
       room = rw (part_length m m place refl) (omega (arith, size_here, g.room));
     }
 
-    pub going_more : (z : List ℕ) → at + row_width ≤ length ws → z ≡ over (row_bytes bytes r) (take (length m - place) (drop place m))
-        → Going ws bytes l (put_mid place (length m - place) m z) (at + row_width) (place + (frame_start + r.length))
-    going_more z h q =
+    pub going_more : (z : List ℕ) → z ≡ over (row_bytes bytes r) (take (length m - place) (drop place m))
+        → Going ws bytes l (put_mid place (length m - place) m z) next (place + (frame_start + r.length))
+    going_more z q =
         let n = length_row bytes r inside_here.0 in
         let i : length (row_bytes bytes r) ≤ length (take (length m - place) (drop place m)) = rw n going_room.room in
         let k : length (put_mid place (length m - place) m z) ≡ length m = same_len_mid place (length m - place) m z (ap length q ∙ length_over (row_bytes bytes r) (take (length m - place) (drop place m)) i) in
         record {
-          words = h;
           small = small_here.1;
           inside = inside_here.1;
           room = omega (arith, k, size_here, g.room);
           kept = k ∙ g.kept;
           laid =
-              ap (λ (s : ℕ). over_from (place + s) (rows_bytes bytes (rows_in (drop (at + row_width) ws))) (put_mid place (length m - place) m z)) (sym n)
-              ∙ from_more place (row_bytes bytes r) (rows_bytes bytes (rows_in (drop (at + row_width) ws))) m z (omega (arith, g.room)) q
+              ap (λ (s : ℕ). over_from (place + s) (rows_bytes bytes (rows_in next)) (put_mid place (length m - place) m z)) (sym n)
+              ∙ from_more place (row_bytes bytes r) (rows_bytes bytes (rows_in next)) m z (omega (arith, g.room)) q
               ∙ ap (λ (w : List ℕ). over_from place w m) (sym bytes_here)
               ∙ g.laid;
         }

@@ -1,5 +1,5 @@
 -- Document 02, P3: the three fields that a log is written of. Each definition `..Put` is the whole meaning of a call, refusals included.
-use Rattle.std.specs.Prelude.{ℕ, ◌+◌, ◌-◌, ◌^◌, List, [], ◌∷◌, ◌++◌, cond, length, ltb}
+use Rattle.std.specs.Prelude.{ℕ, ◌+◌, ◌-◌, ◌^◌, List, [], ◌∷◌, ◌++◌, cond, length, ltb, Err, Ok, Result}
 use Rattle.rtp.specs.Editions.{Edition}
 use Rattle.rtp.specs.Numbers.{two, four}
 use Rattle.rtp.specs.Ranges.{in_range}
@@ -8,7 +8,6 @@ use Rattle.rtp.specs.declared.settings.Settings.{Settings}
 use Rattle.rtp.specs.declared.refusal.Refusal.{Refusal}
 use Rattle.rtp.specs.declared.refusal.Refusal.TheVariants.{SettingsOutOfRange, AreaTooShort, NotAllowed}
 use Rattle.log_fields.specs.Fields.{settings_tag, frame_tag, end_tag, settings_size, frame_head, end_size, frame_fits}
-use Rattle.log_writer.specs.declared.field_bytes.LogWritten.{LogWritten}
 
 -- tag 1: the settings
 unfoldable pub settings_bytes : Settings → List ℕ
@@ -55,9 +54,9 @@ pub record Numbers : Type 0 where
   pub length : ℕ
 
 -- of the code's answer, case by case
-abbrev pub written_numbers : LogWritten → Numbers
-written_numbers (LogWritten.Refused r) = record { refusal = number r; length = 0 }
-written_numbers (LogWritten.Bytes n) = record { refusal = 0; length = n }
+abbrev pub written_numbers : Result ℕ Refusal → Numbers
+written_numbers (Err r) = record { refusal = number r; length = 0 }
+written_numbers (Ok n) = record { refusal = 0; length = n }
 
 -- of what writing comes to
 unfoldable pub put_numbers : Put → Numbers

@@ -24,13 +24,6 @@ pub(crate) const FRAME_START: usize = HEAD_SIZE + FRAME_HEAD;
 
 pub(crate) const LAST_SIZE: usize = HEAD_SIZE + END_SIZE;
 
-// The number of bytes written, or why there are none.
-#[derive(Clone, Copy)]
-pub enum LogWritten {
-    Bytes(usize),
-    Refused(Refusal),
-}
-
 // A field's tag and length.
 fn lay_head(tag: u8, size: u16, out: &mut [u8])
     requires { head_size ≤ length out.old }
@@ -73,19 +66,19 @@ pub(crate) fn lay_end(count: u32, out: &mut [u8])
     bytes::put_u32(&mut out[HEAD_SIZE..], count);
 }
 
-// The first field of a log.
-pub fn put_settings(asked: Settings, out: &mut [u8]) -> LogWritten
+// The first field of a log: the number of bytes written, or why there are none.
+pub fn put_settings(asked: Settings, out: &mut [u8]) -> Result<usize, Refusal>
     ensures { (written_numbers result ≡ put_numbers (settings_put current asked (length out.old)))
         × (out.new ≡ over (put_bytes (settings_put current asked (length out.old))) out.old) }
 {
     if !settings::in_range(asked) {
-        return LogWritten::Refused(Refusal::SettingsOutOfRange);
+        return Err(Refusal::SettingsOutOfRange);
     }
     if out.len() < FIRST_SIZE {
-        return LogWritten::Refused(Refusal::AreaTooShort);
+        return Err(Refusal::AreaTooShort);
     }
     lay_settings(asked, out);
-    LogWritten::Bytes(FIRST_SIZE)
+    Ok(FIRST_SIZE)
 }
 
 // The field of a frame that the settings allow.
@@ -96,38 +89,38 @@ pub fn put_frame(
     class: u32,
     frame: &[u8],
     out: &mut [u8],
-) -> LogWritten
+) -> Result<usize, Refusal>
     ensures { (written_numbers result ≡ put_numbers (frame_put current asked time channel class frame.now (length out.old)))
         × (out.new ≡ over (put_bytes (frame_put current asked time channel class frame.now (length out.old))) out.old) }
 {
     if !settings::in_range(asked) {
-        return LogWritten::Refused(Refusal::SettingsOutOfRange);
+        return Err(Refusal::SettingsOutOfRange);
     }
     if MAX_FRAME < frame.len() {
-        return LogWritten::Refused(Refusal::NotAllowed);
+        return Err(Refusal::NotAllowed);
     }
     if !fields::frame_fits(asked, channel, class, frame.len() as u32) {
-        return LogWritten::Refused(Refusal::NotAllowed);
+        return Err(Refusal::NotAllowed);
     }
     let size = FRAME_START + frame.len();
     if out.len() < size {
-        return LogWritten::Refused(Refusal::AreaTooShort);
+        return Err(Refusal::AreaTooShort);
     }
     lay_frame(time, channel as u8, class as u8, frame, out);
-    LogWritten::Bytes(size)
+    Ok(size)
 }
 
 // The last field of a log of so many frames.
-pub fn put_end(count: usize, out: &mut [u8]) -> LogWritten
+pub fn put_end(count: usize, out: &mut [u8]) -> Result<usize, Refusal>
     ensures { (written_numbers result ≡ put_numbers (end_put count (length out.old)))
         × (out.new ≡ over (put_bytes (end_put count (length out.old))) out.old) }
 {
     if MAX_FRAMES < count {
-        return LogWritten::Refused(Refusal::NotAllowed);
+        return Err(Refusal::NotAllowed);
     }
     if out.len() < LAST_SIZE {
-        return LogWritten::Refused(Refusal::AreaTooShort);
+        return Err(Refusal::AreaTooShort);
     }
     lay_end(count as u32, out);
-    LogWritten::Bytes(LAST_SIZE)
+    Ok(LAST_SIZE)
 }

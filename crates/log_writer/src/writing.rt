@@ -9,7 +9,7 @@ ghost use Rattle.log_writer.specs.Writings.{row_fits, row_bytes, rows_bytes, log
 ghost use Rattle.log_writer.specs.Room.{rows_size, RowRoom, RowsRoom, LogRoom};
 
 use crate::field_bytes;
-use crate::field_bytes::{FRAME_START, LAST_SIZE, LogWritten, MAX_FRAMES};
+use crate::field_bytes::{FRAME_START, LAST_SIZE, MAX_FRAMES};
 use log_fields::fields;
 use log_fields::fields::FIRST_SIZE;
 use row_tags::tagging;
@@ -33,13 +33,10 @@ fn row_fits(asked: Settings, row: RowWords) -> bool
 fn all_fit(asked: Settings, rows: &[u32]) -> bool
     ensures { result ≡ all_fit asked (rows_in rows.now) }
 {
-    let mut at = 0;
-    while ROW_WIDTH <= rows.len() - at {
-        let row = lists::first_row(&rows[at..]);
-        if !row_fits(asked, row) {
+    for words in rows.chunks_exact(ROW_WIDTH) {
+        if !row_fits(asked, lists::first_row(words)) {
             return false;
         }
-        at += ROW_WIDTH;
     }
     true
 }
@@ -62,11 +59,9 @@ fn rows_size(rows: &[u32]) -> usize
     requires { rows_size (rows_in rows.now) < 2 ^ 63 }
     ensures { result ≡ rows_size (rows_in rows.now) }
 {
-    let mut at = 0;
     let mut size = 0;
-    while ROW_WIDTH <= rows.len() - at {
-        size += FRAME_START + rows[at + 3] as usize;
-        at += ROW_WIDTH;
+    for words in rows.chunks_exact(ROW_WIDTH) {
+        size += FRAME_START + words[3] as usize;
     }
     size
 }
@@ -88,13 +83,11 @@ fn lay_rows(rows: &[u32], bytes: &[u8], out: &mut [u8])
     requires { RowsRoom (rows_in rows.now) (length bytes.now) (length out.old) }
     ensures { out.new ≡ over (rows_bytes bytes.now (rows_in rows.now)) out.old }
 {
-    let mut at = 0;
     let mut place = 0;
-    while ROW_WIDTH <= rows.len() - at {
-        let row = lists::first_row(&rows[at..]);
+    for words in rows.chunks_exact(ROW_WIDTH) {
+        let row = lists::first_row(words);
         lay_row(row, bytes, &mut out[place..]);
         place += FRAME_START + row.length as usize;
-        at += ROW_WIDTH;
     }
 }
 
@@ -111,26 +104,26 @@ fn lay_log(asked: Settings, rows: &[u32], bytes: &[u8], inner: usize, out: &mut 
 }
 
 // The log of the rows, whose frames lie in `bytes`, over the front of the area; or a refusal and the area unchanged.
-pub fn write(asked: Settings, rows: &[u32], bytes: &[u8], out: &mut [u8]) -> LogWritten
+pub fn write(asked: Settings, rows: &[u32], bytes: &[u8], out: &mut [u8]) -> Result<usize, Refusal>
     ensures { (written_numbers result ≡
         put_numbers (writing current asked rows.now bytes.now (length out.old)))
         × (out.new ≡ over
         (put_bytes (writing current asked rows.now bytes.now (length out.old))) out.old) }
 {
     if !settings::in_range(asked) {
-        return LogWritten::Refused(Refusal::SettingsOutOfRange);
+        return Err(Refusal::SettingsOutOfRange);
     }
     if lists::any_outside(rows, bytes.len()) {
-        return LogWritten::Refused(Refusal::RowOutsideBytes);
+        return Err(Refusal::RowOutsideBytes);
     }
     if !can_log(asked, rows) {
-        return LogWritten::Refused(Refusal::NotAllowed);
+        return Err(Refusal::NotAllowed);
     }
     let inner = rows_size(rows);
     let size = FIRST_SIZE + inner + LAST_SIZE;
     if out.len() < size {
-        return LogWritten::Refused(Refusal::AreaTooShort);
+        return Err(Refusal::AreaTooShort);
     }
     lay_log(asked, rows, bytes, inner, out);
-    LogWritten::Bytes(size)
+    Ok(size)
 }

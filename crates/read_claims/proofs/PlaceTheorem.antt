@@ -1,5 +1,9 @@
 -- Document 02, P2: the place of a fault lies in the packet and after its fixed header, and other answers have none.
 use mathlib.Core.Path.{◌≡◌, refl, subst}
+use Rattle.rtp.specs.declared.refusal.Refusal.{Refusal}
+use Rattle.read_contents.specs.declared.entries.Entry.{Entry}
+use Rattle.std.specs.Prelude.{None, Option, Some, Err, Ok, Result}
+use Rattle.formats.specs.declared.frames.Frame.{Frame}
 use mathlib.Core.List.{List, [], ◌∷◌}
 use mathlib.Core.Bool.{Bool}
 use Prim.Native.Nat.{ℕ, zero, suc, ◌+◌, ◌-◌, ◌*◌, ◌/◌, ◌%◌, ◌≤◌, ◌<◌}
@@ -17,15 +21,11 @@ use Rattle.read_headers.specs.Header.{csrc_end, extension_end, payload_start, pa
 use Rattle.read_headers.specs.Redundancy.{block_header, Headers, refused as unheaded, headers_of, prepend as prepend_header, headers_step, headers_by, headers, redundancy_headers, headers_size, redundant_size}
 use Rattle.rtp.specs.declared.settings.Settings.{Settings}
 use Rattle.read_headers.specs.declared.header.Header.{Header}
-use Rattle.read_headers.specs.declared.header.HeaderRead.{HeaderRead}
-use Rattle.read_headers.specs.declared.header.Bound.{Bound}
 use Rattle.read_headers.specs.declared.redundancy.Redundant.{Redundant}
 use Rattle.read_headers.specs.declared.redundancy.BlockHeader.{BlockHeader}
 use Rattle.rtp.proofs.TestLaws.{by-test}
 use Rattle.read_headers.proofs.HeaderLaws.{within}
-use Rattle.formats.specs.declared.frames.Coded.{Coded}
 use Rattle.formats.specs.Frames.{frame_of}
-use Rattle.read_contents.specs.declared.entries.EntryRead.{EntryRead}
 use Rattle.read_contents.specs.Contents.{min_entry, code_in, blocks_in, entry_size, coded_entry, entry_of, Group, Contents, refused as unread, groups, meaning, prepend, contents_step, contents_by, contents, pass_first, size_in, frames_in}
 use Rattle.row_tags.specs.Tags.{primary_mark, redundant_mark}
 use Rattle.read_payload.specs.Payloads.{table_start, starting_at, body, payload, Rows, no_rows, rows_of, placed_rows, payload_rows}
@@ -39,17 +39,17 @@ use Rattle.read_packet.proofs.ReadingLaws.{payload_fits}
 
 -- The refusals of a table are 6 to 9
 
-abbrev EntryPlaced : EntryRead → Type 0
-EntryPlaced (EntryRead.Refused r) = Placed (number r)
-EntryPlaced (EntryRead.Entry e) = Unit {0}
+abbrev EntryPlaced : Result Entry Refusal → Type 0
+EntryPlaced (Err r) = Placed (number r)
+EntryPlaced (Ok e) = Unit {0}
 
 abbrev TablePlaced : Contents → Type 0
 TablePlaced (unread f) = Placed (number f.refusal)
 TablePlaced (groups gs) = Unit {0}
 
-coded_placed : (m : Bool) (blocks size : ℕ) (c : Coded) → EntryPlaced (coded_entry m blocks size c)
-coded_placed m blocks size Coded.Reserved = (omega arith, omega arith)
-coded_placed m blocks size (Coded.Frame f) = by-test (eqb blocks 0) (λ a. rw a (omega arith, omega arith)) (λ a. rw a tt)
+coded_placed : (m : Bool) (blocks size : ℕ) (c : Option Frame) → EntryPlaced (coded_entry m blocks size c)
+coded_placed m blocks size None = (omega arith, omega arith)
+coded_placed m blocks size (Some f) = by-test (eqb blocks 0) (λ a. rw a (omega arith, omega arith)) (λ a. rw a tt)
 
 entry_placed : (format : ℕ) (s : List ℕ) → EntryPlaced (entry_of format s)
 unfolding entry_of
@@ -63,10 +63,10 @@ more_placed n g (unread f) h = h
 more_placed n g (groups gs) h = tt
 
 step_placed : (ed : Edition) (format ch rows : ℕ) (s : List ℕ) (next : ℕ → List ℕ → Contents) → ((n : ℕ) (t : List ℕ) → TablePlaced (next n t))
-    → (r : EntryRead) → EntryPlaced r → TablePlaced (contents_step ed format ch rows s next r)
+    → (r : Result Entry Refusal) → EntryPlaced r → TablePlaced (contents_step ed format ch rows s next r)
 unfolding meaning
-step_placed ed format ch rows s next ih (EntryRead.Refused r) h = h
-step_placed ed format ch rows s next ih (EntryRead.Entry e) h =
+step_placed ed format ch rows s next ih (Err r) h = h
+step_placed ed format ch rows s next ih (Ok e) h =
     by-test (ltb (max_rows ed) (rows + e.blocks * ch)) (λ a. rw a (omega arith, omega arith))
     (λ a. by-test e.more
     (λ m. rw (a, m) (more_placed e.size (meaning format s e) (next (rows + e.blocks * ch) (drop e.size s)) (ih (rows + e.blocks * ch) (drop e.size s))))
@@ -139,10 +139,10 @@ abbrev HeadersPlaced : Headers → Type 0
 HeadersPlaced (unheaded f) = Placed (number f.refusal)
 HeadersPlaced (headers_of bs type) = Unit {0}
 
-abbrev HeaderPlaced : BlockHeader → Type 0
-HeaderPlaced (BlockHeader.Refused r) = Placed (number r)
-HeaderPlaced (BlockHeader.Primary t) = Unit {0}
-HeaderPlaced (BlockHeader.Redundant b) = Unit {0}
+abbrev HeaderPlaced : Result BlockHeader Refusal → Type 0
+HeaderPlaced (Err r) = Placed (number r)
+HeaderPlaced (Ok (BlockHeader.Primary t)) = Unit {0}
+HeaderPlaced (Ok (BlockHeader.Redundant b)) = Unit {0}
 
 header_placed : (s : List ℕ) → HeaderPlaced (block_header s)
 unfolding block_header
@@ -155,10 +155,10 @@ headers_more : (b : Redundant) (x : Headers) → HeadersPlaced x → HeadersPlac
 headers_more b (unheaded f) h = h
 headers_more b (headers_of bs type) h = tt
 
-headers_step_lem : (s : List ℕ) (next : List ℕ → Headers) → ((t : List ℕ) → HeadersPlaced (next t)) → (b : BlockHeader) → HeaderPlaced b → HeadersPlaced (headers_step s next b)
-headers_step_lem s next ih (BlockHeader.Refused r) h = h
-headers_step_lem s next ih (BlockHeader.Primary t) h = tt
-headers_step_lem s next ih (BlockHeader.Redundant b) h = headers_more b (next (drop 4 s)) (ih (drop 4 s))
+headers_step_lem : (s : List ℕ) (next : List ℕ → Headers) → ((t : List ℕ) → HeadersPlaced (next t)) → (b : Result BlockHeader Refusal) → HeaderPlaced b → HeadersPlaced (headers_step s next b)
+headers_step_lem s next ih (Err r) h = h
+headers_step_lem s next ih (Ok (BlockHeader.Primary t)) h = tt
+headers_step_lem s next ih (Ok (BlockHeader.Redundant b)) h = headers_more b (next (drop 4 s)) (ih (drop 4 s))
 
 headers_by_lem : (f : ℕ) (s : List ℕ) → HeadersPlaced (headers_by f s)
 unfolding headers_by
@@ -177,13 +177,13 @@ redundant_after ed n st time at s l m = rw (le-ltb max_packet (length s) m) (spl
 
 -- Those of a header are 1 to 4
 
-abbrev BoundLow : Bound → Type 0
-BoundLow (Bound.Refused r) = number r < 6
-BoundLow (Bound.At n) = Unit {0}
+abbrev BoundLow : Result ℕ Refusal → Type 0
+BoundLow (Err r) = number r < 6
+BoundLow (Ok n) = Unit {0}
 
-abbrev HeaderLow : HeaderRead → Type 0
-HeaderLow (HeaderRead.Refused r) = number r < 6
-HeaderLow (HeaderRead.Header h) = Unit {0}
+abbrev HeaderLow : Result Header Refusal → Type 0
+HeaderLow (Err r) = number r < 6
+HeaderLow (Ok h) = Unit {0}
 
 start_low : (s : List ℕ) → BoundLow (payload_start s)
 unfolding payload_start
@@ -200,13 +200,13 @@ end_low s start =
     (λ a. by-test (eqb (byte_at s (length s - 1)) 0) (λ b. rw (a, b) (omega arith))
     (λ b. by-test (ltb (length s - start) (byte_at s (length s - 1))) (λ c. rw (a, b, c) (omega arith)) (λ c. rw (a, b, c) tt)))
 
-ended_low : (s : List ℕ) (start : ℕ) (b : Bound) → BoundLow b → HeaderLow (ended_at s start b)
-ended_low s start (Bound.Refused r) h = h
-ended_low s start (Bound.At n) h = tt
+ended_low : (s : List ℕ) (start : ℕ) (b : Result ℕ Refusal) → BoundLow b → HeaderLow (ended_at s start b)
+ended_low s start (Err r) h = h
+ended_low s start (Ok n) h = tt
 
-started_low : (s : List ℕ) (b : Bound) → BoundLow b → HeaderLow (started_at s b)
-started_low s (Bound.Refused r) h = h
-started_low s (Bound.At n) h = ended_low s n (payload_end s n) (end_low s n)
+started_low : (s : List ℕ) (b : Result ℕ Refusal) → BoundLow b → HeaderLow (started_at s b)
+started_low s (Err r) h = h
+started_low s (Ok n) h = ended_low s n (payload_end s n) (end_low s n)
 
 header_low : (s : List ℕ) → HeaderLow (header s)
 unfolding header
@@ -258,10 +258,10 @@ unfolding outcome_numbers
 outcome_fit h request (no_rows f) k = k
 outcome_fit h request (rows_of rs) k = fit_none 0 (low 0 (omega arith))
 
-headed_fit : (ed : Edition) (st : Settings) (s : List ℕ) (x : HeaderRead) → header s ≡ x → OutcomeFit (headed_by ed st s x)
+headed_fit : (ed : Edition) (st : Settings) (s : List ℕ) (x : Result Header Refusal) → header s ≡ x → OutcomeFit (headed_by ed st s x)
 unfolding outcome_numbers
-headed_fit ed st s (HeaderRead.Refused r) q = fit_none (number r) (low (number r) (subst HeaderLow q (header_low s)))
-headed_fit ed st s (HeaderRead.Header h) q =
+headed_fit ed st s (Err r) q = fit_none (number r) (low (number r) (subst HeaderLow q (header_low s)))
+headed_fit ed st s (Ok h) q =
     outcome_fit h _ (typed_rows ed st h (payload_in s h)) (typed_fit ed st h (payload_in s h) (within s h q).after (omega (arith, payload_fits s h q)))
 
 reading_fit : (ed : Edition) (st : Settings) (area : ℕ) (s : List ℕ) → OutcomeFit (reading ed st area s)

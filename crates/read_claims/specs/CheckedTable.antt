@@ -1,5 +1,5 @@
 -- Document 01, "Checked table", lines 1 to 7: one claim over the definitions that the contracts cite.
-use Rattle.std.specs.Prelude.{ℕ, ◌/◌, ◌%◌, ◌^◌, ◌≡◌, List, [], ◌∷◌, ◌++◌, length, replicate}
+use Rattle.std.specs.Prelude.{ℕ, ◌/◌, ◌%◌, ◌^◌, ◌≡◌, List, [], ◌∷◌, ◌++◌, length, replicate, Err, Ok}
 use Rattle.rtp.specs.Editions.{current}
 use Rattle.rtp.specs.Sizes.{row_area}
 use Rattle.rtp.specs.Ranges.{g719, g719_interleaved, gsm_hr}
@@ -11,7 +11,6 @@ use Rattle.rtp.specs.declared.settings.Settings.{Settings}
 use Rattle.rtp.specs.declared.refusal.Refusal.TheVariants.{ReservedCode}
 use Rattle.read_headers.specs.declared.redundancy.Redundant.{Redundant}
 use Rattle.read_headers.specs.declared.redundancy.BlockHeader.{BlockHeader}
-use Rattle.read_contents.specs.declared.entries.EntryRead.{EntryRead}
 use Rattle.formats.specs.Frames.{g719_length, no_data, sound}
 use Rattle.read_contents.specs.Contents.{entry_of}
 use Rattle.row_tags.specs.Tags.{primary_mark, redundant_mark}
@@ -81,7 +80,7 @@ gsm_frames = 0x80 ∷ 0xF0 ∷ 0x00 ∷ filler 28
 pub record CheckedTable : Type 0 where
   -- 1. L = 8, 22, 23, 27: 80, 220, 240, 320 bytes. L = 7, 28: refusal 7.
   pub frame_lengths : (g719_length 8 ≡ 80) × (g719_length 22 ≡ 220) × (g719_length 23 ≡ 240) × (g719_length 27 ≡ 320)
-  pub reserved_entries : (entry_of g719 (0x1C ∷ 0x01 ∷ []) ≡ EntryRead.Refused ReservedCode) × (entry_of g719 (0x70 ∷ 0x01 ∷ []) ≡ EntryRead.Refused ReservedCode)
+  pub reserved_entries : (entry_of g719 (0x1C ∷ 0x01 ∷ []) ≡ Err ReservedCode) × (entry_of g719 (0x70 ∷ 0x01 ∷ []) ≡ Err ReservedCode)
   pub reserved_packets : (packet_rows g719 1 plain_type 0 (0x1C ∷ 0x01 ∷ []) ≡ no_rows (fault_at 12 ReservedCode)) × (packet_rows g719 1 plain_type 0 (0x70 ∷ 0x01 ∷ []) ≡ no_rows (fault_at 12 ReservedCode))
   pub reserved_number : number ReservedCode ≡ 7
   -- 2. Kind 1, mono, A0 02 30 01 and 280 bytes (284 in all): lengths 80, 80, 120.
@@ -95,7 +94,7 @@ pub record CheckedTable : Type 0 where
   -- 5. Kind 1 at time 4294966336, two frame-blocks: 4294966336, then 0.
   pub wrapped_rows : packet_rows g719 1 plain_type 4294966336 two_blocks ≡ rows_of (row 4294966336 sound 0 14 80 ∷ row 0 sound 0 94 80 ∷ [])
   -- 6. Block header E1 0F 00 52, then 61: type 97, offset 960, length 82; at packet time 0 the redundant time is 4294966336.
-  pub block_header_lem : block_header block_headers ≡ BlockHeader.Redundant redundant_block
+  pub block_header_lem : block_header block_headers ≡ Ok (BlockHeader.Redundant redundant_block)
   pub block_headers_lem : redundancy_headers block_headers ≡ headers_of (redundant_block ∷ []) 97
   pub redundant_time : difference 0 960 ≡ 4294966336
   pub redundant_rows_lem : packet_rows g719 1 redundancy_type 0 (block_headers ++ one_block ++ one_block) ≡ rows_of (with_mark redundant_mark (row 4294966336 sound 0 19 80) ∷ row 0 sound 0 101 80 ∷ [])

@@ -1,5 +1,7 @@
 -- Laws of a table of contents: its first entry and the rest, and its bounds.
 use mathlib.Core.Path.{◌≡◌, refl, ap}
+use Rattle.std.specs.Prelude.{Err, Ok, Result}
+use Rattle.rtp.specs.declared.refusal.Fault.{Fault}
 use mathlib.Core.List.{List, [], ◌∷◌}
 use mathlib.Core.Bool.{true, false}
 use Prim.Native.Nat.{ℕ, zero, suc, ◌+◌, ◌-◌, ◌*◌, ◌≤◌, ◌<◌}
@@ -14,23 +16,21 @@ use Rattle.rtp.specs.declared.refusal.Refusal.{Refusal}
 use Rattle.rtp.specs.declared.refusal.Refusal.TheVariants.{TooManyRows}
 use Rattle.rtp.proofs.TestLaws.{by-test}
 use Rattle.read_contents.specs.declared.entries.Entry.{Entry}
-use Rattle.read_contents.specs.declared.entries.EntryRead.{EntryRead}
 use Rattle.read_contents.specs.declared.entries.Sizes.{Sizes}
-use Rattle.read_contents.specs.declared.entries.ContentsRead.{ContentsRead}
 use Rattle.rtp.specs.Faults.{fault, shifted}
 use Rattle.read_contents.specs.Contents.{entry_size, entry_of, Contents, refused, groups, gaps_from, meaning, prepend, contents_step, contents_by, contents, row_count, size_in, frames_in, sizes_answer}
 use Rattle.read_contents.proofs.EntryLaws.{fair}
 
 -- Fuel
 
-step_same : (ed : Edition) (format ch rows : ℕ) (s : List ℕ) (f g : ℕ → List ℕ → Contents) (r : EntryRead)
-    → ((e : Entry) → r ≡ EntryRead.Entry e → (n : ℕ) → f n (drop e.size s) ≡ g n (drop e.size s))
+step_same : (ed : Edition) (format ch rows : ℕ) (s : List ℕ) (f g : ℕ → List ℕ → Contents) (r : Result Entry Refusal)
+    → ((e : Entry) → r ≡ Ok e → (n : ℕ) → f n (drop e.size s) ≡ g n (drop e.size s))
     → contents_step ed format ch rows s f r ≡ contents_step ed format ch rows s g r
-step_same ed format ch rows s f g (EntryRead.Refused n) h = refl
-step_same ed format ch rows s f g (EntryRead.Entry e) h = rw (h e refl (rows + e.blocks * ch))
+step_same ed format ch rows s f g (Err n) h = refl
+step_same ed format ch rows s f g (Ok e) h = rw (h e refl (rows + e.blocks * ch))
 
 -- what follows an entry is shorter
-pub shorter : (format : ℕ) (s : List ℕ) (e : Entry) → entry_of format s ≡ EntryRead.Entry e → length (drop e.size s) < length s
+pub shorter : (format : ℕ) (s : List ℕ) (e : Entry) → entry_of format s ≡ Ok e → length (drop e.size s) < length s
 shorter format s e h = let k = fair format s e h in simp length-drop (omega arith)
 
 fuel : (ed : Edition) (f g format ch rows : ℕ) (s : List ℕ) → length s < f → length s < g → contents_by ed f format ch rows s ≡ contents_by ed g format ch rows s
@@ -69,28 +69,28 @@ pub record Small (ed : Edition) (rows n : ℕ) (t : Sizes) : Type 0 where
   pub within : t.size ≤ n
   pub short : t.frames ≤ max_frame * t.rows
 
-abbrev pub Within : Edition → ℕ → ℕ → ContentsRead → Type 0
-Within ed rows n (ContentsRead.Contents t) = Small ed rows n t
-Within ed rows n (ContentsRead.Refused f) = f.offset ≤ n
+abbrev pub Within : Edition → ℕ → ℕ → Result Sizes Fault → Type 0
+Within ed rows n (Ok t) = Small ed rows n t
+Within ed rows n (Err f) = f.offset ≤ n
 
 -- The table and its sizes by the first entry
 
 -- an entry's numbers before those of what follows
-abbrev pub ahead : ℕ → Entry → ContentsRead → ContentsRead
-ahead ch e (ContentsRead.Refused f) = ContentsRead.Refused (shifted e.size f)
-ahead ch e (ContentsRead.Contents t) =
-    ContentsRead.Contents (record { rows = e.blocks * ch + t.rows; size = e.size + t.size; frames = e.blocks * ch * e.length + t.frames })
+abbrev pub ahead : ℕ → Entry → Result Sizes Fault → Result Sizes Fault
+ahead ch e (Err f) = Err (shifted e.size f)
+ahead ch e (Ok t) =
+    Ok (record { rows = e.blocks * ch + t.rows; size = e.size + t.size; frames = e.blocks * ch * e.length + t.frames })
 
 module _ (ed : Edition) (format ch rows : ℕ) (s : List ℕ) where
-  pub contents_refused : (n : Refusal) → entry_of format s ≡ EntryRead.Refused n → contents ed format ch rows s ≡ refused (fault n)
+  pub contents_refused : (n : Refusal) → entry_of format s ≡ Err n → contents ed format ch rows s ≡ refused (fault n)
   contents_refused n h = rw (contents_step_lem ed, h)
 
-  pub at_refused : (n : Refusal) → entry_of format s ≡ EntryRead.Refused n → sizes_answer format ch (contents ed format ch rows s) ≡ ContentsRead.Refused (fault n)
+  pub at_refused : (n : Refusal) → entry_of format s ≡ Err n → sizes_answer format ch (contents ed format ch rows s) ≡ Err (fault n)
   unfolding sizes_answer
   at_refused n h = rw (contents_refused n h)
 
-  module _ (e : Entry) (h : entry_of format s ≡ EntryRead.Entry e) where
-    pub at_many : max_rows ed < rows + e.blocks * ch → sizes_answer format ch (contents ed format ch rows s) ≡ ContentsRead.Refused (fault TooManyRows)
+  module _ (e : Entry) (h : entry_of format s ≡ Ok e) where
+    pub at_many : max_rows ed < rows + e.blocks * ch → sizes_answer format ch (contents ed format ch rows s) ≡ Err (fault TooManyRows)
     unfolding sizes_answer
     at_many l = rw (contents_step_lem ed, h) (simp (lt-ltb _ _ l))
 
@@ -104,7 +104,7 @@ module _ (ed : Edition) (format ch rows : ℕ) (s : List ℕ) where
       contents_last m = rw (contents_step_lem ed, h) (simp (le-ltb _ _ l, m))
 
       pub at_last : e.more ≡ false
-          → sizes_answer format ch (contents ed format ch rows s) ≡ ContentsRead.Contents (record { rows = e.blocks * ch; size = e.size; frames = e.blocks * ch * e.length })
+          → sizes_answer format ch (contents ed format ch rows s) ≡ Ok (record { rows = e.blocks * ch; size = e.size; frames = e.blocks * ch * e.length })
       unfolding sizes_answer row_count size_in frames_in
       at_last m = let k = fair format s e h in rw (contents_last m) (simp (blocks_of_lem, len_of, add-zero, k.sized))
 
@@ -121,17 +121,17 @@ within_last : (ed : Edition) (rows n ch : ℕ) (e : Entry) → rows + e.blocks *
     → Small ed rows n (record { rows = e.blocks * ch; size = e.size; frames = e.blocks * ch * e.length })
 within_last ed rows n ch e h k l = record { few = h; within = k; short = omega (arith, mul-le-mul_left (e.blocks * ch) l) }
 
-within_more : (ed : Edition) (rows n ch : ℕ) (e : Entry) (r : ContentsRead) → e.size ≤ n → e.length ≤ max_frame
+within_more : (ed : Edition) (rows n ch : ℕ) (e : Entry) (r : Result Sizes Fault) → e.size ≤ n → e.length ≤ max_frame
     → Within ed (rows + e.blocks * ch) (n - e.size) r → Within ed rows n (ahead ch e r)
-within_more ed rows n ch e (ContentsRead.Refused f) z l w = omega arith
-within_more ed rows n ch e (ContentsRead.Contents t) z l w =
+within_more ed rows n ch e (Err f) z l w = omega arith
+within_more ed rows n ch e (Ok t) z l w =
     record { few = omega arith; within = omega arith; short = omega (arith, mul-le-mul_left (e.blocks * ch) l) }
 
 within_step : (ed : Edition) (f format ch rows : ℕ) (s : List ℕ) → length s < suc f
     → ((n : ℕ) (t : List ℕ) → length t < f → Within ed n (length t) (sizes_answer format ch (contents ed format ch n t)))
-    → (r : EntryRead) → entry_of format s ≡ r → Within ed rows (length s) (sizes_answer format ch (contents ed format ch rows s))
-within_step ed f format ch rows s h ih (EntryRead.Refused n) q = rw (at_refused ed format ch rows s n q) (omega arith)
-within_step ed f format ch rows s h ih (EntryRead.Entry e) q =
+    → (r : Result Entry Refusal) → entry_of format s ≡ r → Within ed rows (length s) (sizes_answer format ch (contents ed format ch rows s))
+within_step ed f format ch rows s h ih (Err n) q = rw (at_refused ed format ch rows s n q) (omega arith)
+within_step ed f format ch rows s h ih (Ok e) q =
     let k = fair format s e q in
     by-test (ltb (max_rows ed) (rows + e.blocks * ch))
     (λ a. rw (at_many ed format ch rows s e q (ltb-true _ _ a)) (omega arith))

@@ -1,5 +1,7 @@
 -- Laws of one table entry.
 use mathlib.Core.Path.{◌≡◌, refl, subst, ◌∙◌}
+use Rattle.std.specs.Prelude.{None, Option, Some, Err, Ok, Result}
+use Rattle.formats.specs.declared.frames.Frame.{Frame}
 use mathlib.Core.List.{List}
 use mathlib.Core.Bool.{Bool, true, false, cond}
 use Prim.Native.Nat.{ℕ, ◌+◌, ◌/◌, ◌%◌, ◌≤◌, ◌<◌}
@@ -14,20 +16,18 @@ use Rattle.rtp.specs.Sizes.{max_frame}
 use Rattle.rtp.specs.declared.refusal.Refusal.{Refusal}
 use Rattle.rtp.proofs.TestLaws.{by-test}
 use Rattle.rtp.proofs.ByteLaws.{Bytes}
-use Rattle.formats.specs.declared.frames.Coded.{Coded}
 use Rattle.read_contents.specs.declared.entries.Entry.{Entry}
-use Rattle.read_contents.specs.declared.entries.EntryRead.{EntryRead}
 use Rattle.formats.specs.Formats.{format_of}
 use Rattle.formats.specs.Frames.{max_class, frame_of}
 use Rattle.read_contents.specs.Contents.{min_entry, code_in, blocks_in, entry_size, coded_entry, entry_of, half_at}
 use Rattle.formats.proofs.FormatLaws.{code_placed, small_frame_lem}
 
 -- what is read past a refusal
-pub past : (b : Bool) (r : Refusal) (x : EntryRead) (e : Entry) → cond b (EntryRead.Refused r) x ≡ EntryRead.Entry e → (b ≡ false) × (x ≡ EntryRead.Entry e)
+pub past : (b : Bool) (r : Refusal) (x : Result Entry Refusal) (e : Entry) → cond b (Err r) x ≡ Ok e → (b ≡ false) × (x ≡ Ok e)
 past true r x e h = let z : ◌≡◌ {A = ℕ} 0 1 = cc in absurd (omega arith)
 past false r x e h = (refl, h)
 
-pub same_entry : (a b : Entry) → EntryRead.Entry a ≡ EntryRead.Entry b → a ≡ b
+pub same_entry : (a b : Entry) → ◌≡◌ {A = Result Entry Refusal} (Ok a) (Ok b) → a ≡ b
 same_entry a b h = cc
 
 pub min_some : (format : ℕ) → 1 ≤ min_entry format
@@ -68,9 +68,9 @@ few_blocks : (format : ℕ) (s : List ℕ) → Bytes s → blocks_in format s < 
 few_blocks format s bs = by-test (format_of format).counted (λ a. rw a (bs 1)) (λ a. rw a (omega arith))
 
 coded_fair : (format code : ℕ) (s : List ℕ) (m : Bool) (e : Entry) → code < (format_of format).codes → entry_size format (blocks_in format s) ≤ length s
-    → (c : Coded) → frame_of format code ≡ c → coded_entry m (blocks_in format s) (entry_size format (blocks_in format s)) c ≡ EntryRead.Entry e → Fair format s e
-coded_fair format code s m e l w Coded.Reserved q h = let z : ◌≡◌ {A = ℕ} 0 1 = cc in absurd (omega arith)
-coded_fair format code s m e l w (Coded.Frame f) q h =
+    → (c : Option Frame) → frame_of format code ≡ c → coded_entry m (blocks_in format s) (entry_size format (blocks_in format s)) c ≡ Ok e → Fair format s e
+coded_fair format code s m e l w None q h = let z : ◌≡◌ {A = ℕ} 0 1 = cc in absurd (omega arith)
+coded_fair format code s m e l w (Some f) q h =
     let p = past (eqb (blocks_in format s) 0) _ _ e h in
     let k = small_frame_lem format code f l q in
     subst (λ (x : Entry). Fair format s x) (same_entry _ e p.1) (record {
@@ -83,7 +83,7 @@ coded_fair format code s m e l w (Coded.Frame f) q h =
       sized = refl;
     })
 
-pub fair : (format : ℕ) (s : List ℕ) (e : Entry) → entry_of format s ≡ EntryRead.Entry e → Fair format s e
+pub fair : (format : ℕ) (s : List ℕ) (e : Entry) → entry_of format s ≡ Ok e → Fair format s e
 unfolding entry_of
 fair format s e h =
     let p1 = past (ltb (length s) (min_entry format)) _ _ e h in

@@ -1,5 +1,8 @@
 -- Document 01, "G.719 tables of contents" and "GSM-HR tables": entries and tables, over the formats.
-use Rattle.std.specs.Prelude.{ℕ, zero, suc, ◌+◌, ◌*◌, ◌/◌, ◌%◌, List, [], ◌∷◌, Bool, false, cond, length, drop, ltb, leb, eqb}
+use Rattle.std.specs.Prelude.{ℕ, zero, suc, ◌+◌, ◌*◌, ◌/◌, ◌%◌, List, [], ◌∷◌, Bool, false, cond, length, drop, ltb, leb, eqb, None, Option, Some, Err, Ok, Result}
+use Rattle.rtp.specs.declared.refusal.Refusal.{Refusal}
+use Rattle.read_contents.specs.declared.entries.Sizes.{Sizes}
+use Rattle.formats.specs.declared.frames.Frame.{Frame}
 use Rattle.rtp.specs.Editions.{Edition}
 use Rattle.rtp.specs.Sizes.{max_rows}
 use Rattle.rtp.specs.Numbers.{byte_at}
@@ -7,10 +10,7 @@ use Rattle.rtp.specs.Refusals.{number}
 use Rattle.rtp.specs.Faults.{fault, shifted}
 use Rattle.rtp.specs.declared.refusal.Fault.{Fault}
 use Rattle.rtp.specs.declared.refusal.Refusal.TheVariants.{ContentsTruncated, ReservedCode, NoFrameBlocks, TooManyRows}
-use Rattle.formats.specs.declared.frames.Coded.{Coded}
 use Rattle.read_contents.specs.declared.entries.Entry.{Entry}
-use Rattle.read_contents.specs.declared.entries.EntryRead.{EntryRead}
-use Rattle.read_contents.specs.declared.entries.ContentsRead.{ContentsRead}
 use Rattle.formats.specs.Formats.{format_of}
 use Rattle.formats.specs.Frames.{frame_of}
 
@@ -36,17 +36,17 @@ unfoldable pub entry_size : ℕ → ℕ → ℕ
 entry_size format blocks = min_entry format + gaps_size format blocks
 
 -- an entry of so many frame-blocks and bytes whose code stands for a frame, or is reserved
-abbrev pub coded_entry : Bool → ℕ → ℕ → Coded → EntryRead
-coded_entry more blocks size Coded.Reserved = EntryRead.Refused ReservedCode
-coded_entry more blocks size (Coded.Frame f) =
-    cond (eqb blocks 0) (EntryRead.Refused NoFrameBlocks)
-    (EntryRead.Entry (record { more = more; class = f.class; length = f.length; blocks = blocks; size = size }))
+abbrev pub coded_entry : Bool → ℕ → ℕ → Option Frame → Result Entry Refusal
+coded_entry more blocks size None = Err ReservedCode
+coded_entry more blocks size (Some f) =
+    cond (eqb blocks 0) (Err NoFrameBlocks)
+    (Ok (record { more = more; class = f.class; length = f.length; blocks = blocks; size = size }))
 
 -- the entry at the front of s
-unfoldable pub entry_of : ℕ → List ℕ → EntryRead
+unfoldable pub entry_of : ℕ → List ℕ → Result Entry Refusal
 entry_of format s =
-    cond (ltb (length s) (min_entry format)) (EntryRead.Refused ContentsTruncated)
-    (cond (ltb (length s) (entry_size format (blocks_in format s))) (EntryRead.Refused ContentsTruncated)
+    cond (ltb (length s) (min_entry format)) (Err ContentsTruncated)
+    (cond (ltb (length s) (entry_size format (blocks_in format s))) (Err ContentsTruncated)
     (coded_entry (leb 128 (byte_at s 0)) (blocks_in format s) (entry_size format (blocks_in format s)) (frame_of format (code_in format (byte_at s 0)))))
 
 -- The answer in numbers: the refusal number or 0, and the entry, with no number in it on refusal
@@ -57,9 +57,9 @@ pub record EntryNumbers : Type 0 where
 abbrev pub no_entry : Entry
 no_entry = record { more = false; class = 0; length = 0; blocks = 0; size = 0 }
 
-abbrev pub entry_numbers : EntryRead → EntryNumbers
-entry_numbers (EntryRead.Refused r) = record { refusal = number r; entry = no_entry }
-entry_numbers (EntryRead.Entry e) = record { refusal = 0; entry = e }
+abbrev pub entry_numbers : Result Entry Refusal → EntryNumbers
+entry_numbers (Err r) = record { refusal = number r; entry = no_entry }
+entry_numbers (Ok e) = record { refusal = 0; entry = e }
 
 -- A table as parsed
 
@@ -95,9 +95,9 @@ prepend size g (refused f) = refused (shifted size f)
 prepend size g (groups gs) = groups (g ∷ gs)
 
 -- what the entry read at the front of s makes of the table, where `next` reads what follows
-abbrev pub contents_step : Edition → ℕ → ℕ → ℕ → List ℕ → (ℕ → List ℕ → Contents) → EntryRead → Contents
-contents_step ed format ch rows s next (EntryRead.Refused r) = refused (fault r)
-contents_step ed format ch rows s next (EntryRead.Entry e) =
+abbrev pub contents_step : Edition → ℕ → ℕ → ℕ → List ℕ → (ℕ → List ℕ → Contents) → Result Entry Refusal → Contents
+contents_step ed format ch rows s next (Err r) = refused (fault r)
+contents_step ed format ch rows s next (Ok e) =
     cond (ltb (max_rows ed) (rows + e.blocks * ch)) (refused (fault TooManyRows))
     (cond e.more (prepend e.size (meaning format s e) (next (rows + e.blocks * ch) (drop e.size s)))
     (groups (meaning format s e ∷ [])))
@@ -145,9 +145,9 @@ pub record ContentsNumbers : Type 0 where
   pub frames : ℕ
 
 -- of the code's answer, case by case
-abbrev pub contents_read_numbers : ContentsRead → ContentsNumbers
-contents_read_numbers (ContentsRead.Refused f) = record { refusal = number f.refusal; offset = f.offset; rows = 0; size = 0; frames = 0 }
-contents_read_numbers (ContentsRead.Contents t) = record { refusal = 0; offset = 0; rows = t.rows; size = t.size; frames = t.frames }
+abbrev pub contents_read_numbers : Result Sizes Fault → ContentsNumbers
+contents_read_numbers (Err f) = record { refusal = number f.refusal; offset = f.offset; rows = 0; size = 0; frames = 0 }
+contents_read_numbers (Ok t) = record { refusal = 0; offset = 0; rows = t.rows; size = t.size; frames = t.frames }
 
 -- of the table
 unfoldable pub contents_numbers : ℕ → ℕ → Contents → ContentsNumbers
@@ -155,6 +155,6 @@ contents_numbers format ch (refused f) = record { refusal = number f.refusal; of
 contents_numbers format ch (groups gs) = record { refusal = 0; offset = 0; rows = row_count ch gs; size = size_in format gs; frames = frames_in ch gs }
 
 -- the code's answer that has them
-unfoldable pub sizes_answer : ℕ → ℕ → Contents → ContentsRead
-sizes_answer format ch (refused f) = ContentsRead.Refused f
-sizes_answer format ch (groups gs) = ContentsRead.Contents (record { rows = row_count ch gs; size = size_in format gs; frames = frames_in ch gs })
+unfoldable pub sizes_answer : ℕ → ℕ → Contents → Result Sizes Fault
+sizes_answer format ch (refused f) = Err f
+sizes_answer format ch (groups gs) = Ok (record { rows = row_count ch gs; size = size_in format gs; frames = frames_in ch gs })

@@ -4,14 +4,13 @@ ghost use Rattle.rtp.specs.Editions.{current};
 ghost use Rattle.read_contents.specs.Contents.{min_entry, code_in, blocks_in, entry_size, entry_of, entry_numbers, contents, contents_read_numbers, contents_numbers, gap_at};
 ghost use Rattle.formats.specs.Formats.{format_of};
 
-use formats::frames::Coded;
 use formats::{facts, frames};
-use rtp::bytes;
 use rtp::refusal::{Fault, Refusal};
 use rtp::sizes::MAX_ROWS;
+use rtp::{bytes, refusal};
 
 // One table entry: whether another follows, the frames' class and length, the number of frame-blocks, and the entry's own bytes.
-#[derive(Clone, Copy)]
+#[derive(Clone, Copy, Debug, PartialEq, Eq)]
 pub struct Entry {
     pub more: bool,
     pub class: usize,
@@ -20,24 +19,12 @@ pub struct Entry {
     pub size: usize,
 }
 
-#[derive(Clone, Copy)]
-pub enum EntryRead {
-    Entry(Entry),
-    Refused(Refusal),
-}
-
 // A whole table: its rows, its own bytes, and the bytes of the frames that follow it.
-#[derive(Clone, Copy)]
+#[derive(Clone, Copy, Debug, PartialEq, Eq)]
 pub struct Sizes {
     pub rows: usize,
     pub size: usize,
     pub frames: usize,
-}
-
-#[derive(Clone, Copy)]
-pub enum ContentsRead {
-    Contents(Sizes),
-    Refused(Fault),
 }
 
 // The bytes that an entry has at least.
@@ -81,77 +68,60 @@ pub fn entry_size(format: u8, blocks: usize) -> usize
 }
 
 // The entry at the front of s.
-pub fn read_entry(format: u8, s: &[u8]) -> EntryRead
+pub fn read_entry(format: u8, s: &[u8]) -> Result<Entry, Refusal>
     ensures { entry_numbers result ≡ entry_numbers (entry_of format s.now) }
 {
     if s.len() < min_entry(format) {
-        return EntryRead::Refused(Refusal::ContentsTruncated);
+        return Err(Refusal::ContentsTruncated);
     }
     let first = bytes::wide(s[0]);
     let blocks = blocks_in(format, s);
     let size = entry_size(format, blocks);
     if s.len() < size {
-        return EntryRead::Refused(Refusal::ContentsTruncated);
+        return Err(Refusal::ContentsTruncated);
     }
-    match frames::frame_of(format, code_in(format, first)) {
-        Coded::Reserved => EntryRead::Refused(Refusal::ReservedCode),
-        Coded::Frame(frame) => {
-            if blocks == 0 {
-                return EntryRead::Refused(Refusal::NoFrameBlocks);
-            }
-            EntryRead::Entry(Entry {
-                more: 128 <= first,
-                class: frame.class,
-                length: frame.length,
-                blocks,
-                size,
-            })
-        }
+    let frame = frames::frame_of(format, code_in(format, first)).ok_or(Refusal::ReservedCode)?;
+    if blocks == 0 {
+        return Err(Refusal::NoFrameBlocks);
     }
+    Ok(Entry {
+        more: 128 <= first,
+        class: frame.class,
+        length: frame.length,
+        blocks,
+        size,
+    })
 }
 
 // The table at the front of s, where `rows` rows came before it. `&s[0..]` and not `s` is passed on, here and where a payload is read: the same slice,
 // but its address and length go by themselves, and not as one copy that would have to wait for both (docs/PERFORMANCE.md).
-pub fn read_contents(format: u8, channels: u8, rows: u32, s: &[u8]) -> ContentsRead
+pub fn read_contents(format: u8, channels: u8, rows: u32, s: &[u8]) -> Result<Sizes, Fault>
     ensures { contents_read_numbers result ≡ contents_numbers format channels (contents current format channels rows s.now) }
 {
-    match read_entry(format, &s[0..]) {
-        EntryRead::Refused(refusal) => ContentsRead::Refused(Fault { refusal, offset: 0 }),
-        EntryRead::Entry(entry) => {
-            let here = entry.blocks * (channels as usize);
-            let so_far = (rows as usize) + here;
-            if MAX_ROWS < so_far {
-                return ContentsRead::Refused(Fault {
-                    refusal: Refusal::TooManyRows,
-                    offset: 0,
-                });
-            }
-            let frames = here * entry.length;
-            let size = entry.size;
-            if entry.more {
-                match read_contents(format, channels, so_far as u32, &s[size..]) {
-                    ContentsRead::Refused(fault) => {
-                        let refusal = fault.refusal;
-                        ContentsRead::Refused(Fault {
-                            refusal,
-                            offset: size + fault.offset,
-                        })
-                    }
-                    ContentsRead::Contents(rest) => ContentsRead::Contents(Sizes {
-                        rows: here + rest.rows,
-                        size: size + rest.size,
-                        frames: frames + rest.frames,
-                    }),
-                }
-            } else {
-                ContentsRead::Contents(Sizes {
-                    rows: here,
-                    size,
-                    frames,
-                })
-            }
-        }
+    let entry = read_entry(format, &s[0..])?;
+    let here = entry.blocks * (channels as usize);
+    let so_far = (rows as usize) + here;
+    if MAX_ROWS < so_far {
+        return Err(Fault::from(Refusal::TooManyRows));
     }
+    let size = entry.size;
+    let frames = here * entry.length;
+    if !entry.more {
+        return Ok(Sizes {
+            rows: here,
+            size,
+            frames,
+        });
+    }
+    let rest = refusal::shifted(
+        read_contents(format, channels, so_far as u32, &s[size..]),
+        size,
+    )?;
+    Ok(Sizes {
+        rows: here + rest.rows,
+        size: size + rest.size,
+        frames: frames + rest.frames,
+    })
 }
 
 // The frame-blocks left out before frame-block k of the entry at the front of s, none where s ends before.

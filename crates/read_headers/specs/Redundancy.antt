@@ -1,26 +1,27 @@
 -- Document 01, "Redundancy": block headers.
-use Rattle.std.specs.Prelude.{ℕ, zero, suc, ◌+◌, ◌*◌, ◌/◌, ◌%◌, List, [], ◌∷◌, cond, length, drop, ltb, eqb}
+use Rattle.std.specs.Prelude.{ℕ, zero, suc, ◌+◌, ◌*◌, ◌/◌, ◌%◌, List, [], ◌∷◌, cond, length, drop, ltb, eqb, Err, Ok, Result}
+use Rattle.rtp.specs.declared.refusal.Refusal.{Refusal}
+use Rattle.read_headers.specs.declared.redundancy.HeaderSizes.{HeaderSizes}
 use Rattle.rtp.specs.declared.refusal.Fault.{Fault}
 use Rattle.rtp.specs.declared.refusal.Refusal.TheVariants.{PacketLength, ContentsTruncated}
 use Rattle.read_headers.specs.declared.redundancy.Redundant.{Redundant}
 use Rattle.read_headers.specs.declared.redundancy.BlockHeader.{BlockHeader}
-use Rattle.read_headers.specs.declared.redundancy.HeadersRead.{HeadersRead}
 use Rattle.rtp.specs.Sizes.{max_packet}
 use Rattle.rtp.specs.Numbers.{byte_at}
 use Rattle.rtp.specs.Refusals.{number}
 use Rattle.rtp.specs.Faults.{fault, shifted}
 
 -- the block header at the front of s: F, type 7 bits; with F set, offset 14 bits and length 10 bits
-unfoldable pub block_header : List ℕ → BlockHeader
+unfoldable pub block_header : List ℕ → Result BlockHeader Refusal
 block_header s =
-    cond (eqb (length s) 0) (BlockHeader.Refused ContentsTruncated)
-    (cond (ltb (byte_at s 0) 128) (BlockHeader.Primary (byte_at s 0))
-    (cond (ltb (length s) 4) (BlockHeader.Refused ContentsTruncated)
-    (BlockHeader.Redundant (record {
+    cond (eqb (length s) 0) (Err ContentsTruncated)
+    (cond (ltb (byte_at s 0) 128) (Ok (BlockHeader.Primary (byte_at s 0)))
+    (cond (ltb (length s) 4) (Err ContentsTruncated)
+    (Ok (BlockHeader.Redundant (record {
       payload_type = byte_at s 0 % 128;
       offset = 64 * byte_at s 1 + byte_at s 2 / 4;
       length = 256 * (byte_at s 2 % 4) + byte_at s 3;
-    }))))
+    })))))
 
 -- The answer in numbers: the refusal number or 0, then F, the type, the offset and the length. On refusal all are 0, and the last header has neither offset
 -- nor length
@@ -31,10 +32,10 @@ pub record BlockNumbers : Type 0 where
   pub offset : ℕ
   pub length : ℕ
 
-abbrev pub block_numbers : BlockHeader → BlockNumbers
-block_numbers (BlockHeader.Refused r) = record { refusal = number r; follows = 0; payload_type = 0; offset = 0; length = 0 }
-block_numbers (BlockHeader.Primary t) = record { refusal = 0; follows = 0; payload_type = t; offset = 0; length = 0 }
-block_numbers (BlockHeader.Redundant b) = record { refusal = 0; follows = 1; payload_type = b.payload_type; offset = b.offset; length = b.length }
+abbrev pub block_numbers : Result BlockHeader Refusal → BlockNumbers
+block_numbers (Err r) = record { refusal = number r; follows = 0; payload_type = 0; offset = 0; length = 0 }
+block_numbers (Ok (BlockHeader.Primary t)) = record { refusal = 0; follows = 0; payload_type = t; offset = 0; length = 0 }
+block_numbers (Ok (BlockHeader.Redundant b)) = record { refusal = 0; follows = 1; payload_type = b.payload_type; offset = b.offset; length = b.length }
 
 -- the block headers of a payload: the redundant blocks', then the primary block's type
 pub data Headers : Type 0 where
@@ -47,10 +48,10 @@ prepend b (refused f) = refused (shifted 4 f)
 prepend b (headers_of bs t) = headers_of (b ∷ bs) t
 
 -- what the block header at the front makes of them, where `next` gives the headers that follow
-abbrev pub headers_step : List ℕ → (List ℕ → Headers) → BlockHeader → Headers
-headers_step s next (BlockHeader.Refused r) = refused (fault r)
-headers_step s next (BlockHeader.Primary t) = headers_of [] t
-headers_step s next (BlockHeader.Redundant b) = prepend b (next (drop 4 s))
+abbrev pub headers_step : List ℕ → (List ℕ → Headers) → Result BlockHeader Refusal → Headers
+headers_step s next (Err r) = refused (fault r)
+headers_step s next (Ok (BlockHeader.Primary t)) = headers_of [] t
+headers_step s next (Ok (BlockHeader.Redundant b)) = prepend b (next (drop 4 s))
 
 -- by fuel
 unfoldable pub headers_by : ℕ → List ℕ → Headers
@@ -82,9 +83,9 @@ pub record HeadersNumbers : Type 0 where
   pub redundant : ℕ
 
 -- of the code's answer, case by case
-abbrev pub headers_read_numbers : HeadersRead → HeadersNumbers
-headers_read_numbers (HeadersRead.Refused f) = record { refusal = number f.refusal; offset = f.offset; size = 0; redundant = 0 }
-headers_read_numbers (HeadersRead.Headers z) = record { refusal = 0; offset = 0; size = z.size; redundant = z.redundant }
+abbrev pub headers_read_numbers : Result HeaderSizes Fault → HeadersNumbers
+headers_read_numbers (Err f) = record { refusal = number f.refusal; offset = f.offset; size = 0; redundant = 0 }
+headers_read_numbers (Ok z) = record { refusal = 0; offset = 0; size = z.size; redundant = z.redundant }
 
 -- of the headers
 unfoldable pub headers_numbers : Headers → HeadersNumbers
@@ -92,6 +93,6 @@ headers_numbers (refused f) = record { refusal = number f.refusal; offset = f.of
 headers_numbers (headers_of bs t) = record { refusal = 0; offset = 0; size = headers_size bs; redundant = redundant_size bs }
 
 -- the code's answer that has them
-unfoldable pub headers_answer : Headers → HeadersRead
-headers_answer (refused f) = HeadersRead.Refused f
-headers_answer (headers_of bs t) = HeadersRead.Headers (record { size = headers_size bs; redundant = redundant_size bs })
+unfoldable pub headers_answer : Headers → Result HeaderSizes Fault
+headers_answer (refused f) = Err f
+headers_answer (headers_of bs t) = Ok (record { size = headers_size bs; redundant = redundant_size bs })

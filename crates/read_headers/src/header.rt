@@ -8,7 +8,7 @@ use rtp::refusal::Refusal;
 use rtp::sizes::{MAX_PACKET, MIN_PACKET};
 
 // What a header says; the payload is the packet's part from `start` up to `end`.
-#[derive(Clone, Copy)]
+#[derive(Clone, Copy, Debug, PartialEq, Eq)]
 pub struct Header {
     pub marker: u8,
     pub payload_type: u8,
@@ -19,61 +19,48 @@ pub struct Header {
     pub end: usize,
 }
 
-#[derive(Clone, Copy)]
-pub enum HeaderRead {
-    Header(Header),
-    Refused(Refusal),
-}
-
-// A place in the packet.
-#[derive(Clone, Copy)]
-pub enum Bound {
-    At(usize),
-    Refused(Refusal),
-}
-
 // Where the payload starts: after the fixed header, the CSRC list and the extension.
-pub(crate) fn payload_start(packet: &[u8]) -> Bound
+pub(crate) fn payload_start(packet: &[u8]) -> Result<usize, Refusal>
     requires { min_packet ≤ length packet.now }
     ensures { result ≡ payload_start packet.now }
 {
     let first = bytes::wide(packet[0]);
     let csrc_end = MIN_PACKET + 4 * (first % 16);
     if packet.len() < csrc_end {
-        return Bound::Refused(Refusal::HeaderTruncated);
+        return Err(Refusal::HeaderTruncated);
     }
     if first / 16 % 2 == 0 {
-        return Bound::At(csrc_end);
+        return Ok(csrc_end);
     }
     if packet.len() < csrc_end + 4 {
-        return Bound::Refused(Refusal::HeaderTruncated);
+        return Err(Refusal::HeaderTruncated);
     }
     let words = bytes::read_u16(packet, csrc_end + 2) as usize;
     let extension_end = csrc_end + 4 + 4 * words;
     if packet.len() < extension_end {
-        return Bound::Refused(Refusal::HeaderTruncated);
+        return Err(Refusal::HeaderTruncated);
     }
-    Bound::At(extension_end)
+    Ok(extension_end)
 }
 
 // Where the payload ends: before the padding.
-pub(crate) fn payload_end(packet: &[u8], start: usize) -> Bound
+pub(crate) fn payload_end(packet: &[u8], start: usize) -> Result<usize, Refusal>
     requires { (min_packet ≤ length packet.now) × (start ≤ length packet.now) }
     ensures { result ≡ payload_end packet.now start }
 {
     let first = bytes::wide(packet[0]);
     let length = packet.len();
     if first / 32 % 2 == 0 {
-        return Bound::At(length);
+        return Ok(length);
     }
     let count = bytes::wide(packet[length - 1]);
     if count == 0 {
-        return Bound::Refused(Refusal::PaddingCount);
+        return Err(Refusal::PaddingCount);
     }
     if length - start < count {
-        return Bound::Refused(Refusal::PaddingCount);
+        return Err(Refusal::PaddingCount);
     }
-    Bound::At(length - count)
+    Ok(length - count)
 }
 
 // The header's fields, with the payload's bounds.
@@ -94,25 +81,20 @@ pub(crate) fn header_fields(packet: &[u8], start: usize, end: usize) -> Header
 }
 
 // The header of a packet.
-pub fn read_header(packet: &[u8]) -> HeaderRead
+pub fn read_header(packet: &[u8]) -> Result<Header, Refusal>
     ensures { header_numbers result ≡ header_numbers (header packet.now) }
 {
     if packet.len() < MIN_PACKET {
-        return HeaderRead::Refused(Refusal::PacketLength);
+        return Err(Refusal::PacketLength);
     }
     if MAX_PACKET < packet.len() {
-        return HeaderRead::Refused(Refusal::PacketLength);
+        return Err(Refusal::PacketLength);
     }
     let version = packet[0] / 64;
-    if version == 2 {
-        match payload_start(packet) {
-            Bound::Refused(refusal) => HeaderRead::Refused(refusal),
-            Bound::At(start) => match payload_end(packet, start) {
-                Bound::Refused(refusal) => HeaderRead::Refused(refusal),
-                Bound::At(end) => HeaderRead::Header(header_fields(packet, start, end)),
-            },
-        }
-    } else {
-        HeaderRead::Refused(Refusal::Version)
+    if version != 2 {
+        return Err(Refusal::Version);
     }
+    let start = payload_start(packet)?;
+    let end = payload_end(packet, start)?;
+    Ok(header_fields(packet, start, end))
 }

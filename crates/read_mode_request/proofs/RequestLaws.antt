@@ -1,5 +1,6 @@
 -- Laws of the mode request: of a block, by the first block header, and of a packet.
 use mathlib.Core.Path.{◌≡◌, refl, ap, sym, ◌∙◌, subst}
+use Rattle.std.specs.Prelude.{Err, Ok, Result}
 use mathlib.Core.List.{List, [], ◌∷◌}
 use Prim.Native.Nat.{ℕ, ◌+◌}
 use native.Mathlib.Omega.{arith}
@@ -14,7 +15,6 @@ use Rattle.rtp.specs.declared.refusal.Fault.{Fault}
 use Rattle.read_headers.specs.declared.redundancy.Redundant.{Redundant}
 use Rattle.read_headers.specs.declared.redundancy.BlockHeader.{BlockHeader}
 use Rattle.read_headers.specs.declared.redundancy.HeaderSizes.{HeaderSizes}
-use Rattle.read_headers.specs.declared.redundancy.HeadersRead.{HeadersRead}
 use Rattle.rtp.proofs.TestLaws.{by-test}
 use Rattle.read_headers.proofs.RedundancyLaws.{headers_step_lem, Small, Within, within}
 use Rattle.rtp.proofs.ByteLaws.{Bytes}
@@ -50,15 +50,15 @@ blocks_placed st (b ∷ bs) found type at at' d =
     blocks_placed st bs (block_request st found b.payload_type (take b.length d)) type (at + b.length) (at' + b.length) (drop b.length d)
 
 module _ (st : Settings) (found : ℕ) (h d : List ℕ) where
-  pub from_refused : (r : Refusal) → block_header h ≡ BlockHeader.Refused r → request_from st found h d ≡ no_request
+  pub from_refused : (r : Refusal) → block_header h ≡ Err r → request_from st found h d ≡ no_request
   unfolding request_from
   from_refused r q = rw (headers_step_lem, q)
 
-  pub from_primary : (type : ℕ) → block_header h ≡ BlockHeader.Primary type → request_from st found h d ≡ block_request st found type d
+  pub from_primary : (type : ℕ) → block_header h ≡ Ok (BlockHeader.Primary type) → request_from st found h d ≡ block_request st found type d
   unfolding request_from blocks_request cut
   from_primary type q = rw (headers_step_lem, q)
 
-  pub from_redundant : (e : Redundant) → block_header h ≡ BlockHeader.Redundant e
+  pub from_redundant : (e : Redundant) → block_header h ≡ Ok (BlockHeader.Redundant e)
       → request_from st found h d ≡ request_from st (block_request st found e.payload_type (take e.length d)) (drop 4 h) (drop e.length d)
   unfolding request_from blocks_request cut
   from_redundant e q = rw (headers_step_lem h, q) (rest (headers (drop 4 h)))
@@ -69,33 +69,33 @@ module _ (st : Settings) (found : ℕ) (h d : List ℕ) where
 
 -- A redundancy payload, from what reading its block headers answered
 
-same_sizes : (a b : HeaderSizes) → HeadersRead.Headers a ≡ HeadersRead.Headers b → a ≡ b
+same_sizes : (a b : HeaderSizes) → ◌≡◌ {A = Result HeaderSizes Fault} (Ok a) (Ok b) → a ≡ b
 same_sizes a b h = cc
 
-split_none : (st : Settings) (s : List ℕ) (r : Fault) (x : Headers) → headers_answer x ≡ HeadersRead.Refused r → split_request st s x ≡ no_request
+split_none : (st : Settings) (s : List ℕ) (r : Fault) (x : Headers) → headers_answer x ≡ Err r → split_request st s x ≡ no_request
 unfolding headers_answer
 split_none st s r (refused f) h = refl
 split_none st s r (headers_of bs type) h = let o : ◌≡◌ {A = ℕ} 0 1 = cc in absurd (omega arith)
 
-split_some : (st : Settings) (s : List ℕ) (z : HeaderSizes) (x : Headers) → headers_answer x ≡ HeadersRead.Headers z → split_request st s x ≡ headed_request st no_request (drop z.size s) x
+split_some : (st : Settings) (s : List ℕ) (z : HeaderSizes) (x : Headers) → headers_answer x ≡ Ok z → split_request st s x ≡ headed_request st no_request (drop z.size s) x
 unfolding headers_answer
 split_some st s z (refused r) h = let o : ◌≡◌ {A = ℕ} 0 1 = cc in absurd (omega arith)
 split_some st s z (headers_of bs type) h =
     ap (λ (y : HeaderSizes). blocks_request st no_request (cut bs type 0 (drop y.size s))) (same_sizes _ z h)
 
 module _ (st : Settings) (s : List ℕ) where
-  pub redundant_none : (r : Fault) → headers_answer (redundancy_headers s) ≡ HeadersRead.Refused r → redundant_request st s ≡ no_request
+  pub redundant_none : (r : Fault) → headers_answer (redundancy_headers s) ≡ Err r → redundant_request st s ≡ no_request
   unfolding redundant_request
   redundant_none r h = split_none st s r (redundancy_headers s) h
 
-  module _ (z : HeaderSizes) (h : headers_answer (redundancy_headers s) ≡ HeadersRead.Headers z) where
+  module _ (z : HeaderSizes) (h : headers_answer (redundancy_headers s) ≡ Ok z) where
     in_packet : redundancy_headers s ≡ headers s
     unfolding redundancy_headers headers_answer
     in_packet = by-test (ltb max_packet (length s))
         (λ a. let y = rw a at h in let o : ◌≡◌ {A = ℕ} 0 1 = cc in absurd (omega arith)) (λ a. rw a)
 
     pub redundant_small : Bytes s → Small (length s) z
-    redundant_small bs = subst (λ (x : HeadersRead). Within (length s) x) (ap headers_answer (sym in_packet) ∙ h) (within s bs)
+    redundant_small bs = subst (λ (x : Result HeaderSizes Fault). Within (length s) x) (ap headers_answer (sym in_packet) ∙ h) (within s bs)
 
     pub redundant_from : redundant_request st s ≡ request_from st no_request s (drop z.size s)
     unfolding redundant_request request_from

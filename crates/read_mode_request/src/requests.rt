@@ -5,7 +5,7 @@ ghost use Rattle.read_mode_request.specs.Walks.{request_from};
 
 use formats::facts;
 use read_headers::redundancy;
-use read_headers::redundancy::{BlockHeader, HeadersRead};
+use read_headers::redundancy::BlockHeader;
 use read_payload::reading;
 use read_payload::reading::NO_REQUEST;
 use rtp::settings::Settings;
@@ -14,10 +14,7 @@ use rtp::settings::Settings;
 fn end_of(n: usize, s: &[u8]) -> usize
     ensures { (result ≤ length s.now) × (take result s.now ≡ take n s.now) × (drop result s.now ≡ drop n s.now) }
 {
-    if s.len() < n {
-        return s.len();
-    }
-    n
+    n.min(s.len())
 }
 
 // The request of a block, or the one found before it if it has no rows.
@@ -38,9 +35,9 @@ fn blocks_request(settings: Settings, found: u8, headers: &[u8], s: &[u8]) -> u8
     ensures { result ≡ request_from settings found headers.now s.now }
 {
     match redundancy::read_block_header(headers) {
-        BlockHeader::Refused(_) => NO_REQUEST,
-        BlockHeader::Primary(block_type) => block_request(settings, found, block_type, s),
-        BlockHeader::Redundant(block) => {
+        Err(_) => NO_REQUEST,
+        Ok(BlockHeader::Primary(block_type)) => block_request(settings, found, block_type, s),
+        Ok(BlockHeader::Redundant(block)) => {
             let end = end_of(block.length, s);
             let last = block_request(settings, found, block.payload_type, &s[..end]);
             blocks_request(settings, last, &headers[4..], &s[end..])
@@ -53,8 +50,8 @@ fn redundant_request(settings: Settings, s: &[u8]) -> u8
     ensures { result ≡ redundant_request settings s.now }
 {
     match redundancy::read_headers(s) {
-        HeadersRead::Refused(_) => NO_REQUEST,
-        HeadersRead::Headers(sizes) => {
+        Err(_) => NO_REQUEST,
+        Ok(sizes) => {
             let size = sizes.size;
             blocks_request(settings, NO_REQUEST, s, &s[size..])
         }

@@ -1,5 +1,8 @@
 -- A place at fault lies in the packet, or where it ends.
 use mathlib.Core.Path.{◌≡◌, refl, subst}
+use Rattle.std.specs.Prelude.{Err, Ok, Result}
+use Rattle.rtp.specs.declared.refusal.Refusal.{Refusal}
+use Rattle.read_headers.specs.declared.redundancy.HeaderSizes.{HeaderSizes}
 use mathlib.Core.List.{List}
 use Prim.Native.Nat.{ℕ, ◌+◌, ◌-◌, ◌≤◌}
 use native.Mathlib.Omega.{arith}
@@ -14,9 +17,7 @@ use Rattle.read_headers.specs.Redundancy.{redundancy_headers, headers_answer}
 use Rattle.read_headers.specs.Header.{header}
 use Rattle.rtp.specs.declared.settings.Settings.{Settings}
 use Rattle.read_headers.specs.declared.header.Header.{Header}
-use Rattle.read_headers.specs.declared.header.HeaderRead.{HeaderRead}
 use Rattle.rtp.specs.declared.refusal.Fault.{Fault}
-use Rattle.read_headers.specs.declared.redundancy.HeadersRead.{HeadersRead}
 use Rattle.rtp.proofs.TestLaws.{by-test}
 use Rattle.read_headers.proofs.HeaderLaws.{within}
 use Rattle.read_headers.proofs.RedundancyLaws.{InFront, front}
@@ -43,15 +44,15 @@ of_answer n (rows_of rs) h = tt
 redundant_inside : (ed : Edition) (st : Settings) (time at : ℕ) (s : List ℕ) → at + length s ≤ max_packet → RowsInside (at + length s) (redundant_rows ed st time at s)
 redundant_inside ed st time at s l = go (headers_answer (redundancy_headers s)) refl
   where
-    go : (x : HeadersRead) → headers_answer (redundancy_headers s) ≡ x → RowsInside (at + length s) (redundant_rows ed st time at s)
-    go (HeadersRead.Refused r) h = rw (split_refused ed st time at s r h) (omega (arith, split_place ed st time at s l r h))
-    go (HeadersRead.Headers z) h =
+    go : (x : Result HeaderSizes Fault) → headers_answer (redundancy_headers s) ≡ x → RowsInside (at + length s) (redundant_rows ed st time at s)
+    go (Err r) h = rw (split_refused ed st time at s r h) (omega (arith, split_place ed st time at s l r h))
+    go (Ok z) h =
         let q = headers_at ed st time at s l z h in
-        let w : z.size ≤ length s = subst (λ (x : HeadersRead). InFront (length s) x) q (front s) in
+        let w : z.size ≤ length s = subst (λ (x : Result HeaderSizes Fault). InFront (length s) x) q (front s) in
         by-test (ltb (length s - z.size) z.redundant)
         (λ a. rw (split_short ed st time at s l z h (ltb-true (length s - z.size) z.redundant a)) (omega arith))
         (λ a.
-        let k : Headed (length (drop z.size s)) (HeadersRead.Headers z) = rw (length-drop z.size s) (ltb-false (length s - z.size) z.redundant a) in
+        let k : Headed (length (drop z.size s)) (Ok z) = rw (length-drop z.size s) (ltb-false (length s - z.size) z.redundant a) in
         let e : at + z.size + length (drop z.size s) ≤ at + length s = rw (length-drop z.size s) (omega arith) in
         rw (split_blocks ed st time at s l z h (ltb-false (length s - z.size) z.redundant a))
         (of_answer (at + length s) (blocks_from ed st 0 time (at + z.size) s (drop z.size s))
@@ -73,9 +74,9 @@ outcome_inside : (n m : ℕ) (h : Header) (request : ℕ) (x : Rows) → n ≤ m
 outcome_inside n m h request (no_rows f) l w = omega arith
 outcome_inside n m h request (rows_of rs) l w = tt
 
-headed_inside : (ed : Edition) (st : Settings) (s : List ℕ) (x : HeaderRead) → header s ≡ x → OutcomeInside max_packet (headed_by ed st s x) × OutcomeInside (length s) (headed_by ed st s x)
-headed_inside ed st s (HeaderRead.Refused r) q = (omega arith, omega arith)
-headed_inside ed st s (HeaderRead.Header h) q =
+headed_inside : (ed : Edition) (st : Settings) (s : List ℕ) (x : Result Header Refusal) → header s ≡ x → OutcomeInside max_packet (headed_by ed st s x) × OutcomeInside (length s) (headed_by ed st s x)
+headed_inside ed st s (Err r) q = (omega arith, omega arith)
+headed_inside ed st s (Ok h) q =
     let p = payload_in s h in
     let fits = payload_fits s h q in
     let ends : h.start + length p ≤ length s = let w = within s h q in simp (length-take, length-drop) (omega arith) in

@@ -1,5 +1,7 @@
 -- What every row is like that reading a packet gives.
 use mathlib.Core.Path.{◌≡◌, refl, subst}
+use Rattle.std.specs.Prelude.{Err, Ok, Result}
+use Rattle.rtp.specs.declared.refusal.Refusal.{Refusal}
 use mathlib.Core.List.{List, [], ◌∷◌}
 use Prim.Native.Nat.{ℕ, ◌+◌, ◌-◌, ◌≤◌, ◌<◌}
 use Rattle.rtp.specs.Editions.{Edition}
@@ -15,7 +17,6 @@ use Rattle.read_headers.specs.Redundancy.{Headers, refused as unheaded, headers_
 use Rattle.read_headers.specs.Header.{header}
 use Rattle.rtp.specs.declared.settings.Settings.{Settings}
 use Rattle.read_headers.specs.declared.header.Header.{Header}
-use Rattle.read_headers.specs.declared.header.HeaderRead.{HeaderRead}
 use Rattle.read_headers.specs.declared.redundancy.Redundant.{Redundant}
 use Rattle.rtp.proofs.TestLaws.{by-test}
 use Rattle.read_headers.proofs.HeaderLaws.{within}
@@ -101,9 +102,9 @@ reading_fine ed st area s =
     (λ a. by-test (ltb area (row_area ed)) (λ b. rw (a, b) tt) (λ b. rw (a, b) (headed (header s) refl)))
     (λ a. rw a tt)
   where
-    headed : (x : HeaderRead) → header s ≡ x → FineOutcome ed st.format st.channels (length s) (headed_by ed st s x)
-    headed (HeaderRead.Refused r) q = tt
-    headed (HeaderRead.Header h) q =
+    headed : (x : Result Header Refusal) → header s ≡ x → FineOutcome ed st.format st.channels (length s) (headed_by ed st s x)
+    headed (Err r) q = tt
+    headed (Ok h) q =
         let w = within s h q in
         outcome_fine ed st.format st.channels (length s) h _ (typed_rows ed st h (payload_in s h))
         (typed_fine ed st (length s) h (payload_in s h) (simp (length-take, length-drop) (omega arith)))

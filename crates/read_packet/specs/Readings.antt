@@ -1,5 +1,7 @@
 -- A packet read into rows: `reading` is the whole meaning of a call of `read`, refusals included.
-use Rattle.std.specs.Prelude.{ℕ, ◌-◌, List, [], cond, length, take, drop, ltb, eqb}
+use Rattle.std.specs.Prelude.{ℕ, ◌-◌, List, [], cond, length, take, drop, ltb, eqb, Err, Ok, Result}
+use Rattle.rtp.specs.declared.refusal.Refusal.{Refusal}
+use Rattle.read_packet.specs.declared.reading.Packet.{Packet}
 use Rattle.rtp.specs.Editions.{Edition}
 use Rattle.rtp.specs.Sizes.{row_area}
 use Rattle.rtp.specs.Ranges.{in_range}
@@ -9,12 +11,10 @@ use Rattle.read_headers.specs.Header.{header}
 use Rattle.rtp.specs.declared.settings.Settings.{Settings}
 use Rattle.row_tags.specs.Tags.{primary_mark}
 use Rattle.read_headers.specs.declared.header.Header.{Header}
-use Rattle.read_headers.specs.declared.header.HeaderRead.{HeaderRead}
 use Rattle.rtp.specs.declared.refusal.Fault.{Fault}
 use Rattle.rtp.specs.declared.refusal.Refusal.TheVariants.{UnknownPayloadType, SettingsOutOfRange, AreaTooShort}
 use Rattle.read_rows.specs.Rows.{Row, words}
 use Rattle.read_payload.specs.Payloads.{Rows, no_rows, rows_of, payload_rows}
-use Rattle.read_packet.specs.declared.reading.Reading.{Reading}
 use Rattle.read_redundancy.specs.Blocks.{redundant_rows}
 use Rattle.read_mode_request.specs.Requests.{typed_request}
 
@@ -38,9 +38,9 @@ outcome_of h request (no_rows f) = refused f
 outcome_of h request (rows_of rs) = read_as h rs request
 
 -- reading a packet under settings in range
-abbrev pub headed_by : Edition → Settings → List ℕ → HeaderRead → Outcome
-headed_by ed st s (HeaderRead.Refused r) = refused (fault r)
-headed_by ed st s (HeaderRead.Header h) = outcome_of h (typed_request st h.payload_type (payload_in s h)) (typed_rows ed st h (payload_in s h))
+abbrev pub headed_by : Edition → Settings → List ℕ → Result Header Refusal → Outcome
+headed_by ed st s (Err r) = refused (fault r)
+headed_by ed st s (Ok h) = outcome_of h (typed_request st h.payload_type (payload_in s h)) (typed_rows ed st h (payload_in s h))
 
 -- reading the packet s into an area of so many words
 unfoldable pub reading : Edition → Settings → ℕ → List ℕ → Outcome
@@ -64,9 +64,9 @@ abbrev pub refused_numbers : Fault → Numbers
 refused_numbers f = record { refusal = number f.refusal; offset = f.offset; rows = 0; marker = 0; sequence = 0; timestamp = 0; source = 0; mode_request = 0 }
 
 -- of the code's answer, case by case
-abbrev pub reading_numbers : Reading → Numbers
-reading_numbers (Reading.Refused f) = refused_numbers f
-reading_numbers (Reading.Read p) =
+abbrev pub reading_numbers : Result Packet Fault → Numbers
+reading_numbers (Err f) = refused_numbers f
+reading_numbers (Ok p) =
     record { refusal = 0; offset = 0; rows = p.rows; marker = p.marker; sequence = p.sequence; timestamp = p.timestamp; source = p.source; mode_request = p.mode_request }
 
 -- of what reading comes to

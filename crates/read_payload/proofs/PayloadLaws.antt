@@ -1,5 +1,6 @@
 -- Laws of a payload, from what reading its table answered.
 use mathlib.Core.Path.{◌≡◌, refl, ap, sym, subst, ◌∙◌}
+use Rattle.std.specs.Prelude.{Err, Ok, Result}
 use mathlib.Core.List.{List, [], ◌∷◌}
 use mathlib.Core.Bool.{true, false}
 use Prim.Native.Nat.{ℕ, ◌+◌, ◌*◌, ◌/◌, ◌≤◌, ◌<◌}
@@ -19,8 +20,6 @@ use Rattle.rtp.specs.declared.refusal.Fault.{Fault}
 use Rattle.rtp.specs.declared.refusal.Refusal.TheVariants.{PacketLength, ContentsTruncated, LengthMismatch, SettingsOutOfRange, AreaTooShort}
 use Rattle.rtp.proofs.AreaLaws.{over_none}
 use Rattle.read_contents.specs.declared.entries.Sizes.{Sizes}
-use Rattle.read_contents.specs.declared.entries.ContentsRead.{ContentsRead}
-use Rattle.read_payload.specs.declared.reading.PayloadRead.{PayloadRead}
 use Rattle.formats.specs.Formats.{format_of}
 use Rattle.formats.specs.Frames.{step_of}
 use Rattle.read_contents.specs.Contents.{min_entry, entry_of, Group, Contents, refused, groups, contents, pass_first, row_count, size_in, sizes_answer}
@@ -44,12 +43,12 @@ length_table step ch time start (g ∷ gs) =
     simp (length-append, length_group, e)
 
 -- the answer of a table that was read
-rows_in : (mark format ch time at k : ℕ) (t : Sizes) (p : Contents) → sizes_answer format ch p ≡ ContentsRead.Contents t → rows_answer (placed_rows mark format ch time at (starting_at k p)) ≡ PayloadRead.Rows t.rows
+rows_in : (mark format ch time at k : ℕ) (t : Sizes) (p : Contents) → sizes_answer format ch p ≡ Ok t → rows_answer (placed_rows mark format ch time at (starting_at k p)) ≡ Ok t.rows
 unfolding sizes_answer placed_rows rows_answer
 rows_in mark format ch time at k t (refused r) h = let z : ◌≡◌ {A = ℕ} 0 1 = cc in absurd (omega arith)
 rows_in mark format ch time at k t (groups gs) h =
     let start = at + (format_of format).header + size_in format gs in
-    ap PayloadRead.Rows (length_marked mark (table_rows (step_of format) ch time start gs) ∙ length_table (step_of format) ch time start gs ∙ ap (λ (x : Sizes). x.rows) (same_sizes _ t h))
+    ap Ok (length_marked mark (table_rows (step_of format) ch time start gs) ∙ length_table (step_of format) ch time start gs ∙ ap (λ (x : Sizes). x.rows) (same_sizes _ t h))
 
 -- its words
 words_in : (mark format ch time at k : ℕ) (p : Contents) → fitting_words mark format ch time (at + (format_of format).header) p ≡ rows_words (placed_rows mark format ch time at (starting_at k p))
@@ -73,18 +72,18 @@ module _ (ed : Edition) (mark format ch done time at : ℕ) (s : List ℕ) where
       (λ z. rw (z, length-drop) (omega (arith, eqb-true (length s) 0 z)))
       (λ z. rw (z, length-drop) (omega (arith, eqb-false (length s) 0 z, header_small format)))
 
-  pub at_fault : (r : Fault) → sizes_answer format ch (contents ed format ch done (body format s)) ≡ ContentsRead.Refused r
+  pub at_fault : (r : Fault) → sizes_answer format ch (contents ed format ch done (body format s)) ≡ Err r
       → payload_rows ed mark format ch done time at s ≡ no_rows (fault_at (at + (table_start format s + r.offset)) r.refusal)
   unfolding payload_rows payload placed_rows
   at_fault r h = rw (exact_refused format ch (length (body format s)) r (pass_first Table) (sizes_passed format ch Table ∙ h))
 
   pub pay_refused : (r : Fault) (n : ℕ) → (format_of format).header ≤ length s → n ≡ at + (format_of format).header + r.offset
-      → sizes_answer format ch (contents ed format ch done (body format s)) ≡ ContentsRead.Refused r → payload_rows ed mark format ch done time at s ≡ no_rows (fault_at n r.refusal)
+      → sizes_answer format ch (contents ed format ch done (body format s)) ≡ Err r → payload_rows ed mark format ch done time at s ≡ no_rows (fault_at n r.refusal)
   pay_refused r n l e h = at_fault r h ∙ ap (λ (k : ℕ). no_rows (fault_at k r.refusal)) (omega (arith, e, starts l))
 
   -- the place at fault lies in the body
-  pub pay_place : (r : Fault) → sizes_answer format ch (contents ed format ch done (body format s)) ≡ ContentsRead.Refused r → r.offset ≤ length (body format s)
-  pay_place r h = subst (λ (x : ContentsRead). Within ed done (length (body format s)) x) h (within ed format ch done (body format s))
+  pub pay_place : (r : Fault) → sizes_answer format ch (contents ed format ch done (body format s)) ≡ Err r → r.offset ≤ length (body format s)
+  pay_place r h = subst (λ (x : Result Sizes Fault). Within ed done (length (body format s)) x) h (within ed format ch done (body format s))
 
   -- no table follows a header that is cut short
   pub pay_headless : length s < (format_of format).header → payload_rows ed mark format ch done time at s ≡ no_rows (fault_at at ContentsTruncated)
@@ -96,8 +95,8 @@ module _ (ed : Edition) (mark format ch done time at : ℕ) (s : List ℕ) where
       at_fault (fault ContentsTruncated) (at_refused ed format ch done (body format s) ContentsTruncated (rw (lt-ltb (length (body format s)) (min_entry format) (omega (arith, min_some format)))))
       ∙ ap (λ (k : ℕ). no_rows (fault_at k ContentsTruncated)) (omega (arith, b))
 
-  module _ (t : Sizes) (h : sizes_answer format ch (contents ed format ch done (body format s)) ≡ ContentsRead.Contents t) where
-    passed : sizes_answer format ch (pass_first Table) ≡ ContentsRead.Contents t
+  module _ (t : Sizes) (h : sizes_answer format ch (contents ed format ch done (body format s)) ≡ Ok t) where
+    passed : sizes_answer format ch (pass_first Table) ≡ Ok t
     passed = sizes_passed format ch Table ∙ h
 
     table_is : Exact mark format ch (length (body format s)) time at (pass_first Table) t
@@ -112,12 +111,12 @@ module _ (ed : Edition) (mark format ch done time at : ℕ) (s : List ℕ) where
         → payload_rows ed mark format ch done time at s ≡ no_rows (fault_at n LengthMismatch)
     pay_part n l e f = part_fault f ∙ ap (λ (k : ℕ). no_rows (fault_at k LengthMismatch)) (omega (arith, e, starts l))
 
-    pub pay_rows : t.size + t.frames ≡ length (body format s) → rows_answer (payload_rows ed mark format ch done time at s) ≡ PayloadRead.Rows t.rows
+    pub pay_rows : t.size + t.frames ≡ length (body format s) → rows_answer (payload_rows ed mark format ch done time at s) ≡ Ok t.rows
     unfolding payload_rows payload
     pay_rows f = rw (table_is.whole f) (rows_in mark format ch time at (table_start format s) t (pass_first Table) passed)
 
     pub pay_small : Small ed done (length (body format s)) t
-    pay_small = subst (λ (r : ContentsRead). Within ed done (length (body format s)) r) h (within ed format ch done (body format s))
+    pay_small = subst (λ (r : Result Sizes Fault). Within ed done (length (body format s)) r) h (within ed format ch done (body format s))
 
   -- The same by what putting its table and its frames answered, which stand after its header
 
@@ -132,13 +131,13 @@ module _ (ed : Edition) (mark format ch done time at : ℕ) (s : List ℕ) where
   put_within = exact_within ed format ch done (body format s)
 
   pub put_refused : (r : Fault) (n : ℕ) → (format_of format).header ≤ length s → n ≡ at + (format_of format).header + r.offset
-      → sizes_answer format ch (exact format ch (length (body format s)) (pass_first (contents ed format ch done (body format s)))) ≡ ContentsRead.Refused r
+      → sizes_answer format ch (exact format ch (length (body format s)) (pass_first (contents ed format ch done (body format s)))) ≡ Err r
       → payload_rows ed mark format ch done time at s ≡ no_rows (fault_at n r.refusal)
   unfolding payload_rows payload placed_rows
   put_refused r n l e h = rw (answer_refused format ch r Put h) (ap (λ (k : ℕ). no_rows (fault_at k r.refusal)) (omega (arith, e, starts l)))
 
-  pub put_rows : (t : Sizes) → sizes_answer format ch (exact format ch (length (body format s)) (pass_first (contents ed format ch done (body format s)))) ≡ ContentsRead.Contents t
-      → rows_answer (payload_rows ed mark format ch done time at s) ≡ PayloadRead.Rows t.rows
+  pub put_rows : (t : Sizes) → sizes_answer format ch (exact format ch (length (body format s)) (pass_first (contents ed format ch done (body format s)))) ≡ Ok t
+      → rows_answer (payload_rows ed mark format ch done time at s) ≡ Ok t.rows
   unfolding payload_rows payload
   put_rows t h = rows_in mark format ch time at (table_start format s) t Put h
 
@@ -162,7 +161,7 @@ module _ (ed : Edition) (mark : ℕ) (st : Settings) (done area time at : ℕ) (
   asked_in a b = rw (h, le-ltb (row_width * done + area) (row_area ed) a, le-ltb max_packet (at + length s) b)
 
 -- the answer and the words of a refusal
-pub answer_none : (x : Rows) (r : Fault) → x ≡ no_rows r → PayloadRead.Refused r ≡ rows_answer x
+pub answer_none : (x : Rows) (r : Fault) → x ≡ no_rows r → Err r ≡ rows_answer x
 unfolding rows_answer
 answer_none x r h = rw h
 

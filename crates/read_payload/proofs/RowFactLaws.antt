@@ -1,5 +1,11 @@
 -- What every row of a payload is like.
 use mathlib.Core.Path.{◌≡◌, refl, sym, subst}
+use Rattle.rtp.specs.declared.refusal.Refusal.{Refusal}
+use Rattle.read_contents.specs.declared.entries.Sizes.{Sizes}
+use Rattle.rtp.specs.declared.refusal.Fault.{Fault}
+use Rattle.read_contents.specs.declared.entries.Entry.{Entry}
+use Rattle.std.specs.Prelude.{None, Option, Some, Err, Ok, Result}
+use Rattle.formats.specs.declared.frames.Frame.{Frame}
 use mathlib.Core.List.{List, [], ◌∷◌, ◌++◌}
 use mathlib.Core.Bool.{Bool}
 use Prim.Native.Nat.{ℕ, zero, suc, ◌+◌, ◌*◌, ◌^◌, ◌≤◌, ◌<◌}
@@ -12,9 +18,6 @@ use Rattle.rtp.specs.Editions.{Edition}
 use Rattle.rtp.specs.Sizes.{max_rows}
 use Rattle.rtp.specs.Numbers.{byte_at}
 use Rattle.rtp.proofs.TestLaws.{by-test}
-use Rattle.formats.specs.declared.frames.Coded.{Coded}
-use Rattle.read_contents.specs.declared.entries.EntryRead.{EntryRead}
-use Rattle.read_contents.specs.declared.entries.ContentsRead.{ContentsRead}
 use Rattle.formats.specs.Formats.{format_of}
 use Rattle.formats.specs.Frames.{frame_of, step_of}
 use Rattle.frame_codes.specs.Codes.{no_code, code_for}
@@ -55,13 +58,13 @@ abbrev CodedIn : ℕ → Contents → Type 0
 CodedIn format (refused r) = Unit {0}
 CodedIn format (groups gs) = AllCoded format gs
 
-abbrev EntryCoded : ℕ → EntryRead → Type 0
-EntryCoded format (EntryRead.Refused r) = Unit {0}
-EntryCoded format (EntryRead.Entry e) = code_for format e.class e.length < no_code
+abbrev EntryCoded : ℕ → Result Entry Refusal → Type 0
+EntryCoded format (Err r) = Unit {0}
+EntryCoded format (Ok e) = code_for format e.class e.length < no_code
 
-frame_coded : (format code blocks size : ℕ) (m : Bool) (c : Coded) → code < (format_of format).codes → frame_of format code ≡ c → EntryCoded format (coded_entry m blocks size c)
-frame_coded format code blocks size m Coded.Reserved l q = tt
-frame_coded format code blocks size m (Coded.Frame f) l q = by-test (eqb blocks 0) (λ a. rw a tt) (λ a. rw a (code_some format f.class f.length code l q))
+frame_coded : (format code blocks size : ℕ) (m : Bool) (c : Option Frame) → code < (format_of format).codes → frame_of format code ≡ c → EntryCoded format (coded_entry m blocks size c)
+frame_coded format code blocks size m None l q = tt
+frame_coded format code blocks size m (Some f) l q = by-test (eqb blocks 0) (λ a. rw a tt) (λ a. rw a (code_some format f.class f.length code l q))
 
 entry_coded : (format : ℕ) (s : List ℕ) → EntryCoded format (entry_of format s)
 unfolding entry_of
@@ -81,10 +84,10 @@ coded_passed format (groups []) h = tt
 coded_passed format (groups (g ∷ gs)) h = h
 
 coded_step : (ed : Edition) (format ch rows : ℕ) (s : List ℕ) → ((n : ℕ) (t : List ℕ) → length t < length s → CodedIn format (contents ed format ch n t))
-    → (r : EntryRead) → entry_of format s ≡ r → CodedIn format (contents_step ed format ch rows s (λ n t. contents ed format ch n t) r)
+    → (r : Result Entry Refusal) → entry_of format s ≡ r → CodedIn format (contents_step ed format ch rows s (λ n t. contents ed format ch n t) r)
 unfolding meaning
-coded_step ed format ch rows s ih (EntryRead.Refused r) q = tt
-coded_step ed format ch rows s ih (EntryRead.Entry e) q =
+coded_step ed format ch rows s ih (Err r) q = tt
+coded_step ed format ch rows s ih (Ok e) q =
     let c : code_for format e.class e.length < no_code = subst (EntryCoded format) q (entry_coded format s) in
     by-test (ltb (max_rows ed) (rows + e.blocks * ch)) (λ a. rw a tt)
     (λ a. by-test e.more
@@ -161,4 +164,4 @@ payload_fine ed mark format ch n done time at s l e =
     (λ a. rw (pay_headless ed mark format ch done time at s (ltb-true (length s) (format_of format).header a)) tt)
     (λ a. placed_fine ed mark format ch n done time at (table_start format s) (length b) (pass_first p) l (rw length-drop (omega (arith, ltb-false (length s) (format_of format).header a)))
     (coded_passed format p (coded_by ed (suc (length b)) format ch done b (omega arith)))
-    (subst (λ (x : ContentsRead). Within ed done (length b) x) (sym (sizes_passed format ch p)) (within ed format ch done b)))
+    (subst (λ (x : Result Sizes Fault). Within ed done (length b) x) (sym (sizes_passed format ch p)) (within ed format ch done b)))

@@ -1,5 +1,5 @@
 -- A payload read into rows.
-use Rattle.std.specs.Prelude.{ℕ, ◌+◌, ◌*◌, ◌/◌, List, [], cond, length, drop, ltb, eqb}
+use Rattle.std.specs.Prelude.{ℕ, ◌+◌, ◌*◌, ◌/◌, List, [], cond, length, drop, ltb, eqb, Err, Ok, Result}
 use Rattle.rtp.specs.Editions.{Edition}
 use Rattle.rtp.specs.Sizes.{max_packet, row_width, row_area}
 use Rattle.rtp.specs.Numbers.{byte_at}
@@ -9,7 +9,6 @@ use Rattle.rtp.specs.Faults.{fault, shifted}
 use Rattle.rtp.specs.declared.settings.Settings.{Settings}
 use Rattle.rtp.specs.declared.refusal.Fault.{Fault}
 use Rattle.rtp.specs.declared.refusal.Refusal.TheVariants.{PacketLength, SettingsOutOfRange, AreaTooShort}
-use Rattle.read_payload.specs.declared.reading.PayloadRead.{PayloadRead}
 use Rattle.formats.specs.Formats.{format_of}
 use Rattle.formats.specs.Frames.{step_of}
 use Rattle.read_contents.specs.Contents.{Contents, refused, groups, contents, pass_first, size_in}
@@ -67,9 +66,9 @@ pub record PayloadNumbers : Type 0 where
   pub rows : ℕ
 
 -- of the code's answer, case by case
-abbrev pub payload_numbers : PayloadRead → PayloadNumbers
-payload_numbers (PayloadRead.Refused f) = record { refusal = number f.refusal; offset = f.offset; rows = 0 }
-payload_numbers (PayloadRead.Rows n) = record { refusal = 0; offset = 0; rows = n }
+abbrev pub payload_numbers : Result ℕ Fault → PayloadNumbers
+payload_numbers (Err f) = record { refusal = number f.refusal; offset = f.offset; rows = 0 }
+payload_numbers (Ok n) = record { refusal = 0; offset = 0; rows = n }
 
 -- of the rows
 unfoldable pub rows_numbers : Rows → PayloadNumbers
@@ -77,9 +76,9 @@ rows_numbers (no_rows f) = record { refusal = number f.refusal; offset = f.offse
 rows_numbers (rows_of rs) = record { refusal = 0; offset = 0; rows = length rs }
 
 -- the code's answer that has them
-unfoldable pub rows_answer : Rows → PayloadRead
-rows_answer (no_rows f) = PayloadRead.Refused f
-rows_answer (rows_of rs) = PayloadRead.Rows (length rs)
+unfoldable pub rows_answer : Rows → Result ℕ Fault
+rows_answer (no_rows f) = Err f
+rows_answer (rows_of rs) = Ok (length rs)
 
 -- the payload of a call: the settings are asked first, then the area of so many words for all the rows that a packet may have, then the payload's length
 unfoldable pub asked_rows : Edition → ℕ → Settings → ℕ → ℕ → ℕ → ℕ → List ℕ → Rows

@@ -8,66 +8,40 @@ ghost use Rattle.read_payload.specs.Payloads.{request_of, asked_rows, payload_nu
 
 use formats::facts;
 use read_contents::entries;
-use read_contents::entries::ContentsRead;
 use read_rows::rows;
 use rtp::refusal::{Fault, Refusal};
-use rtp::settings;
 use rtp::settings::Settings;
 use rtp::sizes::{MAX_PACKET, ROW_AREA, ROW_WIDTH};
+use rtp::{refusal, settings};
 
 // The mode request of a payload without one.
 pub const NO_REQUEST: u8 = 15;
 
-// The number of rows, or why there are none.
-#[derive(Clone, Copy)]
-pub enum PayloadRead {
-    Rows(u32),
-    Refused(Fault),
-}
-
 // Whether a payload can be read after `done` rows of its packet, and how many rows it gives.
-pub fn check_payload(asked: Settings, done: u32, s: &[u8]) -> PayloadRead
+pub fn check_payload(asked: Settings, done: u32, s: &[u8]) -> Result<u32, Fault>
     ensures { payload_numbers result ≡ rows_numbers (asked_rows current redundant_mark asked done (row_area current) 0 0 s.now) }
 {
-    if settings::in_range(asked) {
-        if MAX_PACKET < s.len() {
-            return PayloadRead::Refused(Fault {
-                refusal: Refusal::PacketLength,
-                offset: 0,
-            });
-        }
-        let header = facts::format_of(asked.format).header;
-        if s.len() < header {
-            return PayloadRead::Refused(Fault {
-                refusal: Refusal::ContentsTruncated,
-                offset: 0,
-            });
-        }
-        match entries::read_contents(asked.format, asked.channels, done, &s[header..]) {
-            ContentsRead::Refused(fault) => {
-                let refusal = fault.refusal;
-                PayloadRead::Refused(Fault {
-                    refusal,
-                    offset: header + fault.offset,
-                })
-            }
-            ContentsRead::Contents(sizes) => {
-                if header + sizes.size + sizes.frames == s.len() {
-                    PayloadRead::Rows(sizes.rows as u32)
-                } else {
-                    PayloadRead::Refused(Fault {
-                        refusal: Refusal::LengthMismatch,
-                        offset: header + sizes.size,
-                    })
-                }
-            }
-        }
-    } else {
-        PayloadRead::Refused(Fault {
-            refusal: Refusal::SettingsOutOfRange,
-            offset: 0,
-        })
+    if !settings::in_range(asked) {
+        return Err(Fault::from(Refusal::SettingsOutOfRange));
     }
+    if MAX_PACKET < s.len() {
+        return Err(Fault::from(Refusal::PacketLength));
+    }
+    let header = facts::format_of(asked.format).header;
+    if s.len() < header {
+        return Err(Fault::from(Refusal::ContentsTruncated));
+    }
+    let sizes = refusal::shifted(
+        entries::read_contents(asked.format, asked.channels, done, &s[header..]),
+        header,
+    )?;
+    if header + sizes.size + sizes.frames != s.len() {
+        return Err(Fault {
+            refusal: Refusal::LengthMismatch,
+            offset: header + sizes.size,
+        });
+    }
+    Ok(sizes.rows as u32)
 }
 
 // The payload s, which stands at `at` in its packet and after `done` of its rows and is heard with this mark: its rows at the front of the area, or a
@@ -80,31 +54,28 @@ pub fn read_payload(
     mark: u8,
     s: &[u8],
     area: &mut [u32],
-) -> PayloadRead
+) -> Result<u32, Fault>
     ensures { (payload_numbers result ≡ rows_numbers (asked_rows current mark asked done (length area.old) time at s.now))
         × (area.new ≡ over (rows_words (asked_rows current mark asked done (length area.old) time at s.now)) area.old) }
 {
-    if settings::in_range(asked) {
-        if ROW_WIDTH * (done as usize) + area.len() < ROW_AREA {
-            return PayloadRead::Refused(Fault {
-                refusal: Refusal::AreaTooShort,
-                offset: 0,
-            });
-        }
-        if MAX_PACKET < (at as usize) + s.len() {
-            return PayloadRead::Refused(Fault {
-                refusal: Refusal::PacketLength,
-                offset: 0,
-            });
-        }
-        let header = facts::format_of(asked.format).header;
-        if s.len() < header {
-            return PayloadRead::Refused(Fault {
-                refusal: Refusal::ContentsTruncated,
-                offset: at as usize,
-            });
-        }
-        match rows::put_table(
+    if !settings::in_range(asked) {
+        return Err(Fault::from(Refusal::SettingsOutOfRange));
+    }
+    if ROW_WIDTH * (done as usize) + area.len() < ROW_AREA {
+        return Err(Fault::from(Refusal::AreaTooShort));
+    }
+    if MAX_PACKET < (at as usize) + s.len() {
+        return Err(Fault::from(Refusal::PacketLength));
+    }
+    let header = facts::format_of(asked.format).header;
+    if s.len() < header {
+        return Err(Fault {
+            refusal: Refusal::ContentsTruncated,
+            offset: at as usize,
+        });
+    }
+    let sizes = refusal::shifted(
+        rows::put_table(
             area,
             mark,
             &s[header..],
@@ -113,22 +84,10 @@ pub fn read_payload(
             done,
             time,
             at + (header as u32),
-        ) {
-            ContentsRead::Refused(fault) => {
-                let refusal = fault.refusal;
-                PayloadRead::Refused(Fault {
-                    refusal,
-                    offset: (at as usize) + header + fault.offset,
-                })
-            }
-            ContentsRead::Contents(sizes) => PayloadRead::Rows(sizes.rows as u32),
-        }
-    } else {
-        PayloadRead::Refused(Fault {
-            refusal: Refusal::SettingsOutOfRange,
-            offset: 0,
-        })
-    }
+        ),
+        (at as usize) + header,
+    )?;
+    Ok(sizes.rows as u32)
 }
 
 // The mode request in the payload's header.

@@ -1,5 +1,6 @@
 -- Laws of rows that follow rows: their answer, their bound and their words.
 use mathlib.Core.Path.{◌≡◌, refl, ap, sym, ◌∙◌, subst}
+use Rattle.std.specs.Prelude.{Err, Ok, Result}
 use mathlib.Core.List.{List, [], ◌++◌, append-nil}
 use Prim.Native.Nat.{ℕ, ◌+◌, ◌*◌, ◌≤◌}
 use native.Mathlib.Omega.{arith}
@@ -10,7 +11,6 @@ use Rattle.rtp.specs.Areas.{over}
 use Rattle.rtp.specs.Faults.{shifted}
 use Rattle.rtp.specs.declared.refusal.Fault.{Fault}
 use Rattle.rtp.proofs.AreaLaws.{over_none}
-use Rattle.read_payload.specs.declared.reading.PayloadRead.{PayloadRead}
 use Rattle.read_rows.specs.Rows.{Row, words}
 use Rattle.read_payload.specs.Payloads.{Rows, no_rows, rows_of, payload_numbers, rows_numbers, rows_answer, rows_words}
 use Rattle.read_rows.proofs.RowLaws.{length_words, words_append}
@@ -25,54 +25,54 @@ then_none (rows_of rs) = ap rows_of (append-nil rs)
 
 -- The answer
 
-abbrev pub add_answer : ℕ → PayloadRead → PayloadRead
-add_answer n (PayloadRead.Refused r) = PayloadRead.Refused r
-add_answer n (PayloadRead.Rows m) = PayloadRead.Rows (n + m)
+abbrev pub add_answer : ℕ → Result ℕ Fault → Result ℕ Fault
+add_answer n (Err r) = Err r
+add_answer n (Ok m) = Ok (n + m)
 
-abbrev pub then_answer : PayloadRead → (ℕ → PayloadRead) → PayloadRead
-then_answer (PayloadRead.Refused r) next = PayloadRead.Refused r
-then_answer (PayloadRead.Rows n) next = add_answer n (next n)
+abbrev pub then_answer : Result ℕ Fault → (ℕ → Result ℕ Fault) → Result ℕ Fault
+then_answer (Err r) next = Err r
+then_answer (Ok n) next = add_answer n (next n)
 
 prepend_answer : (rs : List Row) (x : Rows) → rows_answer (prepend_rows rs x) ≡ add_answer (length rs) (rows_answer x)
 unfolding rows_answer
 prepend_answer rs (no_rows r) = refl
-prepend_answer rs (rows_of qs) = ap PayloadRead.Rows (length-append rs qs)
+prepend_answer rs (rows_of qs) = ap Ok (length-append rs qs)
 
 pub then_answer_lem : (x : Rows) (next : ℕ → Rows) → rows_answer (then_rows x next) ≡ then_answer (rows_answer x) (λ n. rows_answer (next n))
 unfolding rows_answer
 then_answer_lem (no_rows r) next = refl
 then_answer_lem (rows_of rs) next = prepend_answer rs (next (length rs))
 
-pub answer_same : (p : PayloadRead) (f g : ℕ → PayloadRead) → ((n : ℕ) → f n ≡ g n) → then_answer p f ≡ then_answer p g
-answer_same (PayloadRead.Refused r) f g h = refl
-answer_same (PayloadRead.Rows n) f g h = ap (add_answer n) (h n)
+pub answer_same : (p : Result ℕ Fault) (f g : ℕ → Result ℕ Fault) → ((n : ℕ) → f n ≡ g n) → then_answer p f ≡ then_answer p g
+answer_same (Err r) f g h = refl
+answer_same (Ok n) f g h = ap (add_answer n) (h n)
 
 pub then_same : (x y : Rows) (f g : ℕ → Rows) → rows_answer x ≡ rows_answer y → ((n : ℕ) → rows_answer (f n) ≡ rows_answer (g n)) → rows_answer (then_rows x f) ≡ rows_answer (then_rows y g)
 then_same x y f g h k =
     then_answer_lem x f
-    ∙ ap (λ (p : PayloadRead). then_answer p (λ n. rows_answer (f n))) h
+    ∙ ap (λ (p : Result ℕ Fault). then_answer p (λ n. rows_answer (f n))) h
     ∙ answer_same (rows_answer y) (λ n. rows_answer (f n)) (λ n. rows_answer (g n)) k
     ∙ sym (then_answer_lem y g)
 
 -- Counted from n bytes before
 
-abbrev pub further : ℕ → PayloadRead → PayloadRead
-further n (PayloadRead.Refused f) = PayloadRead.Refused (shifted n f)
-further n (PayloadRead.Rows m) = PayloadRead.Rows m
+abbrev pub further : ℕ → Result ℕ Fault → Result ℕ Fault
+further n (Err f) = Err (shifted n f)
+further n (Ok m) = Ok m
 
-add_further : (n m : ℕ) (p : PayloadRead) → add_answer m (further n p) ≡ further n (add_answer m p)
-add_further n m (PayloadRead.Refused f) = refl
-add_further n m (PayloadRead.Rows k) = refl
+add_further : (n m : ℕ) (p : Result ℕ Fault) → add_answer m (further n p) ≡ further n (add_answer m p)
+add_further n m (Err f) = refl
+add_further n m (Ok k) = refl
 
-answer_further : (n : ℕ) (p : PayloadRead) (f : ℕ → PayloadRead) → then_answer (further n p) (λ i. further n (f i)) ≡ further n (then_answer p f)
-answer_further n (PayloadRead.Refused r) f = refl
-answer_further n (PayloadRead.Rows m) f = add_further n m (f m)
+answer_further : (n : ℕ) (p : Result ℕ Fault) (f : ℕ → Result ℕ Fault) → then_answer (further n p) (λ i. further n (f i)) ≡ further n (then_answer p f)
+answer_further n (Err r) f = refl
+answer_further n (Ok m) f = add_further n m (f m)
 
 pub then_further : (n : ℕ) (x y : Rows) (f g : ℕ → Rows) → rows_answer x ≡ further n (rows_answer y) → ((i : ℕ) → rows_answer (f i) ≡ further n (rows_answer (g i)))
     → rows_answer (then_rows x f) ≡ further n (rows_answer (then_rows y g))
 then_further n x y f g h k =
     then_answer_lem x f
-    ∙ ap (λ (p : PayloadRead). then_answer p (λ i. rows_answer (f i))) h
+    ∙ ap (λ (p : Result ℕ Fault). then_answer p (λ i. rows_answer (f i))) h
     ∙ answer_same (further n (rows_answer y)) (λ i. rows_answer (f i)) (λ i. further n (rows_answer (g i))) k
     ∙ answer_further n (rows_answer y) (λ i. rows_answer (g i))
     ∙ ap (further n) (sym (then_answer_lem y g))
@@ -83,51 +83,51 @@ none_further n = refl
 
 -- A place at fault lies within n bytes
 
-abbrev pub Inside : ℕ → PayloadRead → Type 0
-Inside n (PayloadRead.Refused f) = f.offset ≤ n
-Inside n (PayloadRead.Rows m) = Unit {0}
+abbrev pub Inside : ℕ → Result ℕ Fault → Type 0
+Inside n (Err f) = f.offset ≤ n
+Inside n (Ok m) = Unit {0}
 
-add_inside : (n m : ℕ) (p : PayloadRead) → Inside n p → Inside n (add_answer m p)
-add_inside n m (PayloadRead.Refused f) h = h
-add_inside n m (PayloadRead.Rows k) h = tt
+add_inside : (n m : ℕ) (p : Result ℕ Fault) → Inside n p → Inside n (add_answer m p)
+add_inside n m (Err f) h = h
+add_inside n m (Ok k) h = tt
 
-pub then_inside : (n : ℕ) (p : PayloadRead) (f : ℕ → PayloadRead) → Inside n p → ((i : ℕ) → Inside n (f i)) → Inside n (then_answer p f)
-then_inside n (PayloadRead.Refused r) f h k = h
-then_inside n (PayloadRead.Rows m) f h k = add_inside n m (f m) (k m)
+pub then_inside : (n : ℕ) (p : Result ℕ Fault) (f : ℕ → Result ℕ Fault) → Inside n p → ((i : ℕ) → Inside n (f i)) → Inside n (then_answer p f)
+then_inside n (Err r) f h k = h
+then_inside n (Ok m) f h k = add_inside n m (f m) (k m)
 
 pub none_inside : (n : ℕ) → Inside n (rows_answer (rows_of []))
 unfolding rows_answer
 none_inside n = tt
 
-pub inside_more : (n m : ℕ) (p : PayloadRead) → n ≤ m → Inside n p → Inside m p
-inside_more n m (PayloadRead.Refused f) l h = omega arith
-inside_more n m (PayloadRead.Rows k) l h = tt
+pub inside_more : (n m : ℕ) (p : Result ℕ Fault) → n ≤ m → Inside n p → Inside m p
+inside_more n m (Err f) l h = omega arith
+inside_more n m (Ok k) l h = tt
 
 -- what follows was found where the whole was
-pub then_taken : (p : PayloadRead) (f : ℕ → PayloadRead) (n : ℕ) → p ≡ PayloadRead.Rows n → Taken (then_answer p f) → Taken (f n)
+pub then_taken : (p : Result ℕ Fault) (f : ℕ → Result ℕ Fault) (n : ℕ) → p ≡ Ok n → Taken (then_answer p f) → Taken (f n)
 then_taken p f n h k = found (f n) (rw h at k)
   where
-    found : (q : PayloadRead) → Taken (add_answer n q) → Taken q
-    found (PayloadRead.Refused r) z = z
-    found (PayloadRead.Rows m) z = tt
+    found : (q : Result ℕ Fault) → Taken (add_answer n q) → Taken q
+    found (Err r) z = z
+    found (Ok m) z = tt
 
 -- No more rows than a packet has, where `done` came before
 
-abbrev pub Few : Edition → ℕ → PayloadRead → Type 0
-Few ed done (PayloadRead.Refused r) = Unit {0}
-Few ed done (PayloadRead.Rows n) = done + n ≤ max_rows ed
+abbrev pub Few : Edition → ℕ → Result ℕ Fault → Type 0
+Few ed done (Err r) = Unit {0}
+Few ed done (Ok n) = done + n ≤ max_rows ed
 
-add_few : (ed : Edition) (done n : ℕ) (p : PayloadRead) → Few ed (done + n) p → Few ed done (add_answer n p)
-add_few ed done n (PayloadRead.Refused r) h = tt
-add_few ed done n (PayloadRead.Rows m) h = omega arith
+add_few : (ed : Edition) (done n : ℕ) (p : Result ℕ Fault) → Few ed (done + n) p → Few ed done (add_answer n p)
+add_few ed done n (Err r) h = tt
+add_few ed done n (Ok m) h = omega arith
 
-pub then_few : (ed : Edition) (done : ℕ) (p : PayloadRead) (f : ℕ → PayloadRead) → Few ed done p → ((n : ℕ) → done + n ≤ max_rows ed → Few ed (done + n) (f n)) → Few ed done (then_answer p f)
-then_few ed done (PayloadRead.Refused r) f h k = tt
-then_few ed done (PayloadRead.Rows n) f h k = add_few ed done n (f n) (k n h)
+pub then_few : (ed : Edition) (done : ℕ) (p : Result ℕ Fault) (f : ℕ → Result ℕ Fault) → Few ed done p → ((n : ℕ) → done + n ≤ max_rows ed → Few ed (done + n) (f n)) → Few ed done (then_answer p f)
+then_few ed done (Err r) f h k = tt
+then_few ed done (Ok n) f h k = add_few ed done n (f n) (k n h)
 
 -- The words
 
-pub answer_words : (x : Rows) (n : ℕ) → rows_answer x ≡ PayloadRead.Rows n → length (rows_words x) ≡ row_width * n
+pub answer_words : (x : Rows) (n : ℕ) → rows_answer x ≡ Ok n → length (rows_words x) ≡ row_width * n
 unfolding rows_answer rows_words
 answer_words (no_rows r) n h = let z : ◌≡◌ {A = ℕ} 0 1 = cc in absurd (omega arith)
 answer_words (rows_of rs) n h = let e : length rs ≡ n = cc in length_words rs ∙ ap (λ (i : ℕ). row_width * i) e
@@ -137,7 +137,7 @@ unfolding rows_answer rows_words
 prepend_words rs (no_rows r) k = absurd k
 prepend_words rs (rows_of qs) k = words_append rs qs
 
-pub then_words : (x : Rows) (next : ℕ → Rows) (n : ℕ) → rows_answer x ≡ PayloadRead.Rows n → Taken (rows_answer (next n))
+pub then_words : (x : Rows) (next : ℕ → Rows) (n : ℕ) → rows_answer x ≡ Ok n → Taken (rows_answer (next n))
     → rows_words (then_rows x next) ≡ rows_words x ++ rows_words (next n)
 unfolding rows_answer rows_words
 then_words (no_rows r) next n h k = let z : ◌≡◌ {A = ℕ} 0 1 = cc in absurd (omega arith)
@@ -148,28 +148,28 @@ then_words (rows_of rs) next n h k =
 
 -- The answer p, with the area l left as m, is what these rows ask
 
-abbrev pub Gives : PayloadRead → List ℕ → List ℕ → Rows → Type 0
+abbrev pub Gives : Result ℕ Fault → List ℕ → List ℕ → Rows → Type 0
 Gives p l m x = (p ≡ rows_answer x) × (m ≡ over (rows_words x) l)
 
 -- by the payload's numbers
-pub gives_read : (p : PayloadRead) (l m : List ℕ) (x : Rows) → (payload_numbers p ≡ rows_numbers x) × (m ≡ over (rows_words x) l) → Gives p l m x
+pub gives_read : (p : Result ℕ Fault) (l m : List ℕ) (x : Rows) → (payload_numbers p ≡ rows_numbers x) × (m ≡ over (rows_words x) l) → Gives p l m x
 gives_read p l m x g = (rows_is p x g.0, g.1)
 
-pub gives_numbers : (p : PayloadRead) (l m : List ℕ) (x : Rows) → Gives p l m x → (payload_numbers p ≡ rows_numbers x) × (m ≡ over (rows_words x) l)
+pub gives_numbers : (p : Result ℕ Fault) (l m : List ℕ) (x : Rows) → Gives p l m x → (payload_numbers p ≡ rows_numbers x) × (m ≡ over (rows_words x) l)
 gives_numbers p l m x g = (rows_has p x g.0, g.1)
 
-pub gives_none : (r : Fault) (l : List ℕ) (x : Rows) → x ≡ no_rows r → Gives (PayloadRead.Refused r) l l x
+pub gives_none : (r : Fault) (l : List ℕ) (x : Rows) → x ≡ no_rows r → Gives (Err r) l l x
 gives_none r l x h = (answer_none x r h, words_none x r l h)
 
-pub gives_empty : (l : List ℕ) (x : Rows) → x ≡ rows_of [] → Gives (PayloadRead.Rows 0) l l x
+pub gives_empty : (l : List ℕ) (x : Rows) → x ≡ rows_of [] → Gives (Ok 0) l l x
 unfolding rows_answer rows_words words
 gives_empty l x h = (rw h, rw h (sym (over_none l)))
 
-pub gives_same : (p : PayloadRead) (l m : List ℕ) (x y : Rows) → x ≡ y → Gives p l m x → Gives p l m y
+pub gives_same : (p : Result ℕ Fault) (l m : List ℕ) (x y : Rows) → x ≡ y → Gives p l m x → Gives p l m y
 gives_same p l m x y h g = (g.0 ∙ ap rows_answer h, g.1 ∙ ap (λ (z : Rows). over (rows_words z) l) h)
 
 -- a refusal is all that such an answer says
-pub only_refusal : (r : Fault) (x : Rows) → rows_answer x ≡ PayloadRead.Refused r → x ≡ no_rows r
+pub only_refusal : (r : Fault) (x : Rows) → rows_answer x ≡ Err r → x ≡ no_rows r
 unfolding rows_answer
 only_refusal r (no_rows f) h = cc
 only_refusal r (rows_of rs) h = let z : ◌≡◌ {A = ℕ} 0 1 = cc in absurd (omega arith)

@@ -1,5 +1,8 @@
 -- Laws of the blocks of a redundancy payload: their rows by the first block header, and what these do not depend on.
 use mathlib.Core.Path.{◌≡◌, refl, ap, sym, ◌∙◌, subst}
+use Rattle.std.specs.Prelude.{Err, Ok, Result}
+use Rattle.read_contents.specs.declared.entries.Sizes.{Sizes}
+use Rattle.read_headers.specs.declared.redundancy.HeaderSizes.{HeaderSizes}
 use mathlib.Core.List.{List, [], ◌∷◌}
 use mathlib.Core.Bool.{true}
 use Prim.Native.Nat.{ℕ, ◌+◌, ◌-◌, ◌*◌, ◌≤◌}
@@ -21,12 +24,9 @@ use Rattle.rtp.specs.declared.refusal.Refusal.{Refusal}
 use Rattle.rtp.specs.declared.refusal.Fault.{Fault}
 use Rattle.read_headers.specs.declared.redundancy.Redundant.{Redundant}
 use Rattle.read_headers.specs.declared.redundancy.BlockHeader.{BlockHeader}
-use Rattle.read_headers.specs.declared.redundancy.HeadersRead.{HeadersRead}
 use Rattle.rtp.proofs.TestLaws.{by-test}
 use Rattle.rtp.proofs.AreaLaws.{over_part}
 use Rattle.read_headers.proofs.RedundancyLaws.{headers_step_lem, at_redundant, ahead}
-use Rattle.read_contents.specs.declared.entries.ContentsRead.{ContentsRead}
-use Rattle.read_payload.specs.declared.reading.PayloadRead.{PayloadRead}
 use Rattle.read_contents.specs.Contents.{Contents, refused as unread, groups, contents, sizes_answer}
 use Rattle.read_payload.specs.Payloads.{body, payload, Rows, no_rows, rows_of, placed_rows, payload_rows, rows_answer, rows_words, asked_rows}
 use Rattle.read_rows.proofs.RowLaws.{length_marked}
@@ -44,12 +44,12 @@ block mark type offset at s = record { type = type; offset = offset; at = at; by
 placed_same : (mark mark' format ch time time' at : ℕ) (p : Contents) → rows_answer (placed_rows mark format ch time at p) ≡ rows_answer (placed_rows mark' format ch time' at p)
 unfolding placed_rows rows_answer
 placed_same mark mark' format ch time time' at (unread f) = refl
-placed_same mark mark' format ch time time' at (groups gs) = ap PayloadRead.Rows (rw (length_marked, length_marked, length_table, length_table))
+placed_same mark mark' format ch time time' at (groups gs) = ap Ok (rw (length_marked, length_marked, length_table, length_table))
 
 placed_further : (mark format ch time time' n at m : ℕ) → m ≡ n + at → (p : Contents) → rows_answer (placed_rows mark format ch time m p) ≡ further n (rows_answer (placed_rows mark format ch time' at p))
 unfolding placed_rows rows_answer
-placed_further mark format ch time time' n at m e (unread f) = ap (λ (k : ℕ). PayloadRead.Refused (fault_at k f.refusal)) (omega arith)
-placed_further mark format ch time time' n at m e (groups gs) = ap PayloadRead.Rows (rw (length_marked, length_marked, length_table, length_table))
+placed_further mark format ch time time' n at m e (unread f) = ap (λ (k : ℕ). Err (fault_at k f.refusal)) (omega arith)
+placed_further mark format ch time time' n at m e (groups gs) = ap Ok (rw (length_marked, length_marked, length_table, length_table))
 
 module _ (ed : Edition) (st : Settings) where
   block_same : (mark mark' done time time' type offset offset' at : ℕ) (s : List ℕ)
@@ -85,7 +85,7 @@ module _ (ed : Edition) (st : Settings) where
   from_further done time time' n at m e h d = headed_further (headers h)
     where
       headed_further : (x : Headers) → rows_answer (headed_rows ed st done time m d x) ≡ further n (rows_answer (headed_rows ed st done time' at d x))
-      headed_further (refused f) = ap (λ (k : ℕ). PayloadRead.Refused (fault_at k f.refusal)) (omega arith)
+      headed_further (refused f) = ap (λ (k : ℕ). Err (fault_at k f.refusal)) (omega arith)
       headed_further (headers_of bs type) = blocks_further bs done time time' type n at m e d
 
   -- The place at fault lies inside the blocks
@@ -94,12 +94,12 @@ module _ (ed : Edition) (st : Settings) where
   unfolding rows_answer
   pay_inside mark done time at s = table_inside (sizes_answer st.format st.channels (contents ed st.format st.channels done (body st.format s))) refl
     where
-      table_inside : (r : ContentsRead) → sizes_answer st.format st.channels (contents ed st.format st.channels done (body st.format s)) ≡ r
+      table_inside : (r : Result Sizes Fault) → sizes_answer st.format st.channels (contents ed st.format st.channels done (body st.format s)) ≡ r
           → Inside (at + length s) (rows_answer (payload_rows ed mark st.format st.channels done time at s))
-      table_inside (ContentsRead.Refused r) h =
+      table_inside (Err r) h =
           rw (at_fault ed mark st.format st.channels done time at s r h)
           (omega (arith, start_in ed mark st.format st.channels done time at s, pay_place ed mark st.format st.channels done time at s r h))
-      table_inside (ContentsRead.Contents t) h =
+      table_inside (Ok t) h =
           by-test (eqb (t.size + t.frames) (length (body st.format s)))
           (λ a. rw (pay_rows ed mark st.format st.channels done time at s t h (eqb-true _ _ a)) tt)
           (λ a. rw (part_fault ed mark st.format st.channels done time at s t h (eqb-false _ _ a))
@@ -139,10 +139,10 @@ module _ (ed : Edition) (st : Settings) where
   unfolding rows_answer
   pay_few mark done time at s = table_few (sizes_answer st.format st.channels (contents ed st.format st.channels done (body st.format s))) refl
     where
-      table_few : (r : ContentsRead) → sizes_answer st.format st.channels (contents ed st.format st.channels done (body st.format s)) ≡ r
+      table_few : (r : Result Sizes Fault) → sizes_answer st.format st.channels (contents ed st.format st.channels done (body st.format s)) ≡ r
           → Few ed done (rows_answer (payload_rows ed mark st.format st.channels done time at s))
-      table_few (ContentsRead.Refused r) h = rw (at_fault ed mark st.format st.channels done time at s r h) tt
-      table_few (ContentsRead.Contents t) h =
+      table_few (Err r) h = rw (at_fault ed mark st.format st.channels done time at s r h) tt
+      table_few (Ok t) h =
           by-test (eqb (t.size + t.frames) (length (body st.format s)))
           (λ a. rw (pay_rows ed mark st.format st.channels done time at s t h (eqb-true _ _ a)) (pay_small ed mark st.format st.channels done time at s t h).few)
           (λ a. rw (part_fault ed mark st.format st.channels done time at s t h (eqb-false _ _ a)) tt)
@@ -172,24 +172,24 @@ module _ (ed : Edition) (st : Settings) where
 
 -- The rows by the first block header
 
-pub headed_rest : (n : ℕ) (h : List ℕ) (e : Redundant) → block_header h ≡ BlockHeader.Redundant e → Headed n (headers_answer (headers h))
+pub headed_rest : (n : ℕ) (h : List ℕ) (e : Redundant) → block_header h ≡ Ok (BlockHeader.Redundant e) → Headed n (headers_answer (headers h))
     → (e.length ≤ n) × Headed (n - e.length) (headers_answer (headers (drop 4 h)))
 headed_rest n h e q k = both (headers_answer (headers (drop 4 h))) (rw (at_redundant h e q) at k)
   where
-    both : (x : HeadersRead) → Headed n (ahead e x) → (e.length ≤ n) × Headed (n - e.length) x
-    both (HeadersRead.Refused r) z = absurd z
-    both (HeadersRead.Headers s) z = (omega arith, omega arith)
+    both : (x : Result HeaderSizes Fault) → Headed n (ahead e x) → (e.length ≤ n) × Headed (n - e.length) x
+    both (Err r) z = absurd z
+    both (Ok s) z = (omega arith, omega arith)
 
 module _ (ed : Edition) (st : Settings) (done time at : ℕ) (h d : List ℕ) where
-  pub from_refused : (r : Refusal) → block_header h ≡ BlockHeader.Refused r → blocks_from ed st done time at h d ≡ no_rows (shifted at (fault r))
+  pub from_refused : (r : Refusal) → block_header h ≡ Err r → blocks_from ed st done time at h d ≡ no_rows (shifted at (fault r))
   unfolding blocks_from
   from_refused r q = rw (headers_step_lem, q)
 
-  pub from_primary : (type : ℕ) → block_header h ≡ BlockHeader.Primary type → blocks_from ed st done time at h d ≡ typed_block_rows ed st done time (block primary_mark type 0 at d)
+  pub from_primary : (type : ℕ) → block_header h ≡ Ok (BlockHeader.Primary type) → blocks_from ed st done time at h d ≡ typed_block_rows ed st done time (block primary_mark type 0 at d)
   unfolding blocks_from blocks_rows cut
   from_primary type q = rw (headers_step_lem, q) (then_none (typed_block_rows ed st done time (block primary_mark type 0 at d)))
 
-  pub from_redundant : (n : ℕ) (e : Redundant) → block_header h ≡ BlockHeader.Redundant e → Headed n (headers_answer (headers (drop 4 h)))
+  pub from_redundant : (n : ℕ) (e : Redundant) → block_header h ≡ Ok (BlockHeader.Redundant e) → Headed n (headers_answer (headers (drop 4 h)))
       → blocks_from ed st done time at h d
       ≡ then_rows (typed_block_rows ed st done time (block redundant_mark e.payload_type e.offset at (take e.length d))) (λ i. blocks_from ed st (done + i) time (at + e.length) (drop 4 h) (drop e.length d))
   unfolding blocks_from blocks_rows cut headers_answer
@@ -223,18 +223,18 @@ module _ (ed : Edition) (mark : ℕ) (st : Settings) (done area time type offset
 -- The blocks of a call: the primary block alone, or a redundant block and the rest
 
 module _ (ed : Edition) (st : Settings) (done area time at : ℕ) (h d : List ℕ) (a : BlocksAsked ed st done at h (length d)) (fits : row_area ed ≤ row_width * done + area) where
-  pub asked_primary : (type : ℕ) → block_header h ≡ BlockHeader.Primary type → asked_block ed primary_mark st done area time type 0 at d ≡ blocks_from ed st done time at h d
+  pub asked_primary : (type : ℕ) → block_header h ≡ Ok (BlockHeader.Primary type) → asked_block ed primary_mark st done area time type 0 at d ≡ blocks_from ed st done time at h d
   asked_primary type q = asked_block_lem ed primary_mark st done area time type 0 at d a.settings fits a.inside ∙ sym (from_primary ed st done time at h d type q)
 
-  module _ (e : Redundant) (q : block_header h ≡ BlockHeader.Redundant e) where
+  module _ (e : Redundant) (q : block_header h ≡ Ok (BlockHeader.Redundant e)) where
     pub block_in : e.length ≤ length d
     block_in = (headed_rest (length d) h e q a.headed).0
 
     asked_first : (offset : ℕ) → asked_block ed redundant_mark st done area time e.payload_type offset at (take e.length d) ≡ typed_block_rows ed st done time (block redundant_mark e.payload_type offset at (take e.length d))
     asked_first offset = asked_block_lem ed redundant_mark st done area time e.payload_type offset at (take e.length d) a.settings fits (simp length-take (omega (arith, block_in, a.inside)))
 
-    pub first_few : (offset n : ℕ) → rows_answer (asked_block ed redundant_mark st done area time e.payload_type offset at (take e.length d)) ≡ PayloadRead.Rows n → done + n ≤ max_rows ed
-    first_few offset n k = subst (λ (x : PayloadRead). Few ed done x) (ap rows_answer (sym (asked_first offset)) ∙ k) (block_few ed st done time _ a.few)
+    pub first_few : (offset n : ℕ) → rows_answer (asked_block ed redundant_mark st done area time e.payload_type offset at (take e.length d)) ≡ Ok n → done + n ≤ max_rows ed
+    first_few offset n k = subst (λ (x : Result ℕ Fault). Few ed done x) (ap rows_answer (sym (asked_first offset)) ∙ k) (block_few ed st done time _ a.few)
 
     pub asked_rest : (n at' : ℕ) → done + n ≤ max_rows ed → at' ≤ at + e.length → BlocksAsked ed st (done + n) at' (drop 4 h) (length (drop e.length d))
     asked_rest n at' f i = rw (length-drop e.length d) (record {
@@ -249,7 +249,7 @@ module _ (ed : Edition) (st : Settings) (done area time at : ℕ) (h d : List �
     first_then = rw (asked_first e.offset) (from_redundant ed st done time at h d (length d - e.length) e q (headed_rest (length d) h e q a.headed).1)
 
 -- the primary block alone, checked as at time 0 and place 0 and whatever its mark
-pub checked_primary : (ed : Edition) (st : Settings) (done : ℕ) (h d : List ℕ) → BlocksAsked ed st done 0 h (length d) → (type : ℕ) → block_header h ≡ BlockHeader.Primary type
+pub checked_primary : (ed : Edition) (st : Settings) (done : ℕ) (h d : List ℕ) → BlocksAsked ed st done 0 h (length d) → (type : ℕ) → block_header h ≡ Ok (BlockHeader.Primary type)
     → rows_answer (asked_block ed redundant_mark st done (row_area ed) 0 type 0 0 d) ≡ rows_answer (blocks_from ed st done 0 0 h d)
 checked_primary ed st done h d a type q =
     ap rows_answer (asked_block_lem ed redundant_mark st done (row_area ed) 0 type 0 0 d a.settings (omega arith) a.inside)
@@ -257,7 +257,7 @@ checked_primary ed st done h d a type q =
     ∙ ap rows_answer (sym (from_primary ed st done 0 0 h d type q))
 
 -- their answer, where each is taken as at time 0 and place 0: what follows is counted from its own front
-pub checked : (ed : Edition) (st : Settings) (done : ℕ) (h d : List ℕ) → BlocksAsked ed st done 0 h (length d) → (e : Redundant) → block_header h ≡ BlockHeader.Redundant e
+pub checked : (ed : Edition) (st : Settings) (done : ℕ) (h d : List ℕ) → BlocksAsked ed st done 0 h (length d) → (e : Redundant) → block_header h ≡ Ok (BlockHeader.Redundant e)
     → rows_answer (blocks_from ed st done 0 0 h d)
     ≡ then_answer (rows_answer (asked_block ed redundant_mark st done (row_area ed) 0 e.payload_type 0 0 (take e.length d))) (λ n. further e.length (rows_answer (blocks_from ed st (done + n) 0 0 (drop 4 h) (drop e.length d))))
 checked ed st done h d a e q =
@@ -266,13 +266,13 @@ checked ed st done h d a e q =
     ∙ ap rows_answer (sym (asked_first ed st done (row_area ed) 0 0 h d a (omega arith) e q 0)) in
     ap rows_answer (first_then ed st done (row_area ed) 0 0 h d a (omega arith) e q)
     ∙ then_answer_lem _ _
-    ∙ ap (λ (p : PayloadRead). then_answer p (λ n. rows_answer (blocks_from ed st (done + n) 0 (0 + e.length) (drop 4 h) (drop e.length d)))) first
+    ∙ ap (λ (p : Result ℕ Fault). then_answer p (λ n. rows_answer (blocks_from ed st (done + n) 0 (0 + e.length) (drop 4 h) (drop e.length d)))) first
     ∙ answer_same (rows_answer (asked_block ed redundant_mark st done (row_area ed) 0 e.payload_type 0 0 (take e.length d)))
     (λ n. rows_answer (blocks_from ed st (done + n) 0 (0 + e.length) (drop 4 h) (drop e.length d)))
     (λ n. further e.length (rows_answer (blocks_from ed st (done + n) 0 0 (drop 4 h) (drop e.length d)))) (λ n. from_further ed st (done + n) 0 0 e.length 0 (0 + e.length) (omega arith) (drop 4 h) (drop e.length d))
 
 -- their words
-module _ (ed : Edition) (st : Settings) (done time at area : ℕ) (h d : List ℕ) (r : BlocksRoom ed st done time at h d area) (e : Redundant) (q : block_header h ≡ BlockHeader.Redundant e) where
+module _ (ed : Edition) (st : Settings) (done time at area : ℕ) (h d : List ℕ) (r : BlocksRoom ed st done time at h d area) (e : Redundant) (q : block_header h ≡ Ok (BlockHeader.Redundant e)) where
   abbrev First : Rows
   First = asked_block ed redundant_mark st done area time e.payload_type e.offset at (take e.length d)
 
@@ -280,12 +280,12 @@ module _ (ed : Edition) (st : Settings) (done time at area : ℕ) (h d : List �
   whole = first_then ed st done area time at h d r.asked r.area_fits e q
 
   taken_whole : Taken (then_answer (rows_answer First) (λ n. rows_answer (blocks_from ed st (done + n) time (at + e.length) (drop 4 h) (drop e.length d))))
-  taken_whole = subst (λ (x : PayloadRead). Taken x) (ap rows_answer whole ∙ then_answer_lem _ _) r.taken
+  taken_whole = subst (λ (x : Result ℕ Fault). Taken x) (ap rows_answer whole ∙ then_answer_lem _ _) r.taken
 
-  pub first_taken : (f : Fault) → rows_answer First ≡ PayloadRead.Refused f → ⊥
+  pub first_taken : (f : Fault) → rows_answer First ≡ Err f → ⊥
   first_taken f k = rw k at taken_whole
 
-  module _ (n : ℕ) (k : rows_answer First ≡ PayloadRead.Rows n) where
+  module _ (n : ℕ) (k : rows_answer First ≡ Ok n) where
     pub room_rest : BlocksRoom ed st (done + n) time (at + e.length) (drop 4 h) (drop e.length d) (area - row_width * n)
     room_rest = record {
       asked = asked_rest ed st done area time at h d r.asked r.area_fits e q n (at + e.length) (first_few ed st done area time at h d r.asked r.area_fits e q e.offset n k) (omega arith);

@@ -1,5 +1,7 @@
 -- What the functions over the blocks of a redundancy payload ask of one another inside this crate.
-use Rattle.std.specs.Prelude.{ℕ, ◌+◌, ◌*◌, ◌≤◌, ◌≡◌, List, [], true, cond, length, eqb}
+use Rattle.std.specs.Prelude.{ℕ, ◌+◌, ◌*◌, ◌≤◌, ◌≡◌, List, [], true, cond, length, eqb, Err, Ok, Result}
+use Rattle.rtp.specs.declared.refusal.Fault.{Fault}
+use Rattle.read_headers.specs.declared.redundancy.HeaderSizes.{HeaderSizes}
 use Rattle.rtp.specs.Editions.{Edition}
 use Rattle.rtp.specs.Sizes.{max_packet, max_rows, row_width, row_area}
 use Rattle.rtp.specs.Ranges.{in_range}
@@ -7,9 +9,7 @@ use Rattle.rtp.specs.Time.{difference}
 use Rattle.rtp.specs.Faults.{shifted}
 use Rattle.read_headers.specs.Redundancy.{Headers, refused, headers_of, headers, headers_answer}
 use Rattle.rtp.specs.declared.settings.Settings.{Settings}
-use Rattle.read_headers.specs.declared.redundancy.HeadersRead.{HeadersRead}
 use Rattle.read_payload.specs.Payloads.{Rows, no_rows, rows_of, asked_rows, rows_answer}
-use Rattle.read_payload.specs.declared.reading.PayloadRead.{PayloadRead}
 use Rattle.read_redundancy.specs.Blocks.{cut, blocks_rows}
 
 -- a block's rows as a payload of a call: the same as `typed_block_rows` where settings, area and length are in order
@@ -28,9 +28,9 @@ unfoldable pub blocks_from : Edition → Settings → ℕ → ℕ → ℕ → Li
 blocks_from ed st done time at h d = headed_rows ed st done time at d (headers h)
 
 -- the headers were read, and their redundant blocks lie within n bytes
-abbrev pub Headed : ℕ → HeadersRead → Type 0
-Headed n (HeadersRead.Refused r) = ⊥
-Headed n (HeadersRead.Headers z) = z.redundant ≤ n
+abbrev pub Headed : ℕ → Result HeaderSizes Fault → Type 0
+Headed n (Err r) = ⊥
+Headed n (Ok z) = z.redundant ≤ n
 
 pub record BlocksAsked (ed : Edition) (st : Settings) (done at : ℕ) (h : List ℕ) (n : ℕ) : Type 0 where
   pub settings : in_range ed st ≡ true
@@ -39,9 +39,9 @@ pub record BlocksAsked (ed : Edition) (st : Settings) (done at : ℕ) (h : List 
   pub inside : at + n ≤ max_packet
 
 -- the rows were found
-abbrev pub Taken : PayloadRead → Type 0
-Taken (PayloadRead.Refused r) = ⊥
-Taken (PayloadRead.Rows n) = Unit {0}
+abbrev pub Taken : Result ℕ Fault → Type 0
+Taken (Err r) = ⊥
+Taken (Ok n) = Unit {0}
 
 pub record BlocksRoom (ed : Edition) (st : Settings) (done time at : ℕ) (h d : List ℕ) (area : ℕ) : Type 0 where
   pub asked : BlocksAsked ed st done at h (length d)

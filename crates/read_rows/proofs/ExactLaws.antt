@@ -1,11 +1,12 @@
 -- Laws of a table and just the frames that it tells of, from what reading the table answered.
+use Rattle.std.specs.Prelude.{Result}
 use Rattle.std.proofs.Common.{◌≡◌, ℕ, ◌+◌, eqb, List, length, refl, subst, arith, eq-eqb, ne_eqb}
+use Rattle.std.specs.Prelude.{Err, Ok}
 use Rattle.rtp.specs.Editions.{Edition}
 use Rattle.rtp.specs.Faults.{fault_at}
 use Rattle.rtp.specs.declared.refusal.Fault.{Fault}
 use Rattle.rtp.specs.declared.refusal.Refusal.TheVariants.{LengthMismatch}
 use Rattle.read_contents.specs.declared.entries.Sizes.{Sizes}
-use Rattle.read_contents.specs.declared.entries.ContentsRead.{ContentsRead}
 use Rattle.read_contents.specs.Contents.{Contents, refused, groups, contents, pass_first, size_in, frames_in, sizes_answer}
 use Rattle.rtp.proofs.TestLaws.{by-test}
 use Rattle.read_contents.proofs.ContentsLaws.{Within, within}
@@ -13,10 +14,10 @@ use Rattle.read_rows.proofs.FirstLaws.{sizes_passed}
 use Rattle.read_rows.specs.Room.{contents_words}
 use Rattle.read_rows.specs.Tables.{exact, fitting_words}
 
-pub same_sizes : (a b : Sizes) → ContentsRead.Contents a ≡ ContentsRead.Contents b → a ≡ b
+pub same_sizes : (a b : Sizes) → ◌≡◌ {A = Result Sizes Fault} (Ok a) (Ok b) → a ≡ b
 same_sizes a b h = cc
 
-pub exact_refused : (format ch n : ℕ) (r : Fault) (p : Contents) → sizes_answer format ch p ≡ ContentsRead.Refused r → exact format ch n p ≡ refused r
+pub exact_refused : (format ch n : ℕ) (r : Fault) (p : Contents) → sizes_answer format ch p ≡ Err r → exact format ch n p ≡ refused r
 unfolding sizes_answer
 exact_refused format ch n r (refused q) h = cc
 exact_refused format ch n r (groups gs) h = let z : ◌≡◌ {A = ℕ} 0 1 = cc in absurd (omega arith)
@@ -27,7 +28,7 @@ pub record Exact (mark format ch n time at : ℕ) (p : Contents) (t : Sizes) : T
   pub part : (t.size + t.frames ≡ n → ⊥) → exact format ch n p ≡ refused (fault_at t.size LengthMismatch)
   pub words : fitting_words mark format ch time at p ≡ contents_words mark format ch time (at + t.size) p
 
-pub exact_is : (mark format ch n time at : ℕ) (t : Sizes) (p : Contents) → sizes_answer format ch p ≡ ContentsRead.Contents t → Exact mark format ch n time at p t
+pub exact_is : (mark format ch n time at : ℕ) (t : Sizes) (p : Contents) → sizes_answer format ch p ≡ Ok t → Exact mark format ch n time at p t
 unfolding sizes_answer fitting_words contents_words
 exact_is mark format ch n time at t (refused r) h = let z : ◌≡◌ {A = ℕ} 0 1 = cc in absurd (omega arith)
 exact_is mark format ch n time at t (groups gs) h = subst (λ (x : Sizes). Exact mark format ch n time at (groups gs) x) (same_sizes _ t h) (record {
@@ -37,7 +38,7 @@ exact_is mark format ch n time at t (groups gs) h = subst (λ (x : Sizes). Exact
 })
 
 -- a table that answers a refusal is one
-pub answer_refused : (format ch : ℕ) (r : Fault) (p : Contents) → sizes_answer format ch p ≡ ContentsRead.Refused r → p ≡ refused r
+pub answer_refused : (format ch : ℕ) (r : Fault) (p : Contents) → sizes_answer format ch p ≡ Err r → p ≡ refused r
 unfolding sizes_answer
 answer_refused format ch r (refused q) h = cc
 answer_refused format ch r (groups gs) h = let z : ◌≡◌ {A = ℕ} 0 1 = cc in absurd (omega arith)

@@ -1,5 +1,7 @@
 -- The first entry's DIS1 passed over: a table's sizes stay, and its rows are those counted from a time before the payload's.
 use Rattle.std.proofs.Common.{◌≡◌, ℕ, zero, suc, ◌+◌, ◌*◌, ◌%◌, ◌^◌, ◌<◌, ◌≤◌, ltb, List, [], ◌∷◌, ◌++◌, length, drop, sym, refl, ap, subst, arith, ltb-false, ltb-true, lt-ltb}
+use Rattle.std.specs.Prelude.{Err, Ok, Result}
+use Rattle.rtp.specs.declared.refusal.Refusal.{Refusal}
 use Rattle.rtp.specs.Editions.{Edition}
 use Rattle.rtp.specs.Sizes.{max_rows}
 use Rattle.rtp.specs.Time.{difference}
@@ -8,7 +10,6 @@ use Rattle.rtp.specs.declared.refusal.Refusal.TheVariants.{TooManyRows}
 use Rattle.rtp.proofs.TestLaws.{by-test}
 use Rattle.formats.specs.Frames.{step_of}
 use Rattle.read_contents.specs.declared.entries.Entry.{Entry}
-use Rattle.read_contents.specs.declared.entries.EntryRead.{EntryRead}
 use Rattle.read_contents.specs.Contents.{entry_of, Group, Contents, refused, groups, gap_at, gaps_from, meaning, prepend, contents, direct, pass_first, row_count, size_in, frames_in, sizes_answer}
 use Rattle.read_rows.specs.Rows.{Row, placed, time_after, block_rows, group_rows, table_rows, words, marked}
 use Rattle.read_rows.specs.Room.{contents_words}
@@ -45,15 +46,15 @@ begins_prepend d n g (refused r) h = tt
 begins_prepend d n g (groups gs) h = h
 
 module _ (ed : Edition) (format ch done : ℕ) (s : List ℕ) where
-  contents_many : (e : Entry) → entry_of format s ≡ EntryRead.Entry e → max_rows ed < done + e.blocks * ch → contents ed format ch done s ≡ refused (fault TooManyRows)
+  contents_many : (e : Entry) → entry_of format s ≡ Ok e → max_rows ed < done + e.blocks * ch → contents ed format ch done s ≡ refused (fault TooManyRows)
   contents_many e h l = rw (contents_step_lem ed, h) (simp (lt-ltb _ _ l))
 
   pub begins : Begins (gap_at format s 0) (contents ed format ch done s)
   begins = go (entry_of format s) refl
     where
-      go : (r : EntryRead) → entry_of format s ≡ r → Begins (gap_at format s 0) (contents ed format ch done s)
-      go (EntryRead.Refused n) q = rw (contents_refused ed format ch done s n q) tt
-      go (EntryRead.Entry e) q =
+      go : (r : Result Entry Refusal) → entry_of format s ≡ r → Begins (gap_at format s 0) (contents ed format ch done s)
+      go (Err n) q = rw (contents_refused ed format ch done s n q) tt
+      go (Ok e) q =
           let b = begins_group format s e (fair format s e q).blocks_some in
           by-test (ltb (max_rows ed) (done + e.blocks * ch))
           (λ a. rw (contents_many e q (ltb-true _ _ a)) tt)

@@ -1,5 +1,6 @@
 -- Laws of a table and its frames in a packet, from what reading the table answered.
 use Rattle.std.proofs.Common.{◌≡◌, ℕ, ◌+◌, ◌*◌, ◌^◌, ◌<◌, ◌≤◌, List, length, sym, refl, ap, ◌∙◌, subst, mul-le-mul_left, arith, le-ltb, lt-ltb}
+use Rattle.std.specs.Prelude.{Err, Ok, Result}
 use Rattle.rtp.specs.Editions.{Edition}
 use Rattle.rtp.specs.Sizes.{max_packet, row_width, row_area}
 use Rattle.rtp.specs.Areas.{over}
@@ -10,7 +11,6 @@ use Rattle.rtp.proofs.AreaLaws.{over_none}
 use Rattle.formats.specs.Frames.{step_of}
 use Rattle.formats.proofs.FormatLaws.{max_step, step_fine}
 use Rattle.read_contents.specs.declared.entries.Sizes.{Sizes}
-use Rattle.read_contents.specs.declared.entries.ContentsRead.{ContentsRead}
 use Rattle.read_contents.specs.Contents.{Contents, refused, gap_at, contents, pass_first, contents_read_numbers, contents_numbers, sizes_answer}
 use Rattle.read_contents.proofs.ContentsLaws.{Small, Within, within}
 use Rattle.read_contents.proofs.NumberLaws.{contents_has}
@@ -20,10 +20,10 @@ use Rattle.read_rows.proofs.FirstLaws.{sizes_passed, begins, words_from}
 use Rattle.read_rows.proofs.ExactLaws.{exact_refused, Exact, exact_is}
 
 -- what a call gives that comes to p: the answer r, and the area m for l
-abbrev pub Gives : ℕ → ℕ → ℕ → ℕ → ℕ → ContentsRead → List ℕ → List ℕ → Contents → Type 0
+abbrev pub Gives : ℕ → ℕ → ℕ → ℕ → ℕ → Result Sizes Fault → List ℕ → List ℕ → Contents → Type 0
 Gives mark format ch time at r l m p = (contents_read_numbers r ≡ contents_numbers format ch p) × (m ≡ over (fitting_words mark format ch time at p) l)
 
-pub gives_none : (mark format ch time at : ℕ) (f : Fault) (l : List ℕ) (p : Contents) → p ≡ refused f → Gives mark format ch time at (ContentsRead.Refused f) l l p
+pub gives_none : (mark format ch time at : ℕ) (f : Fault) (l : List ℕ) (p : Contents) → p ≡ refused f → Gives mark format ch time at (Err f) l l p
 unfolding contents_numbers fitting_words
 gives_none mark format ch time at f l p h = rw h (refl, sym (over_none l))
 
@@ -41,10 +41,10 @@ module _ (ed : Edition) (format ch rows area at : ℕ) (s : List ℕ) where
     unfolding fitting
     fitting_in = rw (le-ltb (row_width * rows + area) (row_area ed) a, le-ltb max_packet (at + length s) b)
 
-    pub fitting_refused : (f : Fault) → sizes_answer format ch (contents ed format ch rows s) ≡ ContentsRead.Refused f → fitting ed format ch rows area at s ≡ refused f
+    pub fitting_refused : (f : Fault) → sizes_answer format ch (contents ed format ch rows s) ≡ Err f → fitting ed format ch rows area at s ≡ refused f
     fitting_refused f h = fitting_in ∙ exact_refused format ch (length s) f (pass_first (contents ed format ch rows s)) (sizes_passed format ch (contents ed format ch rows s) ∙ h)
 
-    module _ (t : Sizes) (h : sizes_answer format ch (contents ed format ch rows s) ≡ ContentsRead.Contents t) where
+    module _ (t : Sizes) (h : sizes_answer format ch (contents ed format ch rows s) ≡ Ok t) where
       is : (mark time : ℕ) → Exact mark format ch (length s) time at (pass_first (contents ed format ch rows s)) t
       is mark time = exact_is mark format ch (length s) time at t (pass_first (contents ed format ch rows s)) (sizes_passed format ch (contents ed format ch rows s) ∙ h)
 
@@ -52,7 +52,7 @@ module _ (ed : Edition) (format ch rows area at : ℕ) (s : List ℕ) where
       fitting_part f = fitting_in ∙ (is 0 0).part f
 
       pub fitting_small : Small ed rows (length s) t
-      fitting_small = subst (λ (r : ContentsRead). Within ed rows (length s) r) h (within ed format ch rows s)
+      fitting_small = subst (λ (r : Result Sizes Fault). Within ed rows (length s) r) h (within ed format ch rows s)
 
       module _ (e : t.size + t.frames ≡ length s) where
         pub fitting_whole : fitting ed format ch rows area at s ≡ pass_first (contents ed format ch rows s)
@@ -64,12 +64,12 @@ module _ (ed : Edition) (format ch rows area at : ℕ) (s : List ℕ) where
         -- the rows are written, counted from the time before in which the first entry's DIS1 is passed over
         pub gives_rows : (mark time o : ℕ) (l m : List ℕ) → time < 2 ^ 32 → (o ≡ origin_of format time s) × (gap_at format s 0 < 16)
             → m ≡ over (contents_words mark format ch o (at + t.size) (contents ed format ch rows s)) l
-            → Gives mark format ch time at (ContentsRead.Contents t) l m (fitting ed format ch rows area at s)
+            → Gives mark format ch time at (Ok t) l m (fitting ed format ch rows area at s)
         gives_rows mark time o l m k z w =
             let step : step_of format ≤ max_step = (step_fine format).small in
             let small : gap_at format s 0 * step_of format ≤ 2 ^ 32 = omega (arith, mul-le-mul_left (gap_at format s 0) step, z.1) in
             let p = contents ed format ch rows s in (
-              contents_has format ch (ContentsRead.Contents t) (fitting ed format ch rows area at s) (sym (ap (sizes_answer format ch) fitting_whole ∙ sizes_passed format ch p ∙ h)),
+              contents_has format ch (Ok t) (fitting ed format ch rows area at s) (sym (ap (sizes_answer format ch) fitting_whole ∙ sizes_passed format ch p ∙ h)),
               w ∙ ap (λ (q : List ℕ). over q l)
                   (ap (λ (x : ℕ). contents_words mark format ch x (at + t.size) p) z.0
                   ∙ words_from mark format ch (gap_at format s 0) time (at + t.size) p k small (begins ed format ch rows s)

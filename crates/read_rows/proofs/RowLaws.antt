@@ -1,12 +1,12 @@
 -- Laws of rows, and of a frame-block's.
-use Rattle.std.proofs.Common.{◌≡◌, ℕ, zero, suc, ◌+◌, ◌-◌, ◌*◌, ◌/◌, ◌<◌, ◌≤◌, List, [], ◌∷◌, ◌++◌, length, get_or, take, drop, sym, refl, ap, ◌∙◌, suc-mul, sub-one, arith}
+use Rattle.std.proofs.Common.{◌≡◌, ℕ, zero, suc, ◌+◌, ◌-◌, ◌*◌, ◌/◌, ◌<◌, ◌≤◌, List, [], ◌∷◌, ◌++◌, length, get_or, take, drop, sym, refl, ap, ◌∙◌, suc-mul, add-one, arith}
 use borrow.Rule.Slice.PartMut.{put_mid}
 use Rattle.rtp.specs.Sizes.{row_width}
 use Rattle.rtp.specs.Areas.{over}
 use Rattle.rtp.proofs.AreaLaws.{over_none, over_part}
+use Rattle.row_tags.specs.Tags.{redundant_mark}
 use Rattle.row_tags.proofs.TagLaws.{mark_of, class_of, channel_of}
-use Rattle.read_rows.specs.Rows.{Row, row_words, words, row_of, rows_in, block_rows, marked}
-use Rattle.read_rows.specs.Room.{RowRoom, BlockRoom}
+use Rattle.read_rows.specs.Rows.{Row, row_words, with_mark, words, row_of, rows_in, block_rows, marked}
 
 pub length_words : (rs : List Row) → length (words rs) ≡ row_width * length rs
 unfolding words
@@ -34,34 +34,41 @@ unfolding block_rows
 length_block zero c time class start len = refl
 length_block (suc n) c time class start len = ap suc (length_block n (c + 1) time class (start + len) len)
 
-pub one_more : (n k : ℕ) → (n ≡ 0 → ⊥) → n * k ≡ (n - 1) * k + k
-one_more zero k h = absurd (h refl)
-one_more (suc n) k h = rw (sub-one, suc-mul)
+-- a frame-block with one channel more
+block_more : (n c time class start len : ℕ) → block_rows (suc n) c time class start len
+    ≡ block_rows n c time class start len ++ (record { time = time; class = class; channel = c + n; start = start + n * len; length = len; primary = redundant_mark } ∷ [])
+unfolding block_rows
+block_more zero c time class start len =
+    let at : c + 0 ≡ c = omega arith in
+    let from : start + 0 * len ≡ start = omega arith in
+    rw (at, from)
+block_more (suc n) c time class start len =
+    let at : c + 1 + n ≡ c + suc n = omega arith in
+    let from : start + len + n * len ≡ start + suc n * len = omega (arith, suc-mul n len) in
+    rw (block_more n (c + 1) time class (start + len) len, at, from)
 
-module _ (n c class start len area : ℕ) (r : BlockRoom n c class start len area) (h : n ≡ 0 → ⊥) where
-  pub block_row : RowRoom c class start len area
-  block_row = record { area_fits = omega arith; kinds = r.kinds; channels = omega arith; frames_fit = omega (arith, one_more n len h) }
+single_words : (mark : ℕ) (r : Row) → words (marked mark (r ∷ [])) ≡ row_words (with_mark mark r)
+unfolding words marked
+single_words mark r = refl
 
-  pub block_rest : BlockRoom (n - 1) (c + 1) class (start + len) len (area - row_width)
-  block_rest = record { area_fits = omega arith; kinds = r.kinds; channels = omega arith; frames_fit = omega (arith, one_more n len h) }
+block_words : (mark n time class start len : ℕ) → words (marked mark (block_rows (n + 1) 0 time class start len))
+    ≡ words (marked mark (block_rows n 0 time class start len)) ++ row_words (record { time = time; class = class; channel = n; start = start + n * len; length = len; primary = mark })
+block_words mark n time class start len =
+    let none : 0 + n ≡ n = omega arith in rw (add-one, block_more n 0 time class start len, none, marked_append, words_append, single_words)
 
-block_more : (mark n c time class start len : ℕ) → (n ≡ 0 → ⊥)
-    → words (marked mark (block_rows n c time class start len))
-    ≡ row_words (record { time = time; class = class; channel = c; start = start; length = len; primary = mark }) ++ words (marked mark (block_rows (n - 1) (c + 1) time class (start + len) len))
-unfolding words block_rows marked
-block_more mark zero c time class start len h = absurd (h refl)
-block_more mark (suc n) c time class start len h = rw sub-one
+-- the words of the rows before that of channel n, and then its words in the area lent on
+pub block_put : (mark n time class start len : ℕ) (l m e : List ℕ) → m ≡ over (words (marked mark (block_rows n 0 time class start len))) l
+    → e ≡ over (row_words (record { time = time; class = class; channel = n; start = start + n * len; length = len; primary = mark })) (take (length m - row_width * n) (drop (row_width * n) m))
+    → put_mid (row_width * n) (length m - row_width * n) m e ≡ over (words (marked mark (block_rows (n + 1) 0 time class start len))) l
+block_put mark n time class start len l m e a b =
+    let before = block_rows n 0 time class start len in
+    over_part (words (marked mark before)) _ l m e (row_width * n)
+    (length_words (marked mark before) ∙ ap (λ (x : ℕ). row_width * x) (length_marked mark before ∙ length_block n 0 time class start len)) a b
+    ∙ ap (λ (w : List ℕ). over w l) (sym (block_words mark n time class start len))
 
-module _ (mark n c time class start len : ℕ) (l : List ℕ) where
-  pub block_none : n ≡ 0 → l ≡ over (words (marked mark (block_rows n c time class start len))) l
-  unfolding words block_rows marked
-  block_none h = rw h (sym (over_none l))
-
-  -- a frame-block's words are its first row's, and the others' in the area lent on
-  pub block_put : (n ≡ 0 → ⊥) → (m e : List ℕ) → m ≡ over (row_words (record { time = time; class = class; channel = c; start = start; length = len; primary = mark })) l
-      → e ≡ over (words (marked mark (block_rows (n - 1) (c + 1) time class (start + len) len))) (take (length m - row_width) (drop row_width m))
-      → put_mid row_width (length m - row_width) m e ≡ over (words (marked mark (block_rows n c time class start len))) l
-  block_put h m e a b = over_part _ _ l m e row_width refl a b ∙ ap (λ (w : List ℕ). over w l) (sym (block_more mark n c time class start len h))
+pub block_none : (mark time class start len : ℕ) (l : List ℕ) → l ≡ over (words (marked mark (block_rows 0 0 time class start len))) l
+unfolding words marked block_rows
+block_none mark time class start len l = sym (over_none l)
 
 -- what a row's tag can hold
 pub record TagFits (r : Row) : Type 0 where

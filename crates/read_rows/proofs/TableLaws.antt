@@ -1,79 +1,63 @@
 -- Laws of a table's rows, and of the room that they need.
-use Rattle.std.proofs.Common.{◌≡◌, ℕ, ◌+◌, ◌-◌, ◌*◌, ◌/◌, ◌%◌, ◌^◌, ◌<◌, ◌≤◌, true, false, ltb, List, [], ◌∷◌, ◌++◌, length, take, drop, sym, ap, ◌∙◌, subst, append-nil, arith, ltb-false, ltb-true}
+use Rattle.std.proofs.Common.{◌≡◌, ℕ, ◌+◌, ◌-◌, ◌*◌, ◌^◌, ◌<◌, ◌≤◌, true, false, ltb, List, [], ◌∷◌, ◌++◌, length, take, drop, sym, ap, ◌∙◌, subst, append-nil, arith, ltb-false, ltb-true}
+use Rattle.std.specs.Prelude.{Err, Ok, Result}
+use Rattle.read_contents.specs.declared.entries.Sizes.{Sizes}
+use Rattle.rtp.specs.declared.refusal.Fault.{Fault}
 use borrow.Rule.Slice.PartMut.{put_mid}
 use Rattle.rtp.specs.Editions.{Edition}
 use Rattle.rtp.specs.Sizes.{row_width, max_rows}
 use Rattle.rtp.specs.Areas.{over}
 use Rattle.rtp.specs.declared.refusal.Refusal.{Refusal}
 use Rattle.rtp.proofs.TestLaws.{by-test}
-use Rattle.rtp.proofs.ByteLaws.{Bytes}
 use Rattle.rtp.proofs.AreaLaws.{over_none, over_part, part_to_end}
 use Rattle.read_contents.specs.declared.entries.Entry.{Entry}
-use Rattle.read_contents.specs.declared.entries.EntryRead.{EntryRead}
-use Rattle.read_contents.specs.declared.entries.ContentsRead.{ContentsRead}
-use Rattle.formats.specs.Frames.{step_of, max_class}
+use Rattle.formats.specs.Frames.{step_of}
 use Rattle.read_contents.specs.Contents.{entry_of, gaps_from, Contents, refused, groups, meaning, prepend, contents, sizes_answer}
 use Rattle.read_rows.specs.Rows.{words, time_after, group_rows, table_rows, marked}
 use Rattle.read_rows.specs.Room.{GroupRoom, TableRoom, contents_words}
-use Rattle.read_contents.proofs.EntryLaws.{fair}
 use Rattle.read_contents.proofs.ContentsLaws.{contents_refused, contents_last, contents_more, length_gaps, at_many, at_last, at_more, ahead}
 use Rattle.read_rows.proofs.RowLaws.{length_words, words_append, length_marked, marked_append}
 use Rattle.read_rows.proofs.GroupLaws.{length_group}
 
-room_ahead : (start area ch : ℕ) (e : Entry) (r : ContentsRead) → TableRoom ch start area (ahead ch e r)
+room_ahead : (start area ch : ℕ) (e : Entry) (r : Result Sizes Fault) → TableRoom ch start area (ahead ch e r)
     → (row_width * (e.blocks * ch) ≤ area) × (start + e.blocks * ch * e.length < 2 ^ 32) × TableRoom ch (start + e.blocks * ch * e.length) (area - row_width * (e.blocks * ch)) r
-room_ahead start area ch e (ContentsRead.Refused n) h = absurd h
-room_ahead start area ch e (ContentsRead.Contents t) h = (omega arith, omega arith, (omega arith, omega arith, h.2))
+room_ahead start area ch e (Err n) h = absurd h
+room_ahead start area ch e (Ok t) h = (omega arith, omega arith, (omega arith, omega arith, h.2))
 
-module _ (ed : Edition) (format ch rows start area : ℕ) (s : List ℕ) (e : Entry) (h : entry_of format s ≡ EntryRead.Entry e) (r : TableRoom ch start area (sizes_answer format ch (contents ed format ch rows s))) where
+module _ (ed : Edition) (format ch rows start area : ℕ) (s : List ℕ) (e : Entry) (h : entry_of format s ≡ Ok e) (r : TableRoom ch start area (sizes_answer format ch (contents ed format ch rows s))) where
   pub room_few : rows + e.blocks * ch ≤ max_rows ed
   room_few =
       by-test (ltb (max_rows ed) (rows + e.blocks * ch))
-      (λ a. absurd (subst (λ (x : ContentsRead). TableRoom ch start area x) (at_many ed format ch rows s e h (ltb-true _ _ a)) r))
+      (λ a. absurd (subst (λ (x : Result Sizes Fault). TableRoom ch start area x) (at_many ed format ch rows s e h (ltb-true _ _ a)) r))
       (λ a. ltb-false _ _ a)
 
   room_both : (e.more ≡ true) → (row_width * (e.blocks * ch) ≤ area) × (start + e.blocks * ch * e.length < 2 ^ 32)
       × TableRoom ch (start + e.blocks * ch * e.length) (area - row_width * (e.blocks * ch)) (sizes_answer format ch (contents ed format ch (rows + e.blocks * ch) (drop e.size s)))
   room_both m = room_ahead start area ch e (sizes_answer format ch (contents ed format ch (rows + e.blocks * ch) (drop e.size s)))
-      (subst (λ (x : ContentsRead). TableRoom ch start area x) (at_more ed format ch rows s e h room_few m) r)
+      (subst (λ (x : Result Sizes Fault). TableRoom ch start area x) (at_more ed format ch rows s e h room_few m) r)
 
   room_here : (row_width * (e.blocks * ch) ≤ area) × (start + e.blocks * ch * e.length < 2 ^ 32)
   room_here =
       by-test e.more
       (λ m. ((room_both m).0, (room_both m).1))
-      (λ m. let z = subst (λ (x : ContentsRead). TableRoom ch start area x) (at_last ed format ch rows s e h room_few m) r in (z.0, z.1))
+      (λ m. let z = subst (λ (x : Result Sizes Fault). TableRoom ch start area x) (at_last ed format ch rows s e h room_few m) r in (z.0, z.1))
 
   room_channels : ch ≤ 256
   room_channels =
       by-test e.more
       (λ m. ch_of (ahead ch e (sizes_answer format ch (contents ed format ch (rows + e.blocks * ch) (drop e.size s))))
-      (subst (λ (x : ContentsRead). TableRoom ch start area x) (at_more ed format ch rows s e h room_few m) r))
-      (λ m. (subst (λ (x : ContentsRead). TableRoom ch start area x) (at_last ed format ch rows s e h room_few m) r).2)
+      (subst (λ (x : Result Sizes Fault). TableRoom ch start area x) (at_more ed format ch rows s e h room_few m) r))
+      (λ m. (subst (λ (x : Result Sizes Fault). TableRoom ch start area x) (at_last ed format ch rows s e h room_few m) r).2)
     where
-      ch_of : (x : ContentsRead) → TableRoom ch start area x → ch ≤ 256
-      ch_of (ContentsRead.Refused n) z = absurd z
-      ch_of (ContentsRead.Contents t) z = z.2
+      ch_of : (x : Result Sizes Fault) → TableRoom ch start area x → ch ≤ 256
+      ch_of (Err n) z = absurd z
+      ch_of (Ok t) z = z.2
 
-  pub room_group : (mark : ℕ) → mark < 256 → Bytes s → GroupRoom 0 e.blocks ch (256 * mark + e.class) start e.length area
-  room_group mark l bs =
-      let f = fair format s e h in
-      record {
-        area_fits = room_here.0;
-        kinds = omega (arith, f.classes);
-        channels = room_channels;
-        frames_fit = room_here.1;
-        few = omega (arith, f.few bs);
-      }
+  pub room_group : GroupRoom e.blocks ch start e.length area
+  room_group = record { area_fits = room_here.0; channels_fit = room_channels; frames_fit = room_here.1 }
 
   pub room_rest : (e.more ≡ true) → TableRoom ch (start + e.blocks * ch * e.length) (area - row_width * (e.blocks * ch)) (sizes_answer format ch (contents ed format ch (rows + e.blocks * ch) (drop e.size s)))
   room_rest m = (room_both m).2
-
--- mark and class in one number
-pub kind_mark : (mark class : ℕ) → class ≤ max_class → (256 * mark + class) / 256 ≡ mark
-kind_mark mark class h = omega arith
-
-pub kind_class : (mark class : ℕ) → class ≤ max_class → (256 * mark + class) % 256 ≡ class
-kind_class mark class h = omega arith
 
 -- the words of an entry that was read
 abbrev pub first_words : ℕ → ℕ → ℕ → ℕ → ℕ → List ℕ → Entry → List ℕ
@@ -98,11 +82,11 @@ words_ahead mark format ch time start area s e (groups es) r = rw (length_gaps, 
 -- Written entry by entry
 
 module _ (ed : Edition) (mark format ch time start rows : ℕ) (s l : List ℕ) where
-  pub put_refused : (n : Refusal) → entry_of format s ≡ EntryRead.Refused n → l ≡ over (contents_words mark format ch time start (contents ed format ch rows s)) l
+  pub put_refused : (n : Refusal) → entry_of format s ≡ Err n → l ≡ over (contents_words mark format ch time start (contents ed format ch rows s)) l
   unfolding contents_words
   put_refused n h = rw (contents_refused ed format ch rows s n h) (sym (over_none l))
 
-  module _ (e : Entry) (h : entry_of format s ≡ EntryRead.Entry e) (few : rows + e.blocks * ch ≤ max_rows ed) (m : List ℕ) (w : m ≡ over (first_words mark format ch time start s e) l) where
+  module _ (e : Entry) (h : entry_of format s ≡ Ok e) (few : rows + e.blocks * ch ≤ max_rows ed) (m : List ℕ) (w : m ≡ over (first_words mark format ch time start s e) l) where
     pub put_last : e.more ≡ false → m ≡ over (contents_words mark format ch time start (contents ed format ch rows s)) l
     put_last x = w ∙ sym (ap (λ (p : Contents). over (contents_words mark format ch time start p) l) (contents_last ed format ch rows s e h few x) ∙ ap (λ (q : List ℕ). over q l) (words_single mark format ch time start s e))
 

@@ -1,35 +1,31 @@
 -- What functions ask of their callers inside this crate: room in an area, and numbers that fit its words.
-use Rattle.std.specs.Prelude.{ℕ, ◌+◌, ◌*◌, ◌^◌, ◌<◌, ◌≤◌, List, []}
+use Rattle.std.specs.Prelude.{ℕ, ◌+◌, ◌*◌, ◌^◌, ◌<◌, ◌≤◌, List, [], Err, Ok, Result}
+use Rattle.read_contents.specs.declared.entries.Sizes.{Sizes}
+use Rattle.rtp.specs.declared.refusal.Fault.{Fault}
 use Rattle.rtp.specs.Sizes.{row_width}
-use Rattle.read_contents.specs.declared.entries.ContentsRead.{ContentsRead}
 use Rattle.formats.specs.Frames.{step_of}
 use Rattle.rtp.specs.Time.{difference}
 use Rattle.read_contents.specs.Contents.{gap_at, Contents, refused, groups}
 use Rattle.read_rows.specs.Rows.{words, table_rows, marked}
 
--- a row's kind is 256 × mark + class
-pub record RowRoom (channel kind start size area : ℕ) : Type 0 where
+pub record RowRoom (channel start size area : ℕ) : Type 0 where
   pub area_fits : row_width ≤ area
-  pub kinds : kind < 65536
   pub channels : channel < 256
   pub frames_fit : start + size < 2 ^ 32
 
-pub record BlockRoom (count channel kind start size area : ℕ) : Type 0 where
-  pub area_fits : row_width * count ≤ area
-  pub kinds : kind < 65536
-  pub channels : channel + count ≤ 256
-  pub frames_fit : start + count * size < 2 ^ 32
+pub record BlockRoom (channels start size area : ℕ) : Type 0 where
+  pub area_fits : row_width * channels ≤ area
+  pub channels_fit : channels ≤ 256
+  pub frames_fit : start + channels * size < 2 ^ 32
 
-pub record GroupRoom (k count ch kind start size area : ℕ) : Type 0 where
-  pub area_fits : row_width * (count * ch) ≤ area
-  pub kinds : kind < 65536
-  pub channels : ch ≤ 256
-  pub frames_fit : start + count * ch * size < 2 ^ 32
-  pub few : k + count < 256
+pub record GroupRoom (blocks ch start size area : ℕ) : Type 0 where
+  pub area_fits : row_width * (blocks * ch) ≤ area
+  pub channels_fit : ch ≤ 256
+  pub frames_fit : start + blocks * ch * size < 2 ^ 32
 
-abbrev pub TableRoom : ℕ → ℕ → ℕ → ContentsRead → Type 0
-TableRoom ch start area (ContentsRead.Refused r) = ⊥
-TableRoom ch start area (ContentsRead.Contents t) = (row_width * t.rows ≤ area) × (start + t.frames < 2 ^ 32) × (ch ≤ 256)
+abbrev pub TableRoom : ℕ → ℕ → ℕ → Result Sizes Fault → Type 0
+TableRoom ch start area (Err r) = ⊥
+TableRoom ch start area (Ok t) = (row_width * t.rows ≤ area) × (start + t.frames < 2 ^ 32) × (ch ≤ 256)
 
 -- the words of a table whose frames start at `start`, heard with this mark: none of a refusal
 unfoldable pub contents_words : ℕ → ℕ → ℕ → ℕ → ℕ → Contents → List ℕ

@@ -12,20 +12,18 @@ mod sources;
 mod totals;
 
 use console::arguments;
-use console::arguments::Asked;
+use console::arguments::Program;
+
+const RECEIVE: Program = Program {
+    name: "receive",
+    purpose: "   or: receive FORMAT CHANNELS TYPE REDUNDANCY log < PACKETS\nPrints each frame once, in time order: time, channel, class, length, bytes, first-hand or by-redundancy; each gap; each packet refused; then a summary.\nWith `log` it writes the frames to standard output as a log, which show_log prints, and packets refused and the summary to standard error.\n",
+};
 
 fn main(rt: HostRuntime) {
-    match arguments::read_with(
-        &rt,
-        b"receive",
-        b"   or: receive FORMAT CHANNELS TYPE REDUNDANCY log < PACKETS\nPrints each frame once, in time order: time, channel, class, length, bytes, first-hand or by-redundancy; each gap; each packet refused; then a summary.\nWith `log` it writes the frames to standard output as a log, which show_log prints, and packets refused and the summary to standard error.\n",
-        b"log",
-    ) {
-        Asked::Agreed(settings) => gathering::open(
-            &rt,
-            settings,
-            arguments::is_word(&rt, 5, b"log"),
-        ),
-        Asked::Nothing => {}
+    if let Some(settings) = RECEIVE.read_with(&rt, b"log") {
+        let log = arguments::is_word(&rt, 5, b"log");
+        if gathering::receive(&rt, settings, log).is_err() {
+            RECEIVE.say_not_written();
+        }
     }
 }

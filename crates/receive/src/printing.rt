@@ -1,264 +1,184 @@
-// Frames, gaps, refused packets and the summary, each line written once; each function answers whether that succeeded. Frames and gaps go to standard
-// output, refused packets and the summary to `fd`, which is standard error where standard output has the log. Warnings and progress go to standard
-// error.
+// Frames, gaps, refused packets and the summary, each line written once. Frames and gaps go to standard output, refused packets and the summary to `fd`,
+// which is standard error where standard output has the log. Warnings and progress go to standard error.
+use crate::RECEIVE;
 use crate::gaps::Gaps;
 use crate::sources::Sources;
-use crate::totals::{REFUSALS, Totals};
+use crate::totals::Totals;
 use buffer_draw::draws::DrawnFrame;
-use buffer_layout::buffer::SLOT_SIZE;
 use console::{frame_lines, refusals};
-use console_text::lines::LINE;
+use console_text::lines::{Line, NotWritten};
+use console_text::words::Count;
 use console_text::{STDERR_FILENO, STDOUT_FILENO, lines};
 use report::calls;
-use report::calls::{ReportAnswer, ReportBlock};
+use report::calls::ReportBlock;
 use report::record::Reception;
-use report_loss::signed;
 use row_tags::tagging::PRIMARY;
-use rtp::refusal;
 use rtp::refusal::{Fault, Refusal};
+use std::fmt::Display;
 
 // Progress is said after each so many packets.
 const PROGRESS: u64 = 100000;
 
-// The line's first `at` bytes and its end. Whether standard error takes them is not asked.
-fn print(fd: i32, line: &mut [u8; LINE], at: usize) -> bool {
-    let end = lines::put(line, at, b"\n");
-    lines::write(fd, line, end) || fd == STDERR_FILENO
-}
-
-fn say(line: &mut [u8; LINE], at: usize) {
-    print(STDERR_FILENO, line, at);
-}
-
-// Time, channel, class, length and the bytes of a frame, which has no more than the area.
-fn put_frame(line: &mut [u8; LINE], frame: DrawnFrame, bytes: &[u8]) -> usize {
-    let n = frame.length as usize;
-    if n <= bytes.len() {
-        return frame_lines::put_frame(line, 0, frame.time, frame.channel, frame.class, &bytes[..n]);
+// Words on a line. Whether standard error takes them is not asked.
+fn print(fd: i32, words: impl Display + Drop) -> Result<(), NotWritten> {
+    let printed = lines::print(fd, words);
+    if fd == STDERR_FILENO {
+        return Ok(());
     }
-    0
+    printed
 }
 
-// Whether a frame was heard first-hand.
-fn put_heard(line: &mut [u8; LINE], at: usize, primary: u32) -> usize {
-    if primary == PRIMARY as u32 {
-        return lines::put(line, at, b" first-hand");
+// A line: time, channel, class, length, the bytes in hexadecimal, and whether they were heard first-hand. A frame has no more bytes than these.
+pub(crate) fn print_frame(frame: DrawnFrame, bytes: &[u8]) -> Result<(), NotWritten> {
+    let mut line = Line::new();
+    if let Some(sound) = bytes.get(..frame.length as usize) {
+        frame_lines::put_frame(&mut line, frame.time, frame.channel, frame.class, sound);
     }
-    lines::put(line, at, b" by-redundancy")
-}
-
-// A line: time, channel, class, length, the bytes in hexadecimal, and whether they were heard first-hand.
-pub(crate) fn print_frame(frame: DrawnFrame, bytes: &[u8; SLOT_SIZE]) -> bool {
-    let mut line = lines::blank();
-    let mut at = put_frame(&mut line, frame, bytes);
-    at = put_heard(&mut line, at, frame.primary);
-    print(STDOUT_FILENO, &mut line, at)
+    if frame.primary == PRIMARY as u32 {
+        line.put(b" first-hand");
+    } else {
+        line.put(b" by-redundancy");
+    }
+    line.print(STDOUT_FILENO)
 }
 
 // A line: the times before and after the gap, and the frame-blocks missing. None where none is missing.
-pub(crate) fn print_gap(from: u32, to: u32, missing: u32) -> bool {
+pub(crate) fn print_gap(from: u32, to: u32, missing: u32) -> Result<(), NotWritten> {
     if missing == 0 {
-        return true;
+        return Ok(());
     }
-    let mut line = lines::blank();
-    let mut at = lines::put_number(&mut line, 0, b"gap from ", from as u64);
-    at = lines::put_number(&mut line, at, b" to ", to as u64);
-    at = lines::put(&mut line, at, b": ");
-    at = lines::put_count(
-        &mut line,
-        at,
-        missing as u64,
-        b" frame-block missing",
-        b" frame-blocks missing",
-    );
-    print(STDOUT_FILENO, &mut line, at)
+    let blocks = Count(missing as u64, "frame-block", "frame-blocks");
+    print(
+        STDOUT_FILENO,
+        format_args!("gap from {from} to {to}: {blocks} missing"),
+    )
 }
 
-// The place of a fault in its packet, if it has one.
-fn put_offset(line: &mut [u8; LINE], at: usize, offset: usize) -> usize {
-    if offset == 0 {
-        return at;
+// A line: the number of a packet that was refused, the refusal's, the place at fault if it has one, and the reason.
+pub(crate) fn print_fault(fd: i32, packet: u64, fault: Fault) -> Result<(), NotWritten> {
+    let number = u32::from(fault.refusal);
+    let reason = refusals::reason(number);
+    if fault.offset == 0 {
+        return print(
+            fd,
+            format_args!("packet {packet}: refusal {number}: {reason}"),
+        );
     }
-    lines::put_number(line, at, b" at offset ", offset as u64)
+    print(
+        fd,
+        format_args!(
+            "packet {packet}: refusal {number} at offset {}: {reason}",
+            fault.offset
+        ),
+    )
 }
 
-// A line: the number of a packet that was refused, the refusal's, the place at fault, and the reason.
-pub(crate) fn print_fault(fd: i32, packet: u64, fault: Fault) -> bool {
-    let why = fault.refusal;
-    let number = refusal::refusal_number(why);
-    let mut line = lines::blank();
-    let mut at = lines::put_number(&mut line, 0, b"packet ", packet);
-    at = lines::put_number(&mut line, at, b": refusal ", number as u64);
-    at = put_offset(&mut line, at, fault.offset);
-    at = lines::put(&mut line, at, b": ");
-    at = refusals::put_reason(&mut line, at, number);
-    print(fd, &mut line, at)
+fn print_counts(fd: i32, totals: &Totals) -> Result<(), NotWritten> {
+    print(
+        fd,
+        format_args!(
+            "packets {}, refused {}, frames {}, inserted {}, repeated {}, better {}, late {}, far {}, no room {}",
+            totals.packets,
+            totals.refused,
+            totals.frames,
+            totals.inserted,
+            totals.repeated,
+            totals.better,
+            totals.late,
+            totals.far,
+            totals.no_room,
+        ),
+    )?;
+    print(
+        fd,
+        format_args!(
+            "heard first-hand {}, by redundancy {}",
+            totals.first_hand, totals.by_redundancy
+        ),
+    )
 }
 
-fn print_counts(fd: i32, totals: Totals) -> bool {
-    let mut line = lines::blank();
-    let mut at = lines::put_number(&mut line, 0, b"packets ", totals.packets);
-    at = lines::put_number(&mut line, at, b", refused ", totals.refused);
-    at = lines::put_number(&mut line, at, b", frames ", totals.frames);
-    at = lines::put_number(&mut line, at, b", inserted ", totals.inserted);
-    at = lines::put_number(&mut line, at, b", repeated ", totals.repeated);
-    at = lines::put_number(&mut line, at, b", better ", totals.better);
-    at = lines::put_number(&mut line, at, b", late ", totals.late);
-    at = lines::put_number(&mut line, at, b", far ", totals.far);
-    at = lines::put_number(&mut line, at, b", no room ", totals.no_room);
-    print(fd, &mut line, at)
-}
-
-// How many of the frames were heard first-hand, and how many by redundancy only.
-fn print_heard(fd: i32, totals: Totals) -> bool {
-    let mut line = lines::blank();
-    let mut at = lines::put_number(&mut line, 0, b"heard first-hand ", totals.first_hand);
-    at = lines::put_number(&mut line, at, b", by redundancy ", totals.by_redundancy);
-    print(fd, &mut line, at)
-}
-
-// A refusal by its number, how often it occurred, and its reason; nothing if it did not occur.
-fn print_refusal(fd: i32, number: u32, count: u64) -> bool {
-    if count == 0 {
-        return true;
-    }
-    let mut line = lines::blank();
-    let mut at = lines::put_number(&mut line, 0, b"refusal ", number as u64);
-    at = lines::put(&mut line, at, b", ");
-    at = lines::put_count(&mut line, at, count, b" packet: ", b" packets: ");
-    at = refusals::put_reason(&mut line, at, number);
-    print(fd, &mut line, at)
-}
-
-// The refusals that occurred.
-fn print_refusals(fd: i32, totals: Totals) -> bool {
-    let mut i: usize = 0;
-    while i < REFUSALS {
-        let count = totals.refusals[i];
-        if !print_refusal(fd, i as u32, count) {
-            return false;
+// The refusals that occurred: number, how often, and reason.
+fn print_refusals(fd: i32, totals: &Totals) -> Result<(), NotWritten> {
+    for (number, count) in totals.refusals.iter().enumerate() {
+        if *count > 0 {
+            let packets = Count(*count, "packet", "packets");
+            let reason = refusals::reason(number as u32);
+            print(fd, format_args!("refusal {number}, {packets}: {reason}"))?;
         }
-        i += 1;
     }
-    true
-}
-
-fn print_gaps(fd: i32, gaps: Gaps) -> bool {
-    let mut line = lines::blank();
-    let mut at = lines::put_number(&mut line, 0, b"gaps ", gaps.count);
-    at = lines::put_number(&mut line, at, b", frame-blocks missing ", gaps.missing);
-    print(fd, &mut line, at)
+    Ok(())
 }
 
 // Packets of another source than the first's; nothing if there are none.
-fn print_sources(fd: i32, sources: Sources) -> bool {
-    if sources.others == 0 {
-        return true;
+fn print_sources(fd: i32, sources: &Sources) -> Result<(), NotWritten> {
+    match sources.first {
+        Some(first) if sources.others > 0 => {
+            let packets = Count(sources.others, "packet is", "packets are");
+            print(
+                fd,
+                format_args!("more than one source: {packets} not of source 0x{first:08x}"),
+            )
+        }
+        _ => Ok(()),
     }
-    let mut line = lines::blank();
-    let mut at = lines::put(&mut line, 0, b"more than one source: ");
-    at = lines::put_count(
-        &mut line,
-        at,
-        sources.others,
-        b" packet is",
-        b" packets are",
-    );
-    at = lines::put(&mut line, at, b" not of source 0x");
-    at = lines::put_word(&mut line, at, sources.first);
-    print(fd, &mut line, at)
 }
 
-fn put_signed(line: &mut [u8; LINE], at: usize, value: i32) -> usize {
-    let mut end = at;
-    if value < 0 {
-        end = lines::put(line, at, b"-");
-    }
-    lines::put_number(line, end, b"", signed::size(value) as u64)
-}
-
-fn print_block(fd: i32, block: ReportBlock) -> bool {
-    let mut line = lines::blank();
-    let mut at = lines::put_number(
-        &mut line,
-        0,
-        b"report: fraction lost ",
-        block.fraction_lost as u64,
-    );
-    at = lines::put(&mut line, at, b", cumulative lost ");
-    at = put_signed(&mut line, at, block.cumulative_lost);
-    at = lines::put_number(
-        &mut line,
-        at,
-        b", highest sequence ",
-        block.highest_sequence as u64,
-    );
-    print(fd, &mut line, at)
+fn print_block(fd: i32, block: ReportBlock) -> Result<(), NotWritten> {
+    print(
+        fd,
+        format_args!(
+            "report: fraction lost {}, cumulative lost {}, highest sequence {}",
+            block.fraction_lost, block.cumulative_lost, block.highest_sequence,
+        ),
+    )
 }
 
 // The report on the first source. It is never refused: the record comes from the calls.
-fn print_report(fd: i32, heard: Reception) -> bool {
-    let reported = calls::report(heard);
-    let answer = reported.answer;
-    match answer {
-        ReportAnswer::Block(block) => print_block(fd, block),
-        ReportAnswer::Refused(_) => true,
+fn print_report(fd: i32, heard: Reception) -> Result<(), NotWritten> {
+    match calls::report(heard).answer {
+        Ok(block) => print_block(fd, block),
+        Err(_) => Ok(()),
     }
 }
 
 // The summary.
-pub(crate) fn print_summary(fd: i32, totals: Totals, gaps: Gaps, sources: Sources) -> bool {
-    let heard = sources.heard;
-    print_counts(fd, totals)
-        && print_heard(fd, totals)
-        && print_refusals(fd, totals)
-        && print_gaps(fd, gaps)
-        && print_sources(fd, sources)
-        && print_report(fd, heard)
+pub(crate) fn print_summary(
+    fd: i32,
+    totals: &Totals,
+    gaps: &Gaps,
+    sources: &Sources,
+) -> Result<(), NotWritten> {
+    print_counts(fd, totals)?;
+    print_refusals(fd, totals)?;
+    print(
+        fd,
+        format_args!("gaps {}, frame-blocks missing {}", gaps.count, gaps.missing),
+    )?;
+    print_sources(fd, sources)?;
+    print_report(fd, sources.heard)
 }
 
 // Says that the packet of this number is the first of another source than the packets before it.
 pub(crate) fn warn_source(number: u64, source: u32, first: u32) {
-    let mut line = lines::blank();
-    let mut at = lines::put_number(&mut line, 0, b"receive: warning: packet ", number);
-    at = lines::put(&mut line, at, b" is of source 0x");
-    at = lines::put_word(&mut line, at, source);
-    at = lines::put(&mut line, at, b", those before it of 0x");
-    at = lines::put_word(&mut line, at, first);
-    at = lines::put(
-        &mut line,
-        at,
-        b"; frames of more than one source are merged",
-    );
-    say(&mut line, at);
+    RECEIVE.say(format_args!(
+        "warning: packet {number} is of source 0x{source:08x}, those before it of 0x{first:08x}; frames of more than one source are merged",
+    ));
 }
 
 // Says that a field of the log is left out, and why.
 pub(crate) fn say_left_out(why: Refusal) {
-    let number = refusal::refusal_number(why);
-    let mut line = lines::blank();
-    let mut at = lines::put_number(
-        &mut line,
-        0,
-        b"receive: a field of the log is left out: refusal ",
-        number as u64,
-    );
-    at = lines::put(&mut line, at, b": ");
-    at = refusals::put_reason(&mut line, at, number);
-    say(&mut line, at);
+    let number = u32::from(why);
+    let reason = refusals::reason(number);
+    RECEIVE.say(format_args!("a field of the log is left out: refusal {number}: {reason}"));
 }
 
 // Says how far the stream is read, after each 100,000 packets.
-pub(crate) fn say_progress(totals: Totals) {
+pub(crate) fn say_progress(totals: &Totals) {
     if totals.packets % PROGRESS == 0 {
-        let mut line = lines::blank();
-        let mut at = lines::put_number(&mut line, 0, b"receive: ", totals.packets);
-        at = lines::put_number(
-            &mut line,
-            at,
-            b" packets read, frames drawn: ",
-            totals.frames,
-        );
-        say(&mut line, at);
+        RECEIVE.say(format_args!(
+            "{} packets read, frames drawn: {}",
+            totals.packets, totals.frames
+        ));
     }
 }

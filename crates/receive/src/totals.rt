@@ -1,14 +1,12 @@
 // What was counted over the whole stream.
 use buffer_insert::tally::Tally;
-use buffer_offer::calls::OfferAnswer;
 use row_tags::tagging::PRIMARY;
-use rtp::refusal;
-use rtp::refusal::Refusal;
+use rtp::refusal::{Fault, Refusal};
 
 // Refusal numbers are below this.
-pub(crate) const REFUSALS: usize = 16;
+const REFUSALS: usize = 16;
 
-#[derive(Clone, Copy)]
+#[derive(Clone, Copy, Default)]
 pub(crate) struct Totals {
     pub packets: u64,
     pub refused: u64,
@@ -24,83 +22,49 @@ pub(crate) struct Totals {
     pub refusals: [u64; REFUSALS],
 }
 
-pub(crate) fn none() -> Totals {
-    let refusals = [0u64; REFUSALS];
-    Totals {
-        packets: 0,
-        refused: 0,
-        frames: 0,
-        first_hand: 0,
-        by_redundancy: 0,
-        inserted: 0,
-        repeated: 0,
-        better: 0,
-        late: 0,
-        far: 0,
-        no_room: 0,
-        refusals,
+fn add(count: &mut u64, more: u32) {
+    *count = count.wrapping_add(more as u64);
+}
+
+impl Totals {
+    fn add_tally(&mut self, tally: Tally) {
+        add(&mut self.inserted, tally.inserted);
+        add(&mut self.repeated, tally.repeated);
+        add(&mut self.better, tally.better);
+        add(&mut self.late, tally.late);
+        add(&mut self.far, tally.far);
+        add(&mut self.no_room, tally.no_room);
     }
-}
 
-fn plus(count: u64, more: u32) -> u64 {
-    std::num::wrapping_add_u64(count, more as u64)
-}
-
-fn add_tally(totals: Totals, tally: Tally) -> Totals {
-    let mut next = totals;
-    next.inserted = plus(totals.inserted, tally.inserted);
-    next.repeated = plus(totals.repeated, tally.repeated);
-    next.better = plus(totals.better, tally.better);
-    next.late = plus(totals.late, tally.late);
-    next.far = plus(totals.far, tally.far);
-    next.no_room = plus(totals.no_room, tally.no_room);
-    next
-}
-
-fn add_refusal(totals: Totals, why: Refusal) -> Totals {
-    let mut next = totals;
-    next.refused = plus(totals.refused, 1);
-    let number = refusal::refusal_number(why) as usize;
-    if number < REFUSALS {
-        next.refusals[number] = plus(totals.refusals[number], 1);
-    }
-    next
-}
-
-// With the answer to one more packet.
-pub(crate) fn add_packet(totals: Totals, answer: OfferAnswer) -> Totals {
-    let mut next = totals;
-    next.packets = plus(totals.packets, 1);
-    match answer {
-        OfferAnswer::Judged(tally) => add_tally(next, tally),
-        OfferAnswer::Refused(fault) => {
-            let why = fault.refusal;
-            add_refusal(next, why)
+    fn add_refusal(&mut self, why: Refusal) {
+        add(&mut self.refused, 1);
+        let number = u32::from(why) as usize;
+        if number < REFUSALS {
+            add(&mut self.refusals[number], 1);
         }
     }
-}
 
-// Whether the packet was read, so that its frames were judged.
-pub(crate) fn was_read(answer: OfferAnswer) -> bool {
-    match answer {
-        OfferAnswer::Judged(_) => true,
-        OfferAnswer::Refused(_) => false,
+    // The answer to one more packet.
+    pub(crate) fn add_packet(&mut self, answer: Result<Tally, Fault>) {
+        add(&mut self.packets, 1);
+        match answer {
+            Ok(tally) => self.add_tally(tally),
+            Err(fault) => self.add_refusal(fault.refusal),
+        }
     }
-}
 
-// With one more frame drawn, heard first-hand or by redundancy only.
-pub(crate) fn add_frame(totals: Totals, primary: u32) -> Totals {
-    let mut next = totals;
-    next.frames = plus(totals.frames, 1);
-    if primary == PRIMARY as u32 {
-        next.first_hand = plus(totals.first_hand, 1);
-    } else {
-        next.by_redundancy = plus(totals.by_redundancy, 1);
+    // One more frame drawn, heard first-hand or by redundancy only.
+    pub(crate) fn add_frame(&mut self, primary: u32) {
+        add(&mut self.frames, 1);
+        if primary == PRIMARY as u32 {
+            add(&mut self.first_hand, 1);
+        } else {
+            add(&mut self.by_redundancy, 1);
+        }
     }
-    next
-}
 
-// The frames held: by the theorem Count, all that were inserted less all that were drawn.
-pub(crate) fn held(totals: Totals) -> u64 {
-    std::num::wrapping_sub_u64(totals.inserted, totals.frames)
+    // The frames held: by the theorem Count, all that were inserted less all that were drawn.
+    pub(crate) fn held(&self) -> u64 {
+        self.inserted.wrapping_sub(self.frames)
+    }
 }

@@ -1,5 +1,6 @@
 -- The calls, case by case.
 use mathlib.Core.Path.{◌≡◌}
+use Rattle.std.specs.Prelude.{Err, Ok}
 use mathlib.Core.Bool.{true, false, cond}
 use Prim.Native.Nat.{ℕ, ◌≤◌}
 use lib.Dec.{ltb}
@@ -10,8 +11,6 @@ use Rattle.rtp.proofs.TestLaws.{either}
 use Rattle.report_sequence.specs.Sizes.{min_sequential}
 use Rattle.report.specs.Sizes.{max_sum}
 use Rattle.report.specs.declared.record.Reception.{Reception}
-use Rattle.report.specs.declared.calls.PacketAnswer.{PacketAnswer}
-use Rattle.report.specs.declared.calls.ReportAnswer.{ReportAnswer}
 use Rattle.report_sequence.specs.Sequence.{judged}
 use Rattle.report_loss.specs.Report.{noted}
 use Rattle.report.specs.Jitter.{arrived}
@@ -27,24 +26,24 @@ sum_bounded r h =
 -- Packet
 
 module _ (r : Reception) (s t a : ℕ) where
-  pub packet_refused : well_formed r ≡ false → packet_call r s t a ≡ record { answer = packet_numbers (PacketAnswer.Refused Malformed); reception = r }
+  pub packet_refused : well_formed r ≡ false → packet_call r s t a ≡ record { answer = packet_numbers (Err Malformed); reception = r }
   unfolding packet_call
   packet_refused h = rw h
 
   pub packet_valid : well_formed r ≡ true → (judged r.counts s).valid ≡ true
-      → packet_call r s t a ≡ record { answer = packet_numbers PacketAnswer.Valid; reception = arrived r (judged r.counts s).counts (difference a t) }
+      → packet_call r s t a ≡ record { answer = packet_numbers (Ok true); reception = arrived r (judged r.counts s).counts (difference a t) }
   unfolding packet_call packet_judged
   packet_valid h v = rw (h, v)
 
   pub packet_invalid : well_formed r ≡ true → (judged r.counts s).valid ≡ false
-      → packet_call r s t a ≡ record { answer = packet_numbers PacketAnswer.Invalid; reception = with_counts r (judged r.counts s).counts }
+      → packet_call r s t a ≡ record { answer = packet_numbers (Ok false); reception = with_counts r (judged r.counts s).counts }
   unfolding packet_call packet_judged
   packet_invalid h v = rw (h, v)
 
 -- Report
 
 module _ (r : Reception) where
-  pub report_refused : well_formed r ≡ false → report_call r ≡ record { answer = report_numbers (ReportAnswer.Refused Malformed); reception = r }
+  pub report_refused : well_formed r ≡ false → report_call r ≡ record { answer = report_numbers (Err Malformed); reception = r }
   unfolding report_call
   report_refused h = rw h
 

@@ -1,14 +1,13 @@
 -- Document 02, P7: the three calls. Each definition is the whole meaning of a call, refusals included: answer and record.
-use Rattle.std.specs.Prelude.{ℕ, cond, ℤ, pos, eqb}
+use Rattle.std.specs.Prelude.{ℕ, cond, ℤ, pos, eqb, Err, Ok, Result, Bool, true, false}
+use Rattle.rtp.specs.declared.refusal.Refusal.{Refusal}
 use Rattle.rtp.specs.Time.{difference}
 use Rattle.rtp.specs.Refusals.{number}
 use Rattle.rtp.specs.declared.refusal.Refusal.TheVariants.{Malformed}
 use Rattle.report_sequence.specs.declared.record.Counts.{Counts}
 use Rattle.report.specs.declared.record.Reception.{Reception}
 use Rattle.report_sequence.specs.declared.sequence.Judged.{Judged}
-use Rattle.report.specs.declared.calls.PacketAnswer.{PacketAnswer}
 use Rattle.report.specs.declared.calls.ReportBlock.{ReportBlock}
-use Rattle.report.specs.declared.calls.ReportAnswer.{ReportAnswer}
 use Rattle.report_sequence.specs.Sequence.{judged}
 use Rattle.report_loss.specs.Report.{extended, fraction_lost, cumulative_lost, noted}
 use Rattle.report.specs.Jitter.{jitter_of, arrived}
@@ -47,10 +46,10 @@ pub record PacketNumbers : Type 0 where
   pub valid : ℕ
 
 -- of the code's answer, case by case
-abbrev pub packet_numbers : PacketAnswer → PacketNumbers
-packet_numbers PacketAnswer.Valid = record { refusal = 0; valid = 1 }
-packet_numbers PacketAnswer.Invalid = record { refusal = 0; valid = 0 }
-packet_numbers (PacketAnswer.Refused r) = record { refusal = number r; valid = 0 }
+abbrev pub packet_numbers : Result Bool Refusal → PacketNumbers
+packet_numbers (Ok true) = record { refusal = 0; valid = 1 }
+packet_numbers (Ok false) = record { refusal = 0; valid = 0 }
+packet_numbers (Err r) = record { refusal = number r; valid = 0 }
 
 -- what a call answers and leaves
 pub record PacketOutcome : Type 0 where
@@ -60,14 +59,14 @@ pub record PacketOutcome : Type 0 where
 -- a packet that was judged: a valid one enters the jitter, another changes only what A.1 says
 unfoldable pub packet_judged : Reception → ℕ → Judged → PacketOutcome
 packet_judged r transit j =
-    cond j.valid (record { answer = packet_numbers PacketAnswer.Valid; reception = arrived r j.counts transit })
-    (record { answer = packet_numbers PacketAnswer.Invalid; reception = with_counts r j.counts })
+    cond j.valid (record { answer = packet_numbers (Ok true); reception = arrived r j.counts transit })
+    (record { answer = packet_numbers (Ok false); reception = with_counts r j.counts })
 
 -- a packet of a sequence number and a timestamp, at a time of the arrival clock
 unfoldable pub packet_call : Reception → ℕ → ℕ → ℕ → PacketOutcome
 packet_call r sequence timestamp arrival =
     cond (well_formed r) (packet_judged r (difference arrival timestamp) (judged r.counts sequence))
-    (record { answer = packet_numbers (PacketAnswer.Refused Malformed); reception = r })
+    (record { answer = packet_numbers (Err Malformed); reception = r })
 
 -- Report
 
@@ -92,9 +91,9 @@ block_numbers n b = record {
 }
 
 -- of the code's answer, case by case
-abbrev pub report_numbers : ReportAnswer → ReportNumbers
-report_numbers (ReportAnswer.Block b) = block_numbers 0 b
-report_numbers (ReportAnswer.Refused r) = block_numbers (number r) no_block
+abbrev pub report_numbers : Result ReportBlock Refusal → ReportNumbers
+report_numbers (Ok b) = block_numbers 0 b
+report_numbers (Err r) = block_numbers (number r) no_block
 
 pub record ReportOutcome : Type 0 where
   pub answer : ReportNumbers
@@ -115,4 +114,4 @@ report_call r =
     cond (well_formed r)
     (cond (eqb r.transit_set 0) (record { answer = block_numbers 0 no_block; reception = r })
     (record { answer = block_numbers 0 (block_of r); reception = with_counts r (noted r.counts) }))
-    (record { answer = report_numbers (ReportAnswer.Refused Malformed); reception = r })
+    (record { answer = report_numbers (Err Malformed); reception = r })

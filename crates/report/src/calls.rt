@@ -12,21 +12,15 @@ use report_sequence::sequence;
 use rtp::refusal::Refusal;
 use rtp::time;
 
-#[derive(Clone, Copy)]
-pub enum PacketAnswer {
-    Valid,
-    Invalid,
-    Refused(Refusal),
-}
-
-#[derive(Clone, Copy)]
-pub struct Received {
-    pub answer: PacketAnswer,
+// What a call answers, and the record that it leaves.
+#[derive(Clone, Copy, Debug, PartialEq, Eq)]
+pub struct Answered<A> {
+    pub answer: A,
     pub reception: Reception,
 }
 
 // The report block of RFC 3550, but for source and times.
-#[derive(Clone, Copy)]
+#[derive(Clone, Copy, Debug, Default, PartialEq, Eq)]
 pub struct ReportBlock {
     pub fraction_lost: u32,
     pub cumulative_lost: i32,
@@ -34,51 +28,25 @@ pub struct ReportBlock {
     pub jitter: u32,
 }
 
-#[derive(Clone, Copy)]
-pub enum ReportAnswer {
-    Block(ReportBlock),
-    Refused(Refusal),
-}
-
-#[derive(Clone, Copy)]
-pub struct Reported {
-    pub answer: ReportAnswer,
-    pub reception: Reception,
-}
-
 // A record of no packet yet.
 pub fn new() -> Reception
     ensures { result ≡ fresh }
 {
-    Reception {
-        jitter: 0,
-        counts: Counts {
-            probation: 0,
-            started: 0,
-            base: 0,
-            highest: 0,
-            bad: 0,
-            cycles: 0,
-            received: 0,
-            expected_prior: 0,
-            received_prior: 0,
-        },
-        transit: 0,
-        transit_set: 0,
-    }
+    Reception::default()
 }
 
 // A valid packet's transit; from the second on it enters the jitter.
+#[tactic(auto, unfolding(crate::specs::Jitter::arrived))]
 fn arrive(reception: Reception, counts: Counts, transit: u32) -> Reception
     requires { reception.jitter ≤ max_sum }
     ensures { result ≡ arrived reception counts transit }
 {
     if reception.transit_set == 0 {
         return Reception {
-            jitter: reception.jitter,
             counts,
             transit,
             transit_set: 1,
+            ..reception
         };
     }
     let d = jitter::transit_distance(transit, reception.transit);
@@ -86,37 +54,38 @@ fn arrive(reception: Reception, counts: Counts, transit: u32) -> Reception
         jitter: jitter::smooth(reception.jitter, d),
         counts,
         transit,
-        transit_set: reception.transit_set,
+        ..reception
     }
 }
 
-// A packet received: its sequence number, its timestamp, and the arrival clock in ticks.
-pub fn packet(reception: Reception, sequence: u16, timestamp: u32, arrival: u32) -> Received
+// A packet received: its sequence number, its timestamp, and the arrival clock in ticks. Is it valid?
+pub fn packet(
+    reception: Reception,
+    sequence: u16,
+    timestamp: u32,
+    arrival: u32,
+) -> Answered<Result<bool, Refusal>>
     ensures { record { answer = packet_numbers result.answer; reception = result.reception } ≡ packet_call reception sequence timestamp arrival }
 {
     if !record::well_formed(reception) {
-        return Received {
-            answer: PacketAnswer::Refused(Refusal::Malformed),
+        return Answered {
+            answer: Err(Refusal::Malformed),
             reception,
         };
     }
-    let counts = reception.counts;
-    let judged = sequence::judge(counts, sequence);
-    let next = judged.counts;
+    let judged = sequence::judge(reception.counts, sequence);
     if judged.valid {
         let transit = time::difference(arrival, timestamp);
-        return Received {
-            answer: PacketAnswer::Valid,
-            reception: arrive(reception, next, transit),
+        return Answered {
+            answer: Ok(true),
+            reception: arrive(reception, judged.counts, transit),
         };
     }
-    Received {
-        answer: PacketAnswer::Invalid,
+    Answered {
+        answer: Ok(false),
         reception: Reception {
-            jitter: reception.jitter,
-            counts: next,
-            transit: reception.transit,
-            transit_set: reception.transit_set,
+            counts: judged.counts,
+            ..reception
         },
     }
 }
@@ -135,36 +104,26 @@ fn block_of(reception: Reception) -> ReportBlock
 }
 
 // A report: the block since the last one; before the first valid packet it is all zeros and nothing changes.
-pub fn report(reception: Reception) -> Reported
+pub fn report(reception: Reception) -> Answered<Result<ReportBlock, Refusal>>
     ensures { record { answer = report_numbers result.answer; reception = result.reception } ≡ report_call reception }
 {
     if !record::well_formed(reception) {
-        return Reported {
-            answer: ReportAnswer::Refused(Refusal::Malformed),
+        return Answered {
+            answer: Err(Refusal::Malformed),
             reception,
         };
     }
     if reception.transit_set == 0 {
-        return Reported {
-            answer: ReportAnswer::Block(ReportBlock {
-                fraction_lost: 0,
-                cumulative_lost: 0,
-                highest_sequence: 0,
-                jitter: 0,
-            }),
+        return Answered {
+            answer: Ok(ReportBlock::default()),
             reception,
         };
     }
-    let block = block_of(reception);
-    let counts = reception.counts;
-    let next = losses::note(counts);
-    Reported {
-        answer: ReportAnswer::Block(block),
+    Answered {
+        answer: Ok(block_of(reception)),
         reception: Reception {
-            jitter: reception.jitter,
-            counts: next,
-            transit: reception.transit,
-            transit_set: reception.transit_set,
+            counts: losses::note(reception.counts),
+            ..reception
         },
     }
 }

@@ -14,6 +14,7 @@ pub(crate) fn transit_distance(transit: u32, last: u32) -> u32
 }
 
 // The sum after a packet whose transit differs by d.
+#[tactic(auto, unfolding(crate::specs::Jitter::smoothed))]
 pub(crate) fn smooth(sum: u64, d: u32) -> u64
     requires { sum ≤ max_sum }
     ensures { result ≡ smoothed sum d }

@@ -9,7 +9,7 @@ pub const MAX_SUM: u64 = 0x8_0000_0000 - 8;
 
 // The jitter sum (16 times the jitter), what A.1 keeps, and the transit of the last valid packet, if there was one.
 #[repr(C)]
-#[derive(Clone, Copy)]
+#[derive(Clone, Copy, Debug, Default, PartialEq, Eq)]
 pub struct Reception {
     pub jitter: u64,
     pub counts: Counts,
@@ -22,12 +22,5 @@ pub struct Reception {
 pub fn well_formed(reception: Reception) -> bool
     ensures { result ≡ well_formed reception }
 {
-    let counts = reception.counts;
-    if MIN_SEQUENTIAL < counts.probation {
-        return false;
-    }
-    if MAX_SUM < reception.jitter {
-        return false;
-    }
-    true
+    reception.counts.probation <= MIN_SEQUENTIAL && reception.jitter <= MAX_SUM
 }

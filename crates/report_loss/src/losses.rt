@@ -12,38 +12,34 @@ const LEAST_LOST: i32 = -8388608;
 const MOST_LOST: i32 = 8388607;
 
 // The fraction lost is in parts of 256, at most 255.
-const MOST_FRACTION: u32 = 255;
+const MOST_FRACTION: u64 = 255;
 
 // The highest sequence number with its cycles.
+#[tactic(auto, unfolding(crate::specs::Report::extended))]
 pub fn extended_highest(counts: Counts) -> u32
     ensures { result ≡ extended counts }
 {
-    std::num::wrapping_add_u32(counts.cycles, counts.highest)
+    counts.cycles.wrapping_add(counts.highest)
 }
 
 // The packets expected so far.
+#[tactic(auto, unfolding(crate::specs::Report::expected))]
 fn expected_so_far(counts: Counts) -> u32
     ensures { result ≡ expected counts }
 {
     let past = time::difference(extended_highest(counts), counts.base);
-    std::num::wrapping_add_u32(past, 1)
+    past.wrapping_add(1)
 }
 
 // Lost of expected, in parts of 256.
 fn part_lost(lost: i32, due: i32) -> u32
     ensures { result ≡ fraction lost due }
 {
-    if lost <= 0 {
+    if lost <= 0 || due <= 0 {
         return 0;
     }
-    if due <= 0 {
-        return 0;
-    }
-    let part = 256 * (signed::size(lost) as u64) / (signed::size(due) as u64);
-    if part > MOST_FRACTION as u64 {
-        return MOST_FRACTION;
-    }
-    part as u32
+    let part = 256 * (lost.unsigned_abs() as u64) / (due.unsigned_abs() as u64);
+    part.min(MOST_FRACTION) as u32
 }
 
 // The fraction lost since the last report.
@@ -56,16 +52,11 @@ pub fn fraction_lost(counts: Counts) -> u32
     part_lost(signed::as_signed(lost), signed::as_signed(due))
 }
 
+// Held to 24 bits.
 fn hold(lost: i32) -> i32
     ensures { result ≡ held lost }
 {
-    if lost < LEAST_LOST {
-        return LEAST_LOST;
-    }
-    if lost > MOST_LOST {
-        return MOST_LOST;
-    }
-    lost
+    lost.clamp(LEAST_LOST, MOST_LOST)
 }
 
 // The packets lost since the counts began, held to 24 bits.
@@ -77,11 +68,13 @@ pub fn cumulative_lost(counts: Counts) -> i32
 }
 
 // The counts after a report: it notes what was expected and received.
+#[tactic(auto, unfolding(crate::specs::Report::noted))]
 pub fn note(counts: Counts) -> Counts
     ensures { result ≡ noted counts }
 {
-    let mut next = counts;
-    next.expected_prior = expected_so_far(counts);
-    next.received_prior = counts.received;
-    next
+    Counts {
+        expected_prior: expected_so_far(counts),
+        received_prior: counts.received,
+        ..counts
+    }
 }

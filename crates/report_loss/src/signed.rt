@@ -6,18 +6,12 @@ ghost use Rattle.report_loss.specs.Signed.{signed};
 pub fn as_signed(x: u32) -> i32
     ensures { result ≡ signed x }
 {
-    if x < 0x8000_0000 {
-        return x as i32;
-    }
-    -1 - ((u32::MAX - x) as i32)
+    x.cast_signed()
 }
 
 // The size of a signed number, exact at the lowest too: 2^31.
 pub fn size(x: i32) -> u32
     ensures { result ≡ unsigned_abs x }
 {
-    if x >= 0 {
-        return x as u32;
-    }
-    ((-1 - x) as u32) + 1
+    x.unsigned_abs()
 }

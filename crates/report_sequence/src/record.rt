@@ -14,7 +14,7 @@ pub const MAX_MISORDER: u32 = 100;
 
 // A fresh record is all zeros.
 #[repr(C)]
-#[derive(Clone, Copy)]
+#[derive(Clone, Copy, Debug, Default, PartialEq, Eq)]
 pub struct Counts {
     pub probation: u32,
     pub started: u32,

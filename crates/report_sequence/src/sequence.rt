@@ -1,10 +1,10 @@
 // RFC 3550, appendix A.1: is a packet valid by its sequence number, and the counts after it.
 ghost use Rattle.std.specs.Prelude.{◌≡◌, ◌<◌, true};
-ghost use Rattle.report_sequence.specs.Sequence.{following, anew, counted, first, probed, advanced, followed, judged};
+ghost use Rattle.report_sequence.specs.Sequence.{following, anew, counted, first, invalid, wanting, probed, advanced, followed, judged};
 
 use crate::record::{Counts, MAX_DROPOUT, MAX_MISORDER, MIN_SEQUENTIAL, NO_SEQUENCE, SEQUENCES};
 
-#[derive(Clone, Copy)]
+#[derive(Clone, Copy, Debug, PartialEq, Eq)]
 pub struct Judged {
     pub valid: bool,
     pub counts: Counts,
@@ -18,12 +18,11 @@ fn after(sequence: u32) -> u32
 }
 
 // The counts started anew at a sequence number.
+#[tactic(auto, unfolding(crate::specs::Sequence::anew))]
 fn restart(counts: Counts, sequence: u32) -> Counts
     ensures { result ≡ anew counts sequence }
 {
     Counts {
-        probation: counts.probation,
-        started: counts.started,
         base: sequence,
         highest: sequence,
         bad: NO_SEQUENCE,
@@ -31,22 +30,48 @@ fn restart(counts: Counts, sequence: u32) -> Counts
         received: 0,
         expected_prior: 0,
         received_prior: 0,
+        ..counts
     }
 }
 
 // A valid packet, received.
+#[tactic(auto, unfolding(crate::specs::Sequence::counted))]
 fn receive(counts: Counts) -> Judged
     ensures { result ≡ record { valid = true; counts = counted counts } }
 {
-    let mut next = counts;
-    next.received = std::num::wrapping_add_u32(counts.received, 1);
     Judged {
         valid: true,
-        counts: next,
+        counts: Counts {
+            received: counts.received.wrapping_add(1),
+            ..counts
+        },
+    }
+}
+
+// A packet that is not valid, and the counts after it.
+fn refuse(counts: Counts) -> Judged
+    ensures { result ≡ invalid counts }
+{
+    Judged {
+        valid: false,
+        counts,
+    }
+}
+
+// So many packets in sequence are still wanted after this number.
+#[tactic(auto, unfolding(crate::specs::Sequence::wanting))]
+fn wait(counts: Counts, probation: u32, sequence: u32) -> Counts
+    ensures { result ≡ wanting counts probation sequence }
+{
+    Counts {
+        probation,
+        highest: sequence,
+        ..counts
     }
 }
 
 // A source's first packet: the number before its own is taken for the highest.
+#[tactic(auto, unfolding(crate::specs::Sequence::first, crate::specs::Sequence::anew))]
 fn begin(sequence: u16) -> Counts
     ensures { result ≡ first sequence }
 {
@@ -54,13 +79,8 @@ fn begin(sequence: u16) -> Counts
     Counts {
         probation: MIN_SEQUENTIAL,
         started: 1,
-        base: number,
         highest: (number + (SEQUENCES - 1)) % SEQUENCES,
-        bad: NO_SEQUENCE,
-        cycles: 0,
-        received: 0,
-        expected_prior: 0,
-        received_prior: 0,
+        ..restart(Counts::default(), number)
     }
 }
 
@@ -70,37 +90,31 @@ fn probe(counts: Counts, sequence: u16) -> Judged
     ensures { result ≡ probed counts sequence }
 {
     let number = sequence as u32;
-    let mut next = counts;
-    next.highest = number;
-    if number == after(counts.highest) {
-        if counts.probation == 1 {
-            next.probation = 0;
-            return receive(restart(next, number));
-        }
-        next.probation = counts.probation - 1;
-        return Judged {
-            valid: false,
-            counts: next,
-        };
+    if number != after(counts.highest) {
+        return refuse(wait(counts, MIN_SEQUENTIAL - 1, number));
     }
-    next.probation = MIN_SEQUENTIAL - 1;
-    Judged {
-        valid: false,
-        counts: next,
+    if counts.probation == 1 {
+        return receive(restart(wait(counts, 0, number), number));
     }
+    refuse(wait(counts, counts.probation - 1, number))
 }
 
 // A packet in order: it has the highest number; where that is less than the highest before, a cycle is over.
+#[tactic(auto, unfolding(crate::specs::Sequence::advanced))]
 fn advance(counts: Counts, sequence: u16) -> Counts
     ensures { result ≡ advanced counts sequence }
 {
     let number = sequence as u32;
-    let mut next = counts;
-    next.highest = number;
-    if number < counts.highest % SEQUENCES {
-        next.cycles = std::num::wrapping_add_u32(counts.cycles, SEQUENCES);
+    let cycles = if number < counts.highest % SEQUENCES {
+        counts.cycles.wrapping_add(SEQUENCES)
+    } else {
+        counts.cycles
+    };
+    Counts {
+        highest: number,
+        cycles,
+        ..counts
     }
-    next
 }
 
 // A packet after probation.
@@ -116,12 +130,10 @@ fn follow(counts: Counts, sequence: u16) -> Judged
         if number == counts.bad {
             return receive(restart(counts, number));
         }
-        let mut next = counts;
-        next.bad = after(number);
-        return Judged {
-            valid: false,
-            counts: next,
-        };
+        return refuse(Counts {
+            bad: after(number),
+            ..counts
+        });
     }
     receive(counts)
 }

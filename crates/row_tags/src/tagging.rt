@@ -10,7 +10,7 @@ pub const REDUNDANT: u8 = 0;
 pub fn pack_tag(mark: u8, class: u8, channel: u8) -> u32
     ensures { result ≡ tag_of mark class channel }
 {
-    65536 * (mark as u32) + (256 * (class as u32) + (channel as u32))
+    65536 * u32::from(mark) + (256 * u32::from(class) + u32::from(channel))
 }
 
 pub fn tag_mark(tag: u32) -> u32
@@ -36,7 +36,8 @@ pub fn join_mark(tag: u32, other: u32) -> u32
     ensures { result ≡ joined_tag tag other }
 {
     if tag_mark(tag) == 0 {
-        return tag + 65536 * tag_mark(other);
+        tag + 65536 * tag_mark(other)
+    } else {
+        tag
     }
-    tag
 }

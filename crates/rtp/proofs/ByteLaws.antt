@@ -1,7 +1,10 @@
 -- Laws of bytes and of the numbers that they make up.
-use Rattle.std.proofs.Common.{◌≡◌, ℕ, ◌+◌, ◌*◌, ◌/◌, ◌%◌, ◌^◌, ◌<◌, ◌≤◌, List, ◌++◌, length, drop, refl, arith, get_or-drop, le-leb}
+use Rattle.std.proofs.Common.{◌≡◌, ℕ, ◌+◌, ◌*◌, ◌/◌, ◌%◌, ◌^◌, ◌<◌, ◌≤◌, List, ◌++◌, length, drop, refl, ap, ◌∙◌, arith, get_or, get_or-drop, sym, length-drop, le-leb}
 use borrow.Author.Tests.{lt-leb}
-use Rattle.rtp.specs.Numbers.{be16, be32, read_u16, read_u32, two, four}
+use Rattle.std.specs.Int.{w16, w32, from_be_bytes}
+use Rattle.std.specs.List.{slice_range}
+use Rattle.rtp.proofs.AreaLaws.{part_to_end}
+use Rattle.rtp.specs.Numbers.{byte_at, be16, be32, read_u16, read_u32, two, four}
 pub use Rattle.rtp.specs.Numbers.{Bytes}
 
 pub bytes_drop : (n : ℕ) (s : List ℕ) → Bytes s → Bytes (drop n s)
@@ -25,9 +28,35 @@ pub read_four_outside : (s : List ℕ) (i : ℕ) → length s < i + 4 → read_u
 unfolding read_u32
 read_four_outside s i h = rw (lt-leb (i + 4) (length s) h)
 
--- four bytes as two and two
-pub read_halves : (s : List ℕ) (i : ℕ) → i + 4 ≤ length s → 65536 * read_u16 s i + read_u16 s (i + 2) ≡ read_u32 s i
-read_halves s i h = rw (read_two s i (omega arith), read_two s (i + 2) (omega arith), read_four s i h)
+-- .. by the bytes at the front of what follows, the highest first
+part_byte : (s : List ℕ) (i k j : ℕ) → i + k ≡ j → get_or (drop i s) k 0 ≡ byte_at s j
+part_byte s i k j e = rw (get_or-drop, e)
+
+pub rest_two : (s r : List ℕ) (i : ℕ) → r ≡ slice_range s i (length s) → 2 ≤ length r → from_be_bytes w16 r ≡ read_u16 s i
+rest_two s r i e h =
+    let d : r ≡ drop i s = e ∙ part_to_end i s in
+    let l : 2 + i ≤ length s = omega (arith, length-drop i s, ap length d) in
+    rw (d, read_two s i (omega arith), part_byte s i 0 i (omega arith), part_byte s i 1 (i + 1) (omega arith)) (omega arith)
+
+pub rest_two_short : (s r : List ℕ) (i : ℕ) → r ≡ slice_range s i (length s) → length r < 2 → 0 ≡ read_u16 s i
+rest_two_short s r i e h = sym (read_two_outside s i (omega (arith, length-drop i s, ap length (e ∙ part_to_end i s))))
+
+pub rest_four : (s r : List ℕ) (i : ℕ) → r ≡ slice_range s i (length s) → 4 ≤ length r → from_be_bytes w32 r ≡ read_u32 s i
+rest_four s r i e h =
+    let d : r ≡ drop i s = e ∙ part_to_end i s in
+    let l : 4 + i ≤ length s = omega (arith, length-drop i s, ap length d) in
+    rw (
+      d,
+      read_four s i (omega arith),
+      part_byte s i 0 i (omega arith),
+      part_byte s i 1 (i + 1) (omega arith),
+      part_byte s i 2 (i + 2) (omega arith),
+      part_byte s i 3 (i + 2 + 1) (omega arith),
+    )
+    (omega arith)
+
+pub rest_four_short : (s r : List ℕ) (i : ℕ) → r ≡ slice_range s i (length s) → length r < 4 → 0 ≡ read_u32 s i
+rest_four_short s r i e h = sym (read_four_outside s i (omega (arith, length-drop i s, ap length (e ∙ part_to_end i s))))
 
 -- A number that is written: it reads back
 

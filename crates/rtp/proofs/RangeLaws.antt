@@ -1,7 +1,10 @@
 -- What settings in range say.
 use Rattle.std.proofs.Common.{◌≡◌, ℕ, ◌<◌, ◌≤◌, true, false, eqb, ltb, leb, arith, ltb-false, le-ltb, lt-ltb, ne_eqb}
-use borrow.Author.Tests.{eqb-false}
+use borrow.Author.Tests.{eqb-false, lt-leb}
 use Rattle.rtp.specs.Editions.{Edition}
+use Rattle.rtp.specs.PayloadFormats.{format_number}
+use Rattle.rtp.specs.declared.payload_format.PayloadFormat.{PayloadFormat}
+use Rattle.rtp.specs.declared.payload_format.PayloadFormat.TheVariants.{G719, G719Interleaved, GsmHr, Amr, AmrWb}
 use Rattle.rtp.specs.Ranges.{g719_interleaved, amr_wb, no_redundancy, most_channels, max_channels, in_range}
 use Rattle.rtp.specs.declared.settings.Settings.{Settings}
 use Rattle.rtp.proofs.TestLaws.{by-test, either}
@@ -66,3 +69,12 @@ pub more_out_of_range : (a : Edition) (st : Settings) → most_channels a < st.c
 unfolding in_range
 more_out_of_range a st l =
     rw (ne_eqb st.channels 0 (λ z. omega arith), lt-ltb (max_channels a st.format) st.channels (omega (arith, most_channels_lem a st.format)))
+
+-- a number that names no format has no channels
+pub no_channels : (ed : Edition) (n : ℕ) → ((format : PayloadFormat) → format_number format ≡ n → ⊥) → max_channels ed n ≡ 0
+unfolding max_channels
+no_channels ed n none =
+    by-test (eqb n 0) (λ a. rw a)
+    (λ a. let some = eqb-false n 0 a in
+    let far : amr_wb < n = omega (arith, none G719, none G719Interleaved, none GsmHr, none Amr, none AmrWb) in
+    rw (a, lt-leb n g719_interleaved (omega arith), lt-leb n amr_wb far))

@@ -6,3 +6,4 @@ pub mod Areas
 pub mod Refusals
 pub mod Faults
 pub mod Ranges
+pub mod PayloadFormats

@@ -6,7 +6,7 @@ ghost use Rattle.rtp.specs.Areas.{fitted};
 pub fn wide(x: u8) -> usize
     ensures { (result ≡ x) × (result < 256) }
 {
-    x as usize
+    usize::from(x)
 }
 
 // The 16-bit number at `at`; 0 where it does not lie inside the slice.
@@ -16,12 +16,10 @@ pub fn read_u16(s: &[u8], at: usize) -> u16
     if s.len() < at {
         return 0;
     }
-    if s.len() - at < 2 {
-        return 0;
+    match &s[at..] {
+        [a, b, ..] => u16::from_be_bytes([*a, *b]),
+        _ => 0,
     }
-    let high = s[at] as u16;
-    let low = s[at + 1] as u16;
-    256 * high + low
 }
 
 // The 32-bit number at `at`; 0 where it does not lie inside the slice.
@@ -31,48 +29,31 @@ pub fn read_u32(s: &[u8], at: usize) -> u32
     if s.len() < at {
         return 0;
     }
-    if s.len() - at < 4 {
-        return 0;
+    match &s[at..] {
+        [a, b, c, d, ..] => u32::from_be_bytes([*a, *b, *c, *d]),
+        _ => 0,
     }
-    let high = read_u16(s, at) as u32;
-    let low = read_u16(s, at + 2) as u32;
-    65536 * high + low
 }
 
 // A number in two bytes over the front of the area; an area too short stays as it stood.
 pub fn put_u16(out: &mut [u8], n: u16)
     ensures { out.new ≡ fitted (two n) out.old }
 {
-    if out.len() < 2 {
-        return;
-    }
-    out[0] = (n / 256 % 256) as u8;
-    out[1] = (n % 256) as u8;
+    put_bytes(out, &u16::to_be_bytes(n));
 }
 
 // A number in four bytes, likewise.
 pub fn put_u32(out: &mut [u8], n: u32)
     ensures { out.new ≡ fitted (four n) out.old }
 {
-    if out.len() < 4 {
-        return;
-    }
-    out[0] = (n / 16777216 % 256) as u8;
-    out[1] = (n / 65536 % 256) as u8;
-    out[2] = (n / 256 % 256) as u8;
-    out[3] = (n % 256) as u8;
+    put_bytes(out, &u32::to_be_bytes(n));
 }
 
 // Bytes over the front of the area, likewise.
 pub fn put_bytes(out: &mut [u8], src: &[u8])
     ensures { out.new ≡ fitted src.now out.old }
 {
-    if out.len() < src.len() {
-        return;
-    }
-    let mut i = 0;
-    while i < src.len() {
-        out[i] = src[i];
-        i += 1;
+    if src.len() <= out.len() {
+        out[..src.len()].copy_from_slice(src);
     }
 }

@@ -2,6 +2,7 @@
 #![tactic(auto)]
 
 pub mod bytes;
+pub mod payload_format;
 pub mod refusal;
 pub mod settings;
 pub mod sizes;

@@ -1,8 +1,9 @@
 // Why a call was refused.
-ghost use Rattle.std.specs.Prelude.{◌≡◌};
+ghost use Rattle.std.specs.Prelude.{◌≡◌, ◌+◌, ◌<◌, ◌^◌, Ok, Err, MatchResult};
+ghost use Rattle.rtp.specs.Faults.{fault, shifted};
 ghost use Rattle.rtp.specs.Refusals.{number};
 
-#[derive(Clone, Copy)]
+#[derive(Clone, Copy, Debug, PartialEq, Eq)]
 pub enum Refusal {
     PacketLength,
     Version,
@@ -26,35 +27,68 @@ pub enum Refusal {
 }
 
 // Why bytes were refused, and where: the offset of the place at fault from the front of what was read, 0 where a refusal has none.
-#[derive(Clone, Copy)]
+#[derive(Clone, Copy, Debug, PartialEq, Eq)]
 pub struct Fault {
     pub refusal: Refusal,
     pub offset: usize,
 }
 
 // The paper's refusal number.
-pub fn refusal_number(refusal: Refusal) -> u32
-    ensures { result ≡ number refusal }
+impl From<Refusal> for u32 {
+    ghost from_gives = { λ refusal n. n ≡ number refusal };
+
+    fn from(refusal: Refusal) -> u32 {
+        match refusal {
+            Refusal::PacketLength => 1,
+            Refusal::Version => 2,
+            Refusal::HeaderTruncated => 3,
+            Refusal::PaddingCount => 4,
+            Refusal::UnknownPayloadType => 5,
+            Refusal::ContentsTruncated => 6,
+            Refusal::ReservedCode => 7,
+            Refusal::NoFrameBlocks => 8,
+            Refusal::TooManyRows => 9,
+            Refusal::LengthMismatch => 10,
+            Refusal::SettingsOutOfRange => 11,
+            Refusal::AreaTooShort => 12,
+            Refusal::Unwritable => 13,
+            Refusal::RowOutsideBytes => 14,
+            Refusal::Malformed => 15,
+            Refusal::CutField => 17,
+            Refusal::MisplacedTag => 18,
+            Refusal::NotAllowed => 19,
+            Refusal::WrongCount => 20,
+        }
+    }
+}
+
+// A refusal that has no place, or is of what stands at the front.
+impl From<Refusal> for Fault {
+    ghost from_gives = { λ refusal f. f ≡ fault refusal };
+
+    fn from(refusal: Refusal) -> Fault {
+        Fault { refusal, offset: 0 }
+    }
+}
+
+impl Fault {
+    // The fault as seen from so many bytes before.
+    pub fn shifted(self, by: usize) -> Fault
+        ensures { by + self.offset < 2 ^ 64 → result ≡ shifted by self }
+    {
+        Fault {
+            refusal: self.refusal,
+            offset: self.offset.saturating_add(by),
+        }
+    }
+}
+
+// What is said of a part that stands so many bytes on, as seen from the front of the whole.
+pub fn shifted<T>(answer: Result<T, Fault>, by: usize) -> Result<T, Fault>
+    ensures { MatchResult answer (λ x. result ≡ Ok x) (λ fault. by + fault.offset < 2 ^ 64 → result ≡ Err (shifted by fault)) }
 {
-    match refusal {
-        Refusal::PacketLength => 1,
-        Refusal::Version => 2,
-        Refusal::HeaderTruncated => 3,
-        Refusal::PaddingCount => 4,
-        Refusal::UnknownPayloadType => 5,
-        Refusal::ContentsTruncated => 6,
-        Refusal::ReservedCode => 7,
-        Refusal::NoFrameBlocks => 8,
-        Refusal::TooManyRows => 9,
-        Refusal::LengthMismatch => 10,
-        Refusal::SettingsOutOfRange => 11,
-        Refusal::AreaTooShort => 12,
-        Refusal::Unwritable => 13,
-        Refusal::RowOutsideBytes => 14,
-        Refusal::Malformed => 15,
-        Refusal::CutField => 17,
-        Refusal::MisplacedTag => 18,
-        Refusal::NotAllowed => 19,
-        Refusal::WrongCount => 20,
+    match answer {
+        Ok(value) => Ok(value),
+        Err(fault) => Err(fault.shifted(by)),
     }
 }

@@ -12,48 +12,33 @@ const CUT: u8 = 52;
 
 const CUT_BYTES: usize = 10;
 
-fn area() -> [u8; MAX_PACKET] {
-    [0; MAX_PACKET]
+// Writes a packet behind the number of its bytes. Whether the output takes it is not asked.
+fn put(packet: &[u8]) {
+    let n = packet.len();
+    io::write_all(STDOUT_FILENO, &[(n / 256 % 256) as u8, (n % 256) as u8]);
+    io::write_all(STDOUT_FILENO, packet);
 }
 
-// Writes the first n bytes, behind their number.
-fn put(bytes: &[u8], n: usize) {
-    if n <= bytes.len() {
-        io::write_all(STDOUT_FILENO, &[(n / 256 % 256) as u8, (n % 256) as u8]);
-        io::write_all(STDOUT_FILENO, &bytes[..n]);
-    }
-}
-
-// The bytes of packet k as they come.
-fn bytes_brought(k: u8, sent: [u8; MAX_PACKET]) -> [u8; MAX_PACKET] {
-    let mut bytes = sent;
+// Packet k as it comes.
+fn deliver_one(k: u8) {
+    let mut bytes = [0u8; MAX_PACKET];
+    let sent = packets::write(k, &mut bytes);
+    let brought = if k == CUT {
+        sent.wrapping_sub(CUT_BYTES)
+    } else {
+        sent
+    };
     if k == DAMAGED {
         bytes[0] = bytes[0] % 64;
     }
-    bytes
-}
-
-// How many of packet k's bytes come.
-fn length_brought(k: u8, sent: usize) -> usize {
-    if k == CUT {
-        std::num::wrapping_sub_usize(sent, CUT_BYTES)
-    } else {
-        sent
+    if let Some(packet) = bytes.get(..brought) {
+        put(packet);
     }
 }
 
-fn deliver_one(k: u8) {
-    let mut sent = area();
-    let n = packets::write(k, &mut sent);
-    let brought = bytes_brought(k, sent);
-    put(&brought, length_brought(k, n));
-}
-
 fn deliver_all(order: &[u8]) {
-    let mut i = 0;
-    while i < order.len() {
-        deliver_one(order[i]);
-        i += 1;
+    for k in order {
+        deliver_one(*k);
     }
 }
 

@@ -1,10 +1,9 @@
 // The packets of the stream, as they were sent.
 use crate::frames;
 use read_payload::reading::NO_REQUEST;
-use rtp::settings;
+use rtp::payload_format::PayloadFormat;
 use rtp::settings::Settings;
 use write_packet::packets;
-use write_sizes::measuring::Written;
 
 // The sequence number of packet 0, by which packet 36 has number 0; and the source.
 const FIRST_SEQUENCE: u16 = 65500;
@@ -13,7 +12,7 @@ const SOURCE: u32 = 2712847316;
 
 fn agreed() -> Settings {
     Settings {
-        format: settings::G719_INTERLEAVED,
+        format: u8::from(PayloadFormat::G719Interleaved),
         channels: 1,
         payload_type: 97,
         redundancy_type: 121,
@@ -22,8 +21,8 @@ fn agreed() -> Settings {
 
 fn write_lists(k: u8, counts: &[u32], rows: &[u32], out: &mut [u8]) -> usize {
     let bytes = frames::sound(k);
-    let sequence = std::num::wrapping_add_u16(FIRST_SEQUENCE, k as u16);
-    match packets::write_packet(
+    let sequence = FIRST_SEQUENCE.wrapping_add(k as u16);
+    packets::write_packet(
         agreed(),
         NO_REQUEST,
         0,
@@ -33,10 +32,8 @@ fn write_lists(k: u8, counts: &[u32], rows: &[u32], out: &mut [u8]) -> usize {
         rows,
         &bytes,
         out,
-    ) {
-        Written::Bytes(n) => n,
-        Written::Refused(_) => 0,
-    }
+    )
+    .unwrap_or(0)
 }
 
 // Packet k to the front of the area: its own list, and from packet 1 on the list of the packet before as a redundant one. Answers its bytes.

@@ -24,7 +24,7 @@ use Rattle.write_payload.specs.Writings.{no_bytes, bytes_of, planned_bytes, enco
 use Rattle.write_payload.proofs.PayloadLaws.{fitted, in_runs}
 use Rattle.write_parts.specs.Parts.{primary_time, Part, Parts, no_parts, parts_of, parts, counts_fit}
 use Rattle.write_packet.specs.Packets.{assembled_from, assembled, sending}
-use Rattle.write_parts.specs.Headings.{Heading}
+use Rattle.write_parts.specs.declared.headers.Heading.{Heading}
 use Rattle.write_claims.specs.Marks.{BitAbove}
 use Rattle.write_claims.specs.PayloadClaims.{BitAboveRefused}
 use Rattle.write_claims.specs.PacketClaims.{PacketBitAboveRefused}

@@ -1,5 +1,6 @@
 -- Laws of a redundancy payload as it is written: its block headers and its blocks read back.
 use mathlib.Core.Path.{◌≡◌, refl, ap, sym, ◌∙◌, subst}
+use Rattle.std.specs.Prelude.{Ok}
 use mathlib.Core.List.{List, [], ◌∷◌, ◌++◌, append_assoc, append-nil}
 use mathlib.Core.Bool.{false}
 use Prim.Native.Nat.{ℕ, suc, ◌+◌, ◌-◌, ◌*◌, ◌/◌, ◌%◌, ◌^◌, ◌≤◌, ◌<◌}
@@ -52,15 +53,15 @@ length_back : (o n : ℕ) → n ≤ max_block → 256 * ((4 * (o % 64) + n / 256
 length_back o n k = omega arith
 
 block_header_back : (type : ℕ) (b : Part) (rest : List ℕ) → type < 128 → b.offset ≤ max_offset → length b.bytes ≤ max_block
-    → block_header (block_header_bytes type b.offset (length b.bytes) ++ rest) ≡ BlockHeader.Redundant (redundant_of type b)
+    → block_header (block_header_bytes type b.offset (length b.bytes) ++ rest) ≡ Ok (BlockHeader.Redundant (redundant_of type b))
 unfolding block_header
 block_header_back type b rest t o n =
     let s = block_header_bytes type b.offset (length b.bytes) ++ rest in
     let e : (128 + type) % 128 ≡ type = omega arith in
     rw (ne_eqb (length s) 0 (omega arith), le-ltb (128 + type) 128 (omega arith), le-ltb (length s) 4 (omega arith))
-    (λ i. BlockHeader.Redundant (record { payload_type = e i; offset = offset_back b.offset (length b.bytes) o n i; length = length_back b.offset (length b.bytes) n i }))
+    (λ i. Ok (BlockHeader.Redundant (record { payload_type = e i; offset = offset_back b.offset (length b.bytes) o n i; length = length_back b.offset (length b.bytes) n i })))
 
-last_header_back : (type : ℕ) (rest : List ℕ) → type < 128 → block_header (type ∷ rest) ≡ BlockHeader.Primary type
+last_header_back : (type : ℕ) (rest : List ℕ) → type < 128 → block_header (type ∷ rest) ≡ Ok (BlockHeader.Primary type)
 unfolding block_header
 last_header_back type rest t = rw (ne_eqb (suc (length rest)) 0 (omega arith), lt-ltb type 128 t)
 

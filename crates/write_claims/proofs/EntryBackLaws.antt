@@ -1,5 +1,6 @@
 -- Laws of one table entry as it is written: it reads back.
 use mathlib.Core.Path.{◌≡◌, refl, ap, sym, ◌∙◌}
+use Rattle.std.specs.Prelude.{Ok}
 use mathlib.Core.List.{List, [], ◌∷◌, ◌++◌}
 use mathlib.Core.Bool.{Bool, true, false}
 use Prim.Native.Nat.{ℕ, zero, suc, ◌+◌, ◌*◌, ◌/◌, ◌%◌, ◌≤◌, ◌<◌}
@@ -12,7 +13,6 @@ use Rattle.rtp.specs.Numbers.{byte_at}
 use Rattle.rtp.proofs.TestLaws.{by-test}
 use Rattle.formats.specs.Formats.{format_of, max_gap}
 use Rattle.read_contents.specs.declared.entries.Entry.{Entry}
-use Rattle.read_contents.specs.declared.entries.EntryRead.{EntryRead}
 use Rattle.read_contents.specs.Contents.{min_entry, code_in, blocks_in, entry_size, entry_of, Group, half_at, gap_at, gaps_from, meaning}
 use Rattle.frame_codes.specs.Codes.{no_code, code_for}
 use Rattle.write_plan.specs.Plans.{head_gap}
@@ -98,7 +98,7 @@ module _ (format : ℕ) (more : Bool) (g : Group) (rest : List ℕ) (r : Run for
   unfolding entry_bytes min_entry
   gaps_back = by-test (format_of format).counted (λ a. rw a) (λ a. rw a)
 
-  pub entry_back : entry_of format (entry_bytes format more g ++ rest) ≡ EntryRead.Entry (entry_for format more g)
+  pub entry_back : entry_of format (entry_bytes format more g ++ rest) ≡ Ok (entry_for format more g)
   unfolding entry_of
   entry_back =
       let s = entry_bytes format more g ++ rest in

@@ -18,7 +18,7 @@ use Rattle.write_payload.specs.Writings.{bytes_of, planned_bytes, encoded, writi
 use Rattle.write_sizes.specs.Measures.{measured}
 use Rattle.write_parts.specs.Parts.{primary_time, primary_part, parts}
 use Rattle.write_packet.specs.Packets.{assembled, sending}
-use Rattle.write_parts.specs.Headings.{Heading}
+use Rattle.write_parts.specs.declared.headers.Heading.{Heading}
 use Rattle.write_claims.specs.Marks.{cleared_tag, cleared}
 use Rattle.write_claims.specs.PayloadClaims.{MarkIgnored}
 use Rattle.write_claims.specs.PacketClaims.{PacketMarkIgnored}

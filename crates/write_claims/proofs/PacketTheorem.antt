@@ -26,7 +26,8 @@ use Rattle.write_plan.proofs.ListLaws.{length_rows}
 use Rattle.write_claims.proofs.PlanRowLaws.{Times}
 use Rattle.write_parts.specs.Parts.{max_redundant, total, primary_time, Part, Parts, no_parts, parts_of, parts, counts_fit}
 use Rattle.write_packet.specs.Packets.{body_bytes, packet_type, redundancy_missing, assembled_from, assembled, sending}
-use Rattle.write_parts.specs.Headings.{Heading, header_bytes}
+use Rattle.write_parts.specs.Headings.{header_bytes}
+use Rattle.write_parts.specs.declared.headers.Heading.{Heading}
 use Rattle.write_claims.specs.Marks.{PrimaryLast}
 use Rattle.write_claims.specs.ReadingBack.{read_request}
 use Rattle.write_claims.specs.PacketClaims.{ReadsBack, PacketRoundTrip}

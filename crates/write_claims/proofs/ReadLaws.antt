@@ -1,5 +1,8 @@
 -- Laws of a table of contents that was read: its groups are runs, one after another, also with the first entry's DIS1 passed over.
 use mathlib.Core.Path.{◌≡◌, refl, ap, sym, ◌∙◌, subst}
+use Rattle.rtp.specs.declared.refusal.Refusal.{Refusal}
+use Rattle.std.specs.Prelude.{None, Option, Some, Err, Ok, Result}
+use Rattle.formats.specs.declared.frames.Frame.{Frame}
 use mathlib.Core.List.{List, [], ◌∷◌}
 use mathlib.Core.Bool.{Bool}
 use Prim.Native.Nat.{ℕ, zero, suc, ◌+◌, ◌*◌, ◌/◌, ◌%◌, ◌≤◌, ◌<◌}
@@ -12,9 +15,7 @@ use Rattle.rtp.specs.Numbers.{byte_at}
 use Rattle.rtp.proofs.TestLaws.{by-test}
 use Rattle.rtp.proofs.ByteLaws.{Bytes, bytes_drop}
 use Rattle.formats.specs.Formats.{format_of, max_gap}
-use Rattle.formats.specs.declared.frames.Coded.{Coded}
 use Rattle.read_contents.specs.declared.entries.Entry.{Entry}
-use Rattle.read_contents.specs.declared.entries.EntryRead.{EntryRead}
 use Rattle.formats.specs.Frames.{frame_of}
 use Rattle.read_contents.specs.Contents.{min_entry, code_in, blocks_in, entry_size, coded_entry, entry_of, Group, Contents, refused, groups, half_at, gap_at, gaps_from, meaning, prepend, contents_step, contents, direct, pass_first}
 use Rattle.read_contents.proofs.EntryLaws.{past, same_entry, code_in_lem, fair}
@@ -50,21 +51,21 @@ record Told (format : ℕ) (s : List ℕ) (e : Entry) : Type 0 where
   code : code_for format e.class e.length < no_code
   blocks : e.blocks ≡ blocks_in format s
 
-told_coded : (format k : ℕ) (s : List ℕ) (m : Bool) (size : ℕ) (e : Entry) (c : Coded) → k < (format_of format).codes → frame_of format k ≡ c
-    → coded_entry m (blocks_in format s) size c ≡ EntryRead.Entry e → Told format s e
-told_coded format k s m size e Coded.Reserved l q h = let z : ◌≡◌ {A = ℕ} 0 1 = cc in absurd (omega arith)
-told_coded format k s m size e (Coded.Frame f) l q h =
+told_coded : (format k : ℕ) (s : List ℕ) (m : Bool) (size : ℕ) (e : Entry) (c : Option Frame) → k < (format_of format).codes → frame_of format k ≡ c
+    → coded_entry m (blocks_in format s) size c ≡ Ok e → Told format s e
+told_coded format k s m size e None l q h = let z : ◌≡◌ {A = ℕ} 0 1 = cc in absurd (omega arith)
+told_coded format k s m size e (Some f) l q h =
     let p = past (eqb (blocks_in format s) 0) _ _ e h in
     subst (Told format s) (same_entry _ e p.1) (record { code = code_some format f.class f.length k l q; blocks = refl })
 
-told : (format : ℕ) (s : List ℕ) (e : Entry) → entry_of format s ≡ EntryRead.Entry e → Told format s e
+told : (format : ℕ) (s : List ℕ) (e : Entry) → entry_of format s ≡ Ok e → Told format s e
 unfolding entry_of
 told format s e h =
     let p1 = past (ltb (length s) (min_entry format)) _ _ e h in
     let p2 = past (ltb (length s) (entry_size format (blocks_in format s))) _ _ e p1.1 in
     told_coded format (code_in format (byte_at s 0)) s _ _ e (frame_of format (code_in format (byte_at s 0))) (code_in_lem format (byte_at s 0)) refl p2.1
 
-read_run : (format : ℕ) (s : List ℕ) (e : Entry) → entry_of format s ≡ EntryRead.Entry e → Bytes s → Run format (meaning format s e)
+read_run : (format : ℕ) (s : List ℕ) (e : Entry) → entry_of format s ≡ Ok e → Bytes s → Run format (meaning format s e)
 unfolding meaning
 read_run format s e h bs =
     let t = told format s e h in
@@ -77,7 +78,7 @@ read_run format s e h bs =
       alone = λ a. n ∙ t.blocks ∙ rw a;
     }
 
-read_few : (format : ℕ) (s : List ℕ) (e : Entry) → entry_of format s ≡ EntryRead.Entry e → Bytes s → length (meaning format s e).gaps ≤ max_blocks
+read_few : (format : ℕ) (s : List ℕ) (e : Entry) → entry_of format s ≡ Ok e → Bytes s → length (meaning format s e).gaps ≤ max_blocks
 read_few format s e h bs =
     let few : blocks_in format s ≤ max_blocks = by-test (format_of format).counted (λ a. rw a (omega (arith, bs 1))) (λ a. rw a (omega arith)) in
     omega (arith, blocks_of_lem format s e, (told format s e h).blocks, few)
@@ -92,11 +93,11 @@ abbrev Read : ℕ → List Group → Type 0
 Read format hs = Runs format hs × (1 ≤ length hs) × Counts hs
 
 read_step : (ed : Edition) (format ch rows : ℕ) (s : List ℕ) (hs : List Group) → Bytes s
-    → ((n : ℕ) (e : Entry) → entry_of format s ≡ EntryRead.Entry e → (gs : List Group) → contents ed format ch n (drop e.size s) ≡ groups gs → Read format gs)
-    → (r : EntryRead) → entry_of format s ≡ r → contents_step ed format ch rows s (λ n t. contents ed format ch n t) r ≡ groups hs → Read format hs
+    → ((n : ℕ) (e : Entry) → entry_of format s ≡ Ok e → (gs : List Group) → contents ed format ch n (drop e.size s) ≡ groups gs → Read format gs)
+    → (r : Result Entry Refusal) → entry_of format s ≡ r → contents_step ed format ch rows s (λ n t. contents ed format ch n t) r ≡ groups hs → Read format hs
 unfolding meaning
-read_step ed format ch rows s hs bs ih (EntryRead.Refused q) h k = let z : ◌≡◌ {A = ℕ} 0 1 = cc in absurd (omega arith)
-read_step ed format ch rows s hs bs ih (EntryRead.Entry e) h k =
+read_step ed format ch rows s hs bs ih (Err q) h k = let z : ◌≡◌ {A = ℕ} 0 1 = cc in absurd (omega arith)
+read_step ed format ch rows s hs bs ih (Ok e) h k =
     by-test (ltb (max_rows ed) (rows + e.blocks * ch))
     (λ a. let y = rw a at k in let z : ◌≡◌ {A = ℕ} 0 1 = cc in absurd (omega arith))
     (λ a. by-test e.more

@@ -12,7 +12,8 @@ use Rattle.write_payload.specs.Writings.{no_bytes, bytes_of}
 use Rattle.write_sizes.specs.Asking.{askable}
 use Rattle.write_parts.specs.Parts.{primary_time}
 use Rattle.write_packet.specs.Packets.{sending}
-use Rattle.write_parts.specs.Headings.{Heading, marker_bit}
+use Rattle.write_parts.specs.Headings.{marker_bit}
+use Rattle.write_parts.specs.declared.headers.Heading.{Heading}
 use Rattle.write_claims.specs.Marks.{PrimaryLast, cleared, BitAbove}
 use Rattle.write_claims.specs.ReadingBack.{Words, read_request, SameFrames}
 

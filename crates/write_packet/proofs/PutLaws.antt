@@ -1,5 +1,8 @@
 -- Laws of the payloads of a packet's lists as they are put one after another, and of the room that they need.
 use mathlib.Core.Path.{◌≡◌, refl, ap, sym, ◌∙◌, subst}
+use Rattle.std.specs.Prelude.{Result, Ok, Err}
+use Rattle.std.specs.Result.{result_unwrap_or}
+use Rattle.rtp.specs.declared.refusal.Refusal.{Refusal}
 use mathlib.Core.List.{List, ◌++◌}
 use Prim.Native.Nat.{ℕ, ◌+◌, ◌-◌, ◌*◌, ◌%◌, ◌≤◌, ◌<◌}
 use native.Mathlib.Omega.{arith}
@@ -10,7 +13,6 @@ use Rattle.rtp.specs.Sizes.{row_width}
 use Rattle.rtp.specs.Areas.{over}
 use Rattle.rtp.specs.declared.settings.Settings.{Settings}
 use Rattle.read_rows.specs.Rows.{rows_in}
-use Rattle.write_sizes.specs.declared.measuring.Written.{Written}
 use Rattle.write_payload.specs.Writings.{Encoded, no_bytes, bytes_of, encoded, room_for, writing, encoded_numbers, encoded_bytes}
 use Rattle.write_sizes.specs.Measures.{Numbers, written_numbers}
 use Rattle.write_packet.specs.Room.{list_bytes, lists_payloads, list_header, lists_headers, list_headers_size, over_from, HeaderFits, HeadersFit, ListRoom, PayloadsRoom, BlockRoom, BlocksRoom}
@@ -31,14 +33,22 @@ unfolding encoded_numbers encoded_bytes
 count_all (no_bytes q) = refl
 count_all (bytes_of p) = refl
 
+-- the count, and 0 on refusal
+count_or : (w : Result ℕ Refusal) → result_unwrap_or w 0 ≡ (written_numbers w).count
+count_or (Ok n) = refl
+count_or (Err r) = refl
+
 module _ (ed : Edition) (st : Settings) (request : ℕ) (bytes ws : List ℕ) (area : ℕ) (r : ListRoom ed st request bytes ws area) where
   pub list_writing : writing ed st request ws bytes area ≡ encoded ed st request bytes (rows_in ws)
   unfolding writing
   list_writing = rw (r.settings, r.inside, eq-eqb (length ws % row_width) 0 r.whole_rows) (room_all (encoded ed st request bytes (rows_in ws)) area r.room)
 
-  pub list_count : (w v : Written) → w ≡ v → written_numbers w ≡ encoded_numbers (writing ed st request ws bytes area) → (written_numbers v).count ≡ length (list_bytes ed st request bytes ws)
+  pub list_count : (w v : Result ℕ Refusal) → w ≡ v → written_numbers w ≡ encoded_numbers (writing ed st request ws bytes area) → (written_numbers v).count ≡ length (list_bytes ed st request bytes ws)
   list_count w v e h =
-      ap (λ (x : Written). (written_numbers x).count) (sym e) ∙ ap (λ (n : Numbers). n.count) h ∙ ap (λ (x : Encoded). (encoded_numbers x).count) list_writing ∙ count_all (encoded ed st request bytes (rows_in ws))
+      ap (λ (x : Result ℕ Refusal). (written_numbers x).count) (sym e) ∙ ap (λ (n : Numbers). n.count) h ∙ ap (λ (x : Encoded). (encoded_numbers x).count) list_writing ∙ count_all (encoded ed st request bytes (rows_in ws))
+
+  pub list_size : (w : Result ℕ Refusal) → written_numbers w ≡ encoded_numbers (writing ed st request ws bytes area) → result_unwrap_or w 0 ≡ length (list_bytes ed st request bytes ws)
+  list_size w h = count_or w ∙ list_count w w refl h
 
 -- A first list and the others
 

@@ -20,7 +20,8 @@ use Rattle.write_sizes.specs.Measures.{Numbers}
 use Rattle.write_sizes.specs.Asking.{askable}
 use Rattle.write_sizes.proofs.RequestLaws.{asked}
 use Rattle.write_parts.specs.Parts.{max_redundant, total, primary_time, Part, Parts, no_parts, parts_of, parts, counts_fit}
-use Rattle.write_parts.specs.Headings.{Heading, header_bytes}
+use Rattle.write_parts.specs.Headings.{header_bytes}
+use Rattle.write_parts.specs.declared.headers.Heading.{Heading}
 use Rattle.write_packet.specs.Packets.{headers_bytes, blocks_bytes, body_bytes, packet_type, redundancy_missing, within_packet, assembled_from, assembled, sending}
 use Rattle.write_parts.specs.ListSizes.{Counted, lists_numbers, within_numbers, packet_numbers}
 use Rattle.write_packet.specs.Room.{lists_headers, lists_payloads, list_headers_size, PayloadsRoom, BlocksRoom, BytesRoom, PacketRoom}

@@ -10,7 +10,8 @@ use Rattle.write_plan.specs.Lists.{rows_in, outside}
 use Rattle.write_payload.specs.Writings.{Encoded, no_bytes, bytes_of, room_for}
 use Rattle.write_sizes.specs.Asking.{askable}
 use Rattle.write_parts.specs.Parts.{primary_time, Part, Parts, no_parts, parts_of, parts, counts_fit}
-use Rattle.write_parts.specs.Headings.{Heading, header_bytes, block_header_bytes}
+use Rattle.write_parts.specs.Headings.{header_bytes, block_header_bytes}
+use Rattle.write_parts.specs.declared.headers.Heading.{Heading}
 
 unfoldable pub headers_bytes : ℕ → List Part → List ℕ
 headers_bytes type [] = type ∷ []

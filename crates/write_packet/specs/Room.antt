@@ -8,7 +8,8 @@ use Rattle.write_plan.specs.Lists.{rows_in, outside}
 use Rattle.write_payload.specs.Writings.{Encoded, no_bytes, bytes_of, encoded, encoded_bytes}
 use Rattle.write_sizes.specs.Asking.{askable}
 use Rattle.write_parts.specs.Parts.{max_offset, max_block, parts}
-use Rattle.write_parts.specs.Headings.{Heading, block_header_bytes}
+use Rattle.write_parts.specs.Headings.{block_header_bytes}
+use Rattle.write_parts.specs.declared.headers.Heading.{Heading}
 use Rattle.write_parts.specs.ListSizes.{Counted, offset_of}
 use Rattle.write_packet.specs.Packets.{assembled_from}
 

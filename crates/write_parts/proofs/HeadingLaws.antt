@@ -10,7 +10,8 @@ use Rattle.rtp.specs.Areas.{over}
 use Rattle.rtp.proofs.AreaLaws.{fitted_in, fitted_short}
 use Rattle.rtp.proofs.TestLaws.{by-test}
 use Rattle.write_parts.specs.Parts.{max_offset, max_block}
-use Rattle.write_parts.specs.Headings.{Heading, header_bytes, block_header_bytes, with_header, with_block_header}
+use Rattle.write_parts.specs.Headings.{header_bytes, block_header_bytes, with_header, with_block_header}
+use Rattle.write_parts.specs.declared.headers.Heading.{Heading}
 
 module _ (h : Heading) (type time : ℕ) (l : List ℕ) where
   pub header_short : length l < min_packet → with_header h type time l ≡ l

@@ -1,5 +1,6 @@
 -- Laws of the times and the sizes of a packet's lists: of one list, and of a first list and the others.
 use mathlib.Core.Path.{◌≡◌, refl, ap, sym, ◌∙◌}
+use Rattle.std.specs.Prelude.{Err, Ok, Result}
 use mathlib.Core.List.{List, [], ◌∷◌}
 use mathlib.Core.Bool.{false}
 use Prim.Native.Nat.{ℕ, ◌+◌, ◌*◌, ◌≤◌, ◌<◌}
@@ -17,7 +18,6 @@ use Rattle.rtp.specs.declared.refusal.Refusal.TheVariants.{Unwritable}
 use Rattle.rtp.proofs.RefusalLaws.{number_some}
 use Rattle.read_contents.specs.Contents.{Contents, refused, groups}
 use Rattle.read_rows.specs.Rows.{rows_in}
-use Rattle.write_sizes.specs.declared.measuring.Written.{Written}
 use Rattle.write_plan.specs.Lists.{whole, first_time}
 use Rattle.write_plan.specs.Plans.{max_payload, plan}
 use Rattle.write_sizes.specs.Measures.{Numbers, written_numbers, planned_numbers, refused_numbers, measured}
@@ -28,11 +28,11 @@ use Rattle.write_parts.proofs.WordLaws.{rows_drop, take_words, drop_words}
 
 -- The answer in numbers
 
-pub told_none : (w : Written) (q : Refusal) (n : Numbers) → w ≡ Written.Refused q → written_numbers w ≡ n → eqb n.refusal 0 ≡ false
-told_none w q n e h = ap (λ (m : Numbers). eqb m.refusal 0) (sym h ∙ ap (λ (x : Written). written_numbers x) e) ∙ number_some q
+pub told_none : (w : Result ℕ Refusal) (q : Refusal) (n : Numbers) → w ≡ Err q → written_numbers w ≡ n → eqb n.refusal 0 ≡ false
+told_none w q n e h = ap (λ (m : Numbers). eqb m.refusal 0) (sym h ∙ ap (λ (x : Result ℕ Refusal). written_numbers x) e) ∙ number_some q
 
-pub told_bytes : (w : Written) (k : ℕ) (n : Numbers) → w ≡ Written.Bytes k → written_numbers w ≡ n → n ≡ record { refusal = 0; count = k }
-told_bytes w k n e h = sym h ∙ ap (λ (x : Written). written_numbers x) e
+pub told_bytes : (w : Result ℕ Refusal) (k : ℕ) (n : Numbers) → w ≡ Ok k → written_numbers w ≡ n → n ≡ record { refusal = 0; count = k }
+told_bytes w k n e h = sym h ∙ ap (λ (x : Result ℕ Refusal). written_numbers x) e
 
 -- The times
 

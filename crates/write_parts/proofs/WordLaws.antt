@@ -51,11 +51,6 @@ outside_drop m (suc n) (r ∷ rs) h = outside_drop m n rs (neither (ltb m (r.sta
 
 -- The counts and their words
 
-pub total_none : (counts : List ℕ) → length counts ≡ 0 → total counts ≡ 0
-unfolding total
-total_none [] h = refl
-total_none (n ∷ ns) h = absurd (omega arith)
-
 pub total_first : (counts : List ℕ) → 0 < length counts → total counts ≡ get_or counts 0 0 + total (drop 1 counts)
 unfolding total
 total_first [] h = absurd (omega arith)

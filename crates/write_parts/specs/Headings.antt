@@ -3,12 +3,7 @@ use Rattle.std.specs.Prelude.{ℕ, ◌+◌, ◌*◌, ◌/◌, ◌%◌, List, [],
 use Rattle.rtp.specs.Numbers.{two, four}
 use Rattle.rtp.specs.Areas.{fitted}
 use Rattle.write_parts.specs.Parts.{max_offset, max_block}
-
--- what the caller gives for the header; a marker other than 0 is set
-pub record Heading : Type 0 where
-  pub marker : ℕ
-  pub sequence : ℕ
-  pub source : ℕ
+use Rattle.write_parts.specs.declared.headers.Heading.{Heading}
 
 abbrev pub marker_bit : ℕ → ℕ
 marker_bit m = cond (eqb m 0) 0 128

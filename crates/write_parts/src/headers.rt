@@ -1,12 +1,18 @@
 // RTP headers and redundancy block headers, written.
-ghost use Rattle.std.specs.Prelude.{◌≡◌, ◌+◌, ◌≤◌, ◌<◌, ◌++◌, length};
-ghost use Rattle.rtp.specs.Numbers.{two, four};
-ghost use Rattle.rtp.specs.Areas.{over};
+ghost use Rattle.std.specs.Prelude.{◌≡◌, ◌+◌, ◌<◌};
 ghost use Rattle.write_parts.specs.Headings.{marker_bit, with_header, with_block_header};
 
 use crate::sizes::{MAX_BLOCK, MAX_OFFSET};
 use rtp::bytes;
 use rtp::sizes::MIN_PACKET;
+
+// What the caller gives for a header; a marker other than 0 is set.
+#[derive(Clone, Copy, Debug, PartialEq, Eq)]
+pub struct Heading {
+    pub marker: u8,
+    pub sequence: u16,
+    pub source: u32,
+}
 
 // A header's second byte; a marker other than 0 is set.
 fn second_byte(marker: u8, packet_type: u8) -> u8
@@ -14,40 +20,15 @@ fn second_byte(marker: u8, packet_type: u8) -> u8
     ensures { result ≡ marker_bit marker + packet_type }
 {
     if marker == 0 {
-        return packet_type;
+        packet_type
+    } else {
+        128 + packet_type
     }
-    128 + packet_type
-}
-
-// A timestamp and a source.
-fn put_stamps(out: &mut [u8], time: u32, source: u32)
-    requires { 8 ≤ length out.old }
-    ensures { out.new ≡ over (four time ++ four source) out.old }
-{
-    bytes::put_u32(out, time);
-    bytes::put_u32(&mut out[4..], source);
-}
-
-// A sequence number before them.
-fn put_fields(out: &mut [u8], sequence: u16, time: u32, source: u32)
-    requires { 10 ≤ length out.old }
-    ensures { out.new ≡ over (two sequence ++ (four time ++ four source)) out.old }
-{
-    bytes::put_u16(out, sequence);
-    put_stamps(&mut out[2..], time, source);
 }
 
 // The twelve bytes of a header with no CC, X or P; a type of more than 7 bits or an area too short leaves the area as it stood.
-pub fn put_header(
-    out: &mut [u8],
-    marker: u8,
-    sequence: u16,
-    source: u32,
-    packet_type: u8,
-    time: u32,
-)
-    ensures { out.new ≡
-        with_header (record { marker = marker; sequence = sequence; source = source }) packet_type time out.old }
+pub fn put_header(out: &mut [u8], heading: Heading, packet_type: u8, time: u32)
+    ensures { out.new ≡ with_header heading packet_type time out.old }
 {
     if out.len() < MIN_PACKET {
         return;
@@ -56,8 +37,10 @@ pub fn put_header(
         return;
     }
     out[0] = 128;
-    out[1] = second_byte(marker, packet_type);
-    put_fields(&mut out[2..], sequence, time, source);
+    out[1] = second_byte(heading.marker, packet_type);
+    bytes::put_u16(&mut out[2..], heading.sequence);
+    bytes::put_u32(&mut out[4..], time);
+    bytes::put_u32(&mut out[8..], heading.source);
 }
 
 // The four bytes of a redundant block's header; numbers of too many bits or an area too short leave the area as it stood.

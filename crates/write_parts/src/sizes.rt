@@ -11,7 +11,6 @@ use rtp::settings::{NO_REDUNDANCY, Settings};
 use rtp::sizes::{MAX_PACKET, MAX_ROWS, MIN_PACKET, ROW_WIDTH};
 use rtp::time;
 use write_sizes::measuring;
-use write_sizes::measuring::Written;
 
 // The most redundant lists of a packet, the largest offset of one and the most bytes of its payload.
 pub const MAX_REDUNDANT: usize = 4;
@@ -25,11 +24,7 @@ fn total_of(counts: &[u32]) -> usize
     requires { length counts.now ≤ max_redundant + 1 }
     ensures { (result ≡ total counts.now) × (result ≤ length counts.now * 2 ^ 32) }
 {
-    if counts.len() == 0 {
-        return 0;
-    }
-    let rest = total_of(&counts[1..]);
-    counts[0] as usize + rest
+    counts.iter().map(|n| *n as usize).sum()
 }
 
 // One to five counts, which make up the area, and at most 384 rows in all.
@@ -43,13 +38,7 @@ pub fn counts_fit(counts: &[u32], rows: &[u32]) -> bool
         return false;
     }
     let total = total_of(counts);
-    if rows.len() == ROW_WIDTH * total {
-        if MAX_ROWS < total {
-            return false;
-        }
-        return true;
-    }
-    false
+    rows.len() == ROW_WIDTH * total && total <= MAX_ROWS
 }
 
 // The words of the first list, at most all.
@@ -60,10 +49,7 @@ pub fn first_words(counts: &[u32], rows: &[u32]) -> usize
         return 0;
     }
     let words = ROW_WIDTH * (counts[0] as usize);
-    if rows.len() < words {
-        return rows.len();
-    }
-    words
+    words.min(rows.len())
 }
 
 // The time of a list's first row; 0 of none.
@@ -98,25 +84,23 @@ pub fn primary_time(counts: &[u32], rows: &[u32]) -> u32
 }
 
 // The bytes that a redundant list takes, its block header too.
-fn measure_redundant(asked: Settings, time: u32, rows: &[u32]) -> Written
+fn measure_redundant(asked: Settings, time: u32, rows: &[u32]) -> Result<usize, Refusal>
     ensures { written_numbers result ≡ redundant_numbers current asked time rows.now }
 {
-    match measuring::measure_payload(asked, rows) {
-        Written::Refused(_) => Written::Refused(Refusal::Unwritable),
-        Written::Bytes(size) => {
-            if MAX_BLOCK < size {
-                return Written::Refused(Refusal::Unwritable);
-            }
-            if MAX_OFFSET < offset_of(time, rows) {
-                return Written::Refused(Refusal::Unwritable);
-            }
-            Written::Bytes(4 + size)
-        }
+    let Ok(size) = measuring::measure_payload(asked, rows) else {
+        return Err(Refusal::Unwritable);
+    };
+    if MAX_BLOCK < size {
+        return Err(Refusal::Unwritable);
     }
+    if MAX_OFFSET < offset_of(time, rows) {
+        return Err(Refusal::Unwritable);
+    }
+    Ok(4 + size)
 }
 
 // The bytes that the lists take, but for the primary block's header.
-fn measure_lists(asked: Settings, time: u32, counts: &[u32], rows: &[u32]) -> Written
+fn measure_lists(asked: Settings, time: u32, counts: &[u32], rows: &[u32]) -> Result<usize, Refusal>
     requires { length counts.now ≤ max_redundant + 1 }
     ensures { written_numbers result ≡ lists_numbers current asked time counts.now rows.now }
 {
@@ -124,42 +108,45 @@ fn measure_lists(asked: Settings, time: u32, counts: &[u32], rows: &[u32]) -> Wr
         return measuring::measure_payload(asked, rows);
     }
     let n = first_words(counts, rows);
-    match measure_redundant(asked, time, &rows[..n]) {
-        Written::Refused(_) => Written::Refused(Refusal::Unwritable),
-        Written::Bytes(size) => match measure_lists(asked, time, &counts[1..], &rows[n..]) {
-            Written::Refused(_) => Written::Refused(Refusal::Unwritable),
-            Written::Bytes(rest) => Written::Bytes(size + rest),
-        },
-    }
+    let Ok(size) = measure_redundant(asked, time, &rows[..n]) else {
+        return Err(Refusal::Unwritable);
+    };
+    let Ok(rest) = measure_lists(asked, time, &counts[1..], &rows[n..]) else {
+        return Err(Refusal::Unwritable);
+    };
+    Ok(size + rest)
 }
 
 // A packet of so many bytes is within 2,048.
-fn within_packet(size: usize) -> Written
+fn within_packet(size: usize) -> Result<usize, Refusal>
     ensures { written_numbers result ≡ within_numbers size }
 {
     if MAX_PACKET < size {
-        return Written::Refused(Refusal::Unwritable);
+        return Err(Refusal::Unwritable);
     }
-    Written::Bytes(size)
+    Ok(size)
 }
 
 // The bytes of a packet of the lists, which are at most five.
-pub fn packet_size(asked: Settings, time: u32, counts: &[u32], rows: &[u32]) -> Written
+pub fn packet_size(
+    asked: Settings,
+    time: u32,
+    counts: &[u32],
+    rows: &[u32],
+) -> Result<usize, Refusal>
     ensures { written_numbers result ≡ size_numbers current asked time counts.now rows.now }
 {
     if MAX_REDUNDANT + 1 < counts.len() {
-        return Written::Refused(Refusal::Unwritable);
+        return Err(Refusal::Unwritable);
     }
-    match measure_lists(asked, time, counts, rows) {
-        Written::Refused(_) => Written::Refused(Refusal::Unwritable),
-        Written::Bytes(size) => {
-            if counts.len() < 2 {
-                return within_packet(MIN_PACKET + size);
-            }
-            if asked.redundancy_type == NO_REDUNDANCY {
-                return Written::Refused(Refusal::Unwritable);
-            }
-            within_packet(MIN_PACKET + 1 + size)
-        }
+    let Ok(size) = measure_lists(asked, time, counts, rows) else {
+        return Err(Refusal::Unwritable);
+    };
+    if counts.len() < 2 {
+        return within_packet(MIN_PACKET + size);
     }
+    if asked.redundancy_type == NO_REDUNDANCY {
+        return Err(Refusal::Unwritable);
+    }
+    within_packet(MIN_PACKET + 1 + size)
 }

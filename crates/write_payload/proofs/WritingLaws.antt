@@ -1,5 +1,6 @@
 -- Laws of writing a payload, case by case.
 use mathlib.Core.Path.{◌≡◌, refl, ap, sym, ◌∙◌, subst}
+use Rattle.std.specs.Prelude.{Err, Ok}
 use mathlib.Core.List.{List, ◌++◌}
 use mathlib.Core.Bool.{true, false}
 use Prim.Native.Nat.{ℕ, ◌-◌, ◌%◌, ◌≤◌, ◌<◌}
@@ -18,7 +19,6 @@ use Rattle.rtp.proofs.AreaLaws.{over_none}
 use Rattle.formats.specs.Formats.{format_of}
 use Rattle.read_contents.specs.Contents.{Contents, refused, groups}
 use Rattle.write_plan.specs.declared.planning.Sizes.{Sizes}
-use Rattle.write_sizes.specs.declared.measuring.Written.{Written}
 use Rattle.write_sizes.specs.Asking.{request_bytes, max_request, askable}
 use Rattle.write_sizes.specs.Measures.{written_numbers, planned_numbers, measured}
 use Rattle.write_plan.specs.Lists.{rows_in, whole, outside}
@@ -33,7 +33,7 @@ use Rattle.write_payload.proofs.PayloadLaws.{listed, length_bytes}
 
 -- Writing
 
-pub refused_pair : (x : Encoded) (q : Refusal) (l : List ℕ) → x ≡ no_bytes q → (written_numbers (Written.Refused q) ≡ encoded_numbers x) × (l ≡ over (encoded_bytes x) l)
+pub refused_pair : (x : Encoded) (q : Refusal) (l : List ℕ) → x ≡ no_bytes q → (written_numbers (Err q) ≡ encoded_numbers x) × (l ≡ over (encoded_bytes x) l)
 unfolding encoded_numbers encoded_bytes
 refused_pair x q l e = (rw e, rw e (sym (over_none l)))
 
@@ -74,7 +74,7 @@ module _ (ed : Edition) (st : Settings) (request : ℕ) (ws bytes : List ℕ) (a
             let n : length (request_bytes st.format request ++ (table_bytes st.format d.table_groups ++ frames bytes (rows_in ws))) ≤ area = omega (arith, size_of) in
             writing_planned ∙ ap (room_for area) bytes_of_lem ∙ rw (le-ltb area (length (request_bytes st.format request ++ (table_bytes st.format d.table_groups ++ frames bytes (rows_in ws)))) n) (sym bytes_of_lem)
 
-        pub numbers_all : s.payload ≤ area → written_numbers (Written.Bytes s.payload) ≡ encoded_numbers (writing ed st request ws bytes area)
+        pub numbers_all : s.payload ≤ area → written_numbers (Ok s.payload) ≡ encoded_numbers (writing ed st request ws bytes area)
         unfolding encoded_numbers
         numbers_all l = sym (ap encoded_numbers (writing_all l ∙ bytes_of_lem) ∙ rw size_of)
 

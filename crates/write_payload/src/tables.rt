@@ -25,15 +25,15 @@ pub(crate) fn put_frames(rows: &[u32], bytes: &[u8], out: &mut [u8])
     requires { FramesRoom (length bytes.now) (rows_in rows.now) (length out.old) }
     ensures { out.new ≡ over (frames bytes.now (rows_in rows.now)) out.old }
 {
-    if rows.len() < ROW_WIDTH {
-        return;
+    let mut place = 0;
+    for words in rows.chunks_exact(ROW_WIDTH) {
+        let row = lists::first_row(words);
+        let start = row.start as usize;
+        let length = row.length as usize;
+        let end = start + length;
+        bytes::put_bytes(&mut out[place..], &bytes[start..end]);
+        place += length;
     }
-    let row = lists::first_row(rows);
-    let start = row.start as usize;
-    let length = row.length as usize;
-    let end = start + length;
-    bytes::put_bytes(out, &bytes[start..end]);
-    put_frames(&rows[ROW_WIDTH..], bytes, &mut out[length..]);
 }
 
 // The frame-blocks at the front that are in one run with the frame-block before them, which this row is of.

@@ -1,4 +1,5 @@
 -- Laws of frame-blocks: what a plan that is there says of the rows, one frame-block after another.
+use Rattle.std.specs.Prelude.{None, Some}
 use mathlib.Core.Path.{◌≡◌, refl, ap, sym, ◌∙◌}
 use mathlib.Core.List.{List, [], ◌∷◌}
 use mathlib.Core.Bool.{true, false, cond}
@@ -16,7 +17,6 @@ use Rattle.formats.specs.Formats.{step_of, max_gap}
 use Rattle.read_contents.specs.Contents.{Group, Contents, refused, groups, frames_in}
 use Rattle.read_rows.specs.Rows.{Row}
 use Rattle.frame_codes.specs.Codes.{no_code, code_for}
-use Rattle.write_plan.specs.declared.planning.Planned.{Planned}
 use Rattle.write_plan.specs.Lists.{rows_in}
 use Rattle.write_plan.specs.Plans.{gap_between, starts, follows, head_gap, joins, attach, plan_from, next_channel}
 use Rattle.write_plan.specs.Room.{row_as, words_at, plan_answer, lengths_in}
@@ -157,10 +157,10 @@ attached_some format r gap (h ∷ hs) e =
 pub some_group : (format ch : ℕ) (p : Row) (ws : List ℕ) → 0 < ch → row_width ≤ length ws → plan_from format ch 0 p (rows_in ws) ≡ groups [] → ⊥
 some_group format ch p ws l h e = let b = block_step format ch p ws [] l h e in attached_some format (row_as (words_at ws 0)) (gap_between (step_of format) p.time (get_or ws 0 0)) b.rest b.attached
 
-pub never_empty : (format ch : ℕ) (p : Row) (ws : List ℕ) → 0 < ch → row_width ≤ length ws → plan_answer format ch (plan_from format ch 0 p (rows_in ws)) ≡ Planned.Empty → ⊥
+pub never_empty : (format ch : ℕ) (p : Row) (ws : List ℕ) → 0 < ch → row_width ≤ length ws → plan_answer format ch (plan_from format ch 0 p (rows_in ws)) ≡ Some None → ⊥
 never_empty format ch p ws l h e = by_plan (plan_from format ch 0 p (rows_in ws)) refl e
   where
-    by_plan : (x : Contents) → plan_from format ch 0 p (rows_in ws) ≡ x → plan_answer format ch x ≡ Planned.Empty → ⊥
+    by_plan : (x : Contents) → plan_from format ch 0 p (rows_in ws) ≡ x → plan_answer format ch x ≡ Some None → ⊥
     by_plan (refused q) x y = let z : ◌≡◌ {A = ℕ} 0 1 = unfold plan_answer in cc in absurd (omega arith)
     by_plan (groups []) x y = some_group format ch p ws l h x
     by_plan (groups (g ∷ gs)) x y = let z : ◌≡◌ {A = ℕ} 0 1 = unfold plan_answer in cc in absurd (omega arith)

@@ -1,28 +1,38 @@
 -- Laws of the rows in a word area.
-use mathlib.Core.Path.{◌≡◌, ◌∙◌}
-use mathlib.Core.List.{List, ◌∷◌}
+use mathlib.Core.Path.{◌≡◌, refl}
+use mathlib.Core.List.{List, [], ◌∷◌, ◌++◌}
 use mathlib.Core.Bool.{true, false}
-use Prim.Native.Nat.{ℕ, ◌+◌, ◌-◌, ◌≤◌, ◌<◌}
-use lib.ListN.{length, get_or, drop}
-use lib.Seq.{drop-drop, get_or-drop}
+use Prim.Native.Nat.{ℕ, ◌+◌, ◌≤◌, ◌<◌}
+use native.Mathlib.Omega.{arith}
+use lib.ListN.{length, get_or}
 use borrow.Author.Tests.{lt-ltb, le-ltb}
 use Rattle.rtp.specs.Sizes.{row_width}
 pub use Rattle.read_rows.proofs.RowLaws.{rows_none, rows_more, length_rows}
-use Rattle.write_plan.specs.Lists.{row_of, rows_in, outside}
+use Rattle.read_rows.specs.Rows.{rows_in}
+use Rattle.write_plan.specs.Lists.{outside}
+use Rattle.write_plan.specs.Room.{words_at, row_as}
 
--- some row is outside, from a word of the area on
-module _ (n : ℕ) (ws : List ℕ) (at : ℕ) where
-  pub outside_none : length ws - at < row_width → outside n (rows_in (drop at ws)) ≡ false
+-- the next row of words, and the rows behind it
+pub next_row : (x t : List ℕ) → length x ≡ row_width → rows_in (x ++ t) ≡ row_as (words_at x 0) ∷ rows_in t
+unfolding rows_in
+next_row [] t h = absurd (omega arith)
+next_row (a ∷ []) t h = absurd (omega arith)
+next_row (a ∷ b ∷ []) t h = absurd (omega arith)
+next_row (a ∷ b ∷ c ∷ []) t h = absurd (omega arith)
+next_row (a ∷ b ∷ c ∷ d ∷ []) t h = refl
+next_row (a ∷ b ∷ c ∷ d ∷ e ∷ x) t h = absurd (omega arith)
+
+-- some row is outside
+module _ (n : ℕ) (ws : List ℕ) where
+  pub outside_none : length ws < row_width → outside n (rows_in ws) ≡ false
   unfolding outside
-  outside_none h = rw (rows_none (drop at ws) (simp lib.ListN.length-drop h))
+  outside_none h = rw (rows_none ws h)
 
-  more : row_width ≤ length ws - at → rows_in (drop at ws) ≡ row_of (get_or ws at 0) (get_or ws (at + 1) 0) (get_or ws (at + 2) 0) (get_or ws (at + 3) 0) ∷ rows_in (drop (at + 4) ws)
-  more h = rows_more (drop at ws) (simp lib.ListN.length-drop h) ∙ simp (get_or-drop, drop-drop, native.Mathlib.Nat.add-zero)
+  module _ (x t : List ℕ) (e : ws ≡ x ++ t) (h : length x ≡ row_width) where
+    pub outside_here : n < get_or x 2 0 + get_or x 3 0 → outside n (rows_in ws) ≡ true
+    unfolding outside
+    outside_here l = rw (e, next_row x t h, lt-ltb n (get_or x 2 0 + get_or x 3 0) l)
 
-  pub outside_here : row_width ≤ length ws - at → n < get_or ws (at + 2) 0 + get_or ws (at + 3) 0 → outside n (rows_in (drop at ws)) ≡ true
-  unfolding outside
-  outside_here h l = rw (more h, lt-ltb n (get_or ws (at + 2) 0 + get_or ws (at + 3) 0) l)
-
-  pub outside_more : row_width ≤ length ws - at → get_or ws (at + 2) 0 + get_or ws (at + 3) 0 ≤ n → outside n (rows_in (drop at ws)) ≡ outside n (rows_in (drop (at + 4) ws))
-  unfolding outside
-  outside_more h l = rw (more h, le-ltb n (get_or ws (at + 2) 0 + get_or ws (at + 3) 0) l)
+    pub outside_more : get_or x 2 0 + get_or x 3 0 ≤ n → outside n (rows_in ws) ≡ outside n (rows_in t)
+    unfolding outside
+    outside_more l = rw (e, next_row x t h, le-ltb n (get_or x 2 0 + get_or x 3 0) l)

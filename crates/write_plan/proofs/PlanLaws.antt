@@ -1,5 +1,7 @@
 -- Laws of plans as the code holds them.
 use mathlib.Core.Path.{◌≡◌, refl, ap, sym, ◌∙◌}
+use Rattle.std.specs.Prelude.{None, Option, Some}
+use Rattle.write_plan.specs.declared.planning.Sizes.{Sizes}
 use mathlib.Core.List.{List, [], ◌∷◌}
 use mathlib.Core.Bool.{true, false, cond}
 use Prim.Native.Nat.{ℕ, suc, ◌+◌, ◌*◌, ◌/◌, ◌≤◌, ◌<◌}
@@ -15,8 +17,6 @@ use Rattle.rtp.proofs.TestLaws.{by-test, not-both, both}
 use Rattle.read_contents.specs.Contents.{Group, Contents, refused, groups, size_in, frames_in}
 use Rattle.read_rows.specs.Rows.{Row}
 use Rattle.write_plan.specs.declared.planning.Plan.{Plan}
-use Rattle.write_plan.specs.declared.planning.Planned.{Planned}
-use Rattle.write_plan.specs.declared.planning.ListPlan.{ListPlan}
 use Rattle.formats.specs.Formats.{format_of, step_of, max_gap}
 use Rattle.frame_codes.specs.Codes.{no_code, code_for}
 use Rattle.formats.proofs.FormatLaws.{header_small}
@@ -68,21 +68,21 @@ answer_attach format ch r gap (groups (g ∷ gs)) =
 
 -- Bounds
 
-pub small_more : (format ch n : ℕ) (x : Planned) → Small format ch n x → Small format ch (suc n) x
-small_more format ch n (Planned.Table p) s = record { few = omega arith; whole = s.whole; tabled = omega arith; framed = rw suc-mul (omega arith) }
-small_more format ch n Planned.Empty s = tt
-small_more format ch n Planned.Unwritable s = tt
+pub small_more : (format ch n : ℕ) (x : Option (Option Plan)) → Small format ch n x → Small format ch (suc n) x
+small_more format ch n (Some (Some p)) s = record { few = omega arith; whole = s.whole; tabled = omega arith; framed = rw suc-mul (omega arith) }
+small_more format ch n (Some None) s = tt
+small_more format ch n None s = tt
 
-pub small_weaker : (format ch m n : ℕ) (x : Planned) → m ≤ n → Small format ch m x → Small format ch n x
-small_weaker format ch m n (Planned.Table p) l s = record { few = omega arith; whole = s.whole; tabled = omega arith; framed = omega (arith, mul-le-mul_right {m = m} {n = n} (ch * max_frame) l) }
-small_weaker format ch m n Planned.Empty l s = tt
-small_weaker format ch m n Planned.Unwritable l s = tt
+pub small_weaker : (format ch m n : ℕ) (x : Option (Option Plan)) → m ≤ n → Small format ch m x → Small format ch n x
+small_weaker format ch m n (Some (Some p)) l s = record { few = omega arith; whole = s.whole; tabled = omega arith; framed = omega (arith, mul-le-mul_right {m = m} {n = n} (ch * max_frame) l) }
+small_weaker format ch m n (Some None) l s = tt
+small_weaker format ch m n None l s = tt
 
-small_attach : (format ch n : ℕ) (r : Row) (gap : ℕ) (x : Planned) → r.length ≤ max_frame → Small format ch n x → Small format ch (suc n) (attach_plan format ch r gap x)
-small_attach format ch n r gap Planned.Unwritable l s = tt
-small_attach format ch n r gap Planned.Empty l s =
+small_attach : (format ch n : ℕ) (r : Row) (gap : ℕ) (x : Option (Option Plan)) → r.length ≤ max_frame → Small format ch n x → Small format ch (suc n) (attach_plan format ch r gap x)
+small_attach format ch n r gap None l s = tt
+small_attach format ch n r gap (Some None) l s =
     record { few = omega arith; whole = refl; tabled = omega (arith, run_first format); framed = rw suc-mul (omega (arith, mul-le-mul_left ch l)) }
-small_attach format ch n r gap (Planned.Table p) l s =
+small_attach format ch n r gap (Some (Some p)) l s =
     by-test (joins_run format r p.class p.length p.gap)
     (λ a. rw a (record {
       few = omega arith;
@@ -128,16 +128,16 @@ pub next_below : (ch c : ℕ) → c < ch → next_channel ch c < ch
 next_below ch c h = by-test (eqb (c + 1) ch) (λ a. rw a (omega arith)) (λ a. rw a (omega (arith, eqb-false (c + 1) ch a)))
 
 module _ (format ch c : ℕ) (p : Row) (ws : List ℕ) where
-  pub plan_empty : length ws < row_width → c ≡ 0 → plan_answer format ch (plan_from format ch c p (rows_in ws)) ≡ Planned.Empty
+  pub plan_empty : length ws < row_width → c ≡ 0 → plan_answer format ch (plan_from format ch c p (rows_in ws)) ≡ Some None
   unfolding plan_from plan_answer
   plan_empty h z = rw (rows_none ws h, eq-eqb c 0 z)
 
-  pub plan_cut : length ws < row_width → (c ≡ 0 → ⊥) → plan_answer format ch (plan_from format ch c p (rows_in ws)) ≡ Planned.Unwritable
+  pub plan_cut : length ws < row_width → (c ≡ 0 → ⊥) → plan_answer format ch (plan_from format ch c p (rows_in ws)) ≡ None
   unfolding plan_from plan_answer
   plan_cut h z = rw (rows_none ws h, ne_eqb c 0 z)
 
   module _ (h : row_width ≤ length ws) where
-    pub plan_stop : follows format c p (row_as (words_at ws 0)) ≡ false → plan_answer format ch (plan_from format ch c p (rows_in ws)) ≡ Planned.Unwritable
+    pub plan_stop : follows format c p (row_as (words_at ws 0)) ≡ false → plan_answer format ch (plan_from format ch c p (rows_in ws)) ≡ None
     unfolding plan_from plan_answer
     plan_stop f = rw (rows_more ws h, f)
 
@@ -153,16 +153,24 @@ module _ (format ch c : ℕ) (p : Row) (ws : List ℕ) where
     unfolding plan_from
     plan_go f z = rw (rows_more ws h, f, ne_eqb c 0 z)
 
+    pub plan_none : follows format c p (row_as (words_at ws 0)) ≡ true
+        → plan_answer format ch (plan_from format ch (next_channel ch c) (row_as (words_at ws 0)) (rows_in (drop row_width ws))) ≡ None
+        → plan_answer format ch (plan_from format ch c p (rows_in ws)) ≡ None
+    plan_none f e =
+        by-test (eqb c 0)
+        (λ b. plan_start f (eqb-true c 0 b) ∙ ap (attach_plan format ch (row_as (words_at ws 0)) _) e)
+        (λ b. plan_go f (eqb-false c 0 b) ∙ e)
+
 -- The plan of a whole list
 
 -- `fitting` by the numbers of the first run
-abbrev pub fitting_plan : ℕ → Planned → ListPlan
-fitting_plan format Planned.Unwritable = ListPlan.Unwritable
-fitting_plan format Planned.Empty = ListPlan.Fits (record { table = 0; payload = (format_of format).header + 0 + 0 })
-fitting_plan format (Planned.Table p) =
+abbrev pub fitting_plan : ℕ → Option (Option Plan) → Option Sizes
+fitting_plan format None = None
+fitting_plan format (Some None) = Some (record { table = 0; payload = (format_of format).header + 0 + 0 })
+fitting_plan format (Some (Some p)) =
     let table = p.run + p.others in
-    cond (ltb max_payload ((format_of format).header + table + p.frames)) ListPlan.Unwritable
-    (ListPlan.Fits (record { table = table; payload = (format_of format).header + table + p.frames }))
+    cond (ltb max_payload ((format_of format).header + table + p.frames)) None
+    (Some (record { table = table; payload = (format_of format).header + table + p.frames }))
 
 answer_fitting : (format ch : ℕ) (x : Contents) → list_answer format ch (fitting format ch (in_entries x)) ≡ fitting_plan format (plan_answer format ch x)
 unfolding plan_answer list_answer
@@ -174,7 +182,7 @@ answer_fitting format ch (groups (g ∷ gs)) =
     (λ a. rw (a, frames_entries ch (g ∷ gs), size_entries format g gs)))
 
 -- no list of no channels has a plan: after its first row none stands at the first channel again
-no_channels : (format c : ℕ) (p : Row) (rs : List Row) → (c ≡ 0 → ⊥) → plan_answer format 0 (plan_from format 0 c p rs) ≡ Planned.Unwritable
+no_channels : (format c : ℕ) (p : Row) (rs : List Row) → (c ≡ 0 → ⊥) → plan_answer format 0 (plan_from format 0 c p rs) ≡ None
 unfolding plan_from plan_answer
 no_channels format c p [] z = rw (ne_eqb c 0 z)
 no_channels format c p (r ∷ rs) z =
@@ -182,14 +190,14 @@ no_channels format c p (r ∷ rs) z =
     (λ a. rw (a, ne_eqb c 0 z, ne_eqb (c + 1) 0 (λ x. omega arith)) (no_channels format (c + 1) r rs (λ x. omega arith)))
     (λ a. rw a)
 
-first_channel : (format : ℕ) (p r : Row) (rs : List Row) → plan_answer format 0 (plan_from format 0 0 p (r ∷ rs)) ≡ Planned.Unwritable
+first_channel : (format : ℕ) (p r : Row) (rs : List Row) → plan_answer format 0 (plan_from format 0 0 p (r ∷ rs)) ≡ None
 unfolding plan_from
 first_channel format p r rs =
     by-test (follows format 0 p r)
     (λ a. rw a (answer_attach format 0 r _ (plan_from format 0 1 r rs) ∙ ap (attach_plan format 0 r _) (no_channels format 1 r rs (λ x. omega arith))))
     (λ a. rw a (unfold plan_answer in refl))
 
-pub no_channels_plan : (ed : Edition) (format ch : ℕ) (rs : List Row) → ch ≡ 0 → list_answer format ch (plan ed format ch rs) ≡ ListPlan.Unwritable
+pub no_channels_plan : (ed : Edition) (format ch : ℕ) (rs : List Row) → ch ≡ 0 → list_answer format ch (plan ed format ch rs) ≡ None
 unfolding plan
 no_channels_plan ed format ch [] z = unfold list_answer in refl
 no_channels_plan ed format ch (r ∷ rs) z =
@@ -198,12 +206,12 @@ no_channels_plan ed format ch (r ∷ rs) z =
     (λ a. rw (z, a) (answer_fitting format 0 (plan_from format 0 0 (step_before format r) (r ∷ rs)) ∙ ap (fitting_plan format) (first_channel format (step_before format r) r rs)))
 
 module _ (ed : Edition) (format ch : ℕ) (ws : List ℕ) where
-  pub list_none : length ws < row_width → list_answer format ch (plan ed format ch (rows_in ws)) ≡ ListPlan.Unwritable
+  pub list_none : length ws < row_width → list_answer format ch (plan ed format ch (rows_in ws)) ≡ None
   unfolding plan list_answer
   list_none h = rw (rows_none ws h)
 
   module _ (h : row_width ≤ length ws) where
-    pub list_many : max_rows ed < length ws / row_width → list_answer format ch (plan ed format ch (rows_in ws)) ≡ ListPlan.Unwritable
+    pub list_many : max_rows ed < length ws / row_width → list_answer format ch (plan ed format ch (rows_in ws)) ≡ None
     unfolding plan list_answer
     list_many m = rw (rows_more ws h, lt-ltb (max_rows ed) (length (row_as (words_at ws 0) ∷ rows_in (drop row_width ws))) (omega (arith, length_rows ws, ap (λ (l : List Row). length l) (rows_more ws h))))
 
@@ -213,6 +221,6 @@ module _ (ed : Edition) (format ch : ℕ) (ws : List ℕ) where
         let l : length (row_as (words_at ws 0) ∷ rows_in (drop row_width ws)) ≤ max_rows ed = omega (arith, length_rows ws, ap (λ (l : List Row). length l) (rows_more ws h)) in
         rw (rows_more ws h, le-ltb (max_rows ed) (length (row_as (words_at ws 0) ∷ rows_in (drop row_width ws))) l)
 
-    pub list_answer_lem : length ws / row_width ≤ max_rows ed → (x : Planned) → x ≡ plan_answer format ch (plan_from format ch 0 (step_before format (row_as (words_at ws 0))) (rows_in ws))
+    pub list_answer_lem : length ws / row_width ≤ max_rows ed → (x : Option (Option Plan)) → x ≡ plan_answer format ch (plan_from format ch 0 (step_before format (row_as (words_at ws 0))) (rows_in ws))
         → list_answer format ch (plan ed format ch (rows_in ws)) ≡ fitting_plan format x
     list_answer_lem m x e = ap (list_answer format ch) (list_plan m) ∙ answer_fitting format ch (plan_from format ch 0 (step_before format (row_as (words_at ws 0))) (rows_in ws)) ∙ ap (fitting_plan format) (sym e)

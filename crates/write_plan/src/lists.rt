@@ -6,7 +6,7 @@ ghost use Rattle.write_plan.specs.Room.{words_at};
 use rtp::sizes::ROW_WIDTH;
 
 // The four words of a row.
-#[derive(Clone, Copy)]
+#[derive(Clone, Copy, Debug, PartialEq, Eq)]
 pub struct RowWords {
     pub time: u32,
     pub tag: u32,
@@ -43,13 +43,11 @@ fn wide(x: u32) -> usize
 pub fn any_outside(rows: &[u32], n: usize) -> bool
     ensures { result ≡ outside n (rows_in rows.now) }
 {
-    let mut at = 0;
-    while ROW_WIDTH <= rows.len() - at {
-        let end = wide(rows[at + 2]) + wide(rows[at + 3]);
+    for words in rows.chunks_exact(ROW_WIDTH) {
+        let end = wide(words[2]) + wide(words[3]);
         if n < end {
             return true;
         }
-        at += ROW_WIDTH;
     }
     false
 }

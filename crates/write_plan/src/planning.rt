@@ -1,12 +1,12 @@
 // The table of contents that a frame list is written with.
-ghost use Rattle.std.specs.Prelude.{◌≡◌, ◌+◌, ◌*◌, ◌/◌, ◌%◌, ◌^◌, ◌<◌, eqb, length};
+ghost use Rattle.std.specs.Prelude.{◌≡◌, ◌+◌, ◌*◌, ◌/◌, ◌%◌, ◌^◌, ◌<◌, eqb, length, Some};
 ghost use Rattle.rtp.specs.Editions.{current};
 ghost use Rattle.rtp.specs.Sizes.{row_width, max_rows};
 ghost use Rattle.formats.specs.Formats.{format_of, step_of, max_gap};
 ghost use Rattle.write_plan.specs.Entries.{first_blocks};
 ghost use Rattle.write_plan.specs.Lists.{rows_in};
 ghost use Rattle.write_plan.specs.Plans.{ticks_after, gap_between, next_channel, starts, continues, follows, joins_run, plan_from, plan};
-ghost use Rattle.write_plan.specs.Room.{row_as, run_size, plan_answer, attach_plan, Attachable, list_plan_numbers, list_numbers};
+ghost use Rattle.write_plan.specs.Room.{row_as, run_size, plan_answer, single_plan, attach_plan, attached, Attachable, list_plan_numbers, list_numbers};
 
 use crate::lists;
 use crate::lists::RowWords;
@@ -18,7 +18,7 @@ use rtp::sizes::{MAX_PACKET, MAX_ROWS, MIN_PACKET, ROW_WIDTH};
 use rtp::time;
 
 // A plan by its first run: class, length, the gap before it and its frame-blocks; the bytes of its entries and of those after it, and of all frames.
-#[derive(Clone, Copy)]
+#[derive(Clone, Copy, Debug, PartialEq, Eq)]
 pub struct Plan {
     pub class: u32,
     pub length: u32,
@@ -27,13 +27,6 @@ pub struct Plan {
     pub run: usize,
     pub others: usize,
     pub frames: usize,
-}
-
-#[derive(Clone, Copy)]
-pub enum Planned {
-    Table(Plan),
-    Empty,
-    Unwritable,
 }
 
 // The ticks from the place after a frame-block to a time.
@@ -70,9 +63,10 @@ fn max_gap(format: u8) -> u32
     ensures { result ≡ max_gap format }
 {
     if facts::format_of(format).displaced {
-        return 15;
+        15
+    } else {
+        0
     }
-    0
 }
 
 // The channel after c.
@@ -86,51 +80,40 @@ fn next_channel(channels: u32, c: u32) -> u32
 fn starts_block(format: u8, previous: u32, row: RowWords) -> bool
     ensures { result ≡ starts format previous (row_as row) }
 {
-    if coding::has_code(format, tagging::tag_class(row.tag), row.length) {
-        return whole_steps(format, ticks_after(format, previous, row.time));
-    }
-    false
+    coding::has_code(format, tagging::tag_class(row.tag), row.length)
+        && whole_steps(format, ticks_after(format, previous, row.time))
 }
 
 fn continues_block(previous: RowWords, row: RowWords) -> bool
     ensures { result ≡ continues (row_as previous) (row_as row) }
 {
-    if row.time == previous.time {
-        if tagging::tag_class(row.tag) == tagging::tag_class(previous.tag) {
-            return row.length == previous.length;
-        }
-        return false;
-    }
-    false
+    row.time == previous.time
+        && tagging::tag_class(row.tag) == tagging::tag_class(previous.tag)
+        && row.length == previous.length
 }
 
 // Whether a row may stand at channel c after another.
 fn follows_row(format: u8, c: u32, previous: RowWords, row: RowWords) -> bool
     ensures { result ≡ follows format c (row_as previous) (row_as row) }
 {
-    if tagging::tag_channel(row.tag) == c {
-        if c == 0 {
-            return starts_block(format, previous.time, row);
-        }
-        return continues_block(previous, row);
+    if tagging::tag_channel(row.tag) != c {
+        return false;
     }
-    false
+    if c == 0 {
+        starts_block(format, previous.time, row)
+    } else {
+        continues_block(previous, row)
+    }
 }
 
 // Whether a frame-block and the run after it, of this class, length and gap, make one run.
 pub fn joins_run(format: u8, row: RowWords, class: u32, length: u32, gap: u32) -> bool
     ensures { result ≡ joins_run format (row_as row) class length gap }
 {
-    if facts::format_of(format).counted {
-        if tagging::tag_class(row.tag) == class {
-            if row.length == length {
-                return gap <= max_gap(format);
-            }
-            return false;
-        }
-        return false;
-    }
-    false
+    facts::format_of(format).counted
+        && tagging::tag_class(row.tag) == class
+        && row.length == length
+        && gap <= max_gap(format)
 }
 
 // The most frame-blocks that an entry counts, and those of the first entry of a longer run.
@@ -160,81 +143,81 @@ fn run_size(format: u8, blocks: usize) -> usize
     first + entries::entry_size(format, blocks - FIRST_PART)
 }
 
-// A frame-block before a plan.
-fn attach_block(format: u8, channels: u32, row: RowWords, gap: u32, rest: Planned) -> Planned
-    requires { Attachable current format channels (row_as row) rest }
-    ensures { result ≡ attach_plan format channels (row_as row) gap rest }
+// The plan of one frame-block by itself, whose frames take so many bytes.
+fn single_block(format: u8, row: RowWords, gap: u32, frames: usize) -> Plan
+    ensures { result ≡ single_plan format (row_as row) gap frames }
 {
-    let class = tagging::tag_class(row.tag);
-    let length = row.length;
-    let frames = (channels as usize) * (length as usize);
-    match rest {
-        Planned::Unwritable => Planned::Unwritable,
-        Planned::Empty => Planned::Table(Plan {
-            class,
-            length,
-            gap,
-            blocks: 1,
-            run: run_size(format, 1),
-            others: 0,
-            frames,
-        }),
-        Planned::Table(plan) => {
-            let all = frames + plan.frames;
-            if joins_run(format, row, plan.class, plan.length, plan.gap) {
-                return Planned::Table(Plan {
-                    class: plan.class,
-                    length: plan.length,
-                    gap,
-                    blocks: plan.blocks + 1,
-                    run: run_size(format, plan.blocks + 1),
-                    others: plan.others,
-                    frames: all,
-                });
-            }
-            if plan.gap <= max_gap(format) {
-                return Planned::Table(Plan {
-                    class,
-                    length,
-                    gap,
-                    blocks: 1,
-                    run: run_size(format, 1),
-                    others: plan.run + plan.others,
-                    frames: all,
-                });
-            }
-            Planned::Unwritable
-        }
+    Plan {
+        class: tagging::tag_class(row.tag),
+        length: row.length,
+        gap,
+        blocks: 1,
+        run: run_size(format, 1),
+        others: 0,
+        frames,
     }
 }
 
-// The runs of the rows from channel c on, after a row.
-fn plan_from(format: u8, channels: u32, c: u32, previous: RowWords, rows: &[u32]) -> Planned
+// A frame-block before a plan, or before no run at all; none where the run cannot follow it.
+fn attach_block(
+    format: u8,
+    channels: u32,
+    row: RowWords,
+    gap: u32,
+    rest: Option<Plan>,
+) -> Option<Plan>
+    requires { Attachable current format channels (row_as row) (Some rest) }
+    ensures { attached result ≡ attach_plan format channels (row_as row) gap (Some rest) }
+{
+    let frames = (channels as usize) * (row.length as usize);
+    let Some(plan) = rest else {
+        return Some(single_block(format, row, gap, frames));
+    };
+    let frames = frames + plan.frames;
+    if joins_run(format, row, plan.class, plan.length, plan.gap) {
+        let blocks = plan.blocks + 1;
+        let run = run_size(format, blocks);
+        return Some(Plan {
+            gap,
+            blocks,
+            run,
+            frames,
+            ..plan
+        });
+    }
+    if plan.gap <= max_gap(format) {
+        let others = plan.run + plan.others;
+        let single = single_block(format, row, gap, frames);
+        return Some(Plan { others, ..single });
+    }
+    None
+}
+
+// The runs of the rows from channel c on, after a row: none where they cannot be written, and no plan where there are no rows.
+fn plan_from(
+    format: u8,
+    channels: u32,
+    c: u32,
+    previous: RowWords,
+    rows: &[u32],
+) -> Option<Option<Plan>>
     requires { (channels < 256) × (c < channels) × (length rows.now < row_width * max_rows current + row_width) }
     ensures { result ≡ plan_answer format channels (plan_from format channels c (row_as previous) (rows_in rows.now)) }
 {
     if rows.len() < ROW_WIDTH {
-        if c == 0 {
-            return Planned::Empty;
-        }
-        return Planned::Unwritable;
+        return if c == 0 { Some(None) } else { None };
     }
     let row = lists::first_row(rows);
-    if follows_row(format, c, previous, row) {
-        let rest = plan_from(
-            format,
-            channels,
-            next_channel(channels, c),
-            row,
-            &rows[ROW_WIDTH..],
-        );
-        if c == 0 {
-            let gap = gap_between(format, previous.time, row.time);
-            return attach_block(format, channels, row, gap, rest);
-        }
-        return rest;
+    if !follows_row(format, c, previous, row) {
+        return None;
     }
-    Planned::Unwritable
+    let next = next_channel(channels, c);
+    let rest = plan_from(format, channels, next, row, &rows[ROW_WIDTH..])?;
+    if c != 0 {
+        return Some(rest);
+    }
+    let gap = gap_between(format, previous.time, row.time);
+    Some(Some(attach_block(format, channels, row, gap, rest)?))
 }
 
 // The longest payload that is written alone.
@@ -250,48 +233,33 @@ fn payload_size(format: u8, table: usize, frames: usize) -> usize
 }
 
 // The bytes of a payload's table, and of the whole payload.
-#[derive(Clone, Copy)]
+#[derive(Clone, Copy, Debug, PartialEq, Eq)]
 pub struct Sizes {
     pub table: usize,
     pub payload: usize,
 }
 
-#[derive(Clone, Copy)]
-pub enum ListPlan {
-    Fits(Sizes),
-    Unwritable,
-}
-
-// The plan of a whole list, by its sizes.
-pub fn plan_list(format: u8, channels: u8, rows: &[u32]) -> ListPlan
+// The plan of a whole list, by its sizes; none where it cannot be written.
+pub fn plan_list(format: u8, channels: u8, rows: &[u32]) -> Option<Sizes>
     ensures { list_plan_numbers result ≡ list_numbers format channels (plan current format channels (rows_in rows.now)) }
 {
     if channels == 0 {
-        return ListPlan::Unwritable;
+        return None;
     }
     if rows.len() < ROW_WIDTH {
-        return ListPlan::Unwritable;
+        return None;
     }
     if MAX_ROWS < rows.len() / ROW_WIDTH {
-        return ListPlan::Unwritable;
+        return None;
     }
     let first = lists::first_row(rows);
-    let before = RowWords {
-        time: time::difference(first.time, frames::step_of(format)),
-        tag: first.tag,
-        start: first.start,
-        length: first.length,
-    };
-    match plan_from(format, channels as u32, 0, before, rows) {
-        Planned::Table(plan) => {
-            let table = plan.run + plan.others;
-            let payload = payload_size(format, table, plan.frames);
-            if MAX_PAYLOAD < payload {
-                return ListPlan::Unwritable;
-            }
-            ListPlan::Fits(Sizes { table, payload })
-        }
-        Planned::Empty => ListPlan::Unwritable,
-        Planned::Unwritable => ListPlan::Unwritable,
+    let time = time::difference(first.time, frames::step_of(format));
+    let before = RowWords { time, ..first };
+    let plan = plan_from(format, channels as u32, 0, before, rows)??;
+    let table = plan.run + plan.others;
+    let payload = payload_size(format, table, plan.frames);
+    if MAX_PAYLOAD < payload {
+        return None;
     }
+    Some(Sizes { table, payload })
 }

@@ -1,5 +1,5 @@
 -- A writer's answer in numbers, and the payload of a list measured.
-use Rattle.std.specs.Prelude.{ℕ, List, cond}
+use Rattle.std.specs.Prelude.{ℕ, List, cond, Err, Ok, Result}
 use Rattle.rtp.specs.Editions.{Edition}
 use Rattle.rtp.specs.Ranges.{in_range}
 use Rattle.rtp.specs.Refusals.{number}
@@ -9,7 +9,6 @@ use Rattle.rtp.specs.declared.refusal.Refusal.TheVariants.{SettingsOutOfRange, U
 use Rattle.read_contents.specs.Contents.{Contents, refused, groups}
 use Rattle.write_plan.specs.Lists.{rows_in, whole}
 use Rattle.write_plan.specs.Plans.{payload_size, plan}
-use Rattle.write_sizes.specs.declared.measuring.Written.{Written}
 
 -- The answer in numbers: the refusal number or 0, and the byte count, 0 on refusal
 pub record Numbers : Type 0 where
@@ -17,9 +16,9 @@ pub record Numbers : Type 0 where
   pub count : ℕ
 
 -- of the code's answer, case by case
-abbrev pub written_numbers : Written → Numbers
-written_numbers (Written.Refused r) = record { refusal = number r; count = 0 }
-written_numbers (Written.Bytes n) = record { refusal = 0; count = n }
+abbrev pub written_numbers : Result ℕ Refusal → Numbers
+written_numbers (Err r) = record { refusal = number r; count = 0 }
+written_numbers (Ok n) = record { refusal = 0; count = n }
 
 -- Measuring: the byte count of a list's payload, whatever its mode request, or why it has none. Whether the rows lie inside the bytes that they point into
 -- is not asked.

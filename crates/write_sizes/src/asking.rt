@@ -16,10 +16,7 @@ pub const MAX_REQUEST: u8 = 15;
 pub fn in_range(asked: Settings, mode_request: u8) -> bool
     ensures { result ≡ askable current asked mode_request }
 {
-    if MAX_REQUEST < mode_request {
-        return false;
-    }
-    settings::in_range(asked)
+    mode_request <= MAX_REQUEST && settings::in_range(asked)
 }
 
 // The mode request's four bits where the format has one and there is room; answers the bytes before the table.

@@ -8,29 +8,18 @@ use rtp::settings;
 use rtp::settings::Settings;
 use rtp::sizes::ROW_WIDTH;
 use write_plan::planning;
-use write_plan::planning::ListPlan;
-
-// The number of bytes written, or why there are none.
-#[derive(Clone, Copy)]
-pub enum Written {
-    Bytes(usize),
-    Refused(Refusal),
-}
 
 // The bytes that a list's payload takes, where its rows lie inside the bytes that they point into.
-pub fn measure_payload(asked: Settings, rows: &[u32]) -> Written
+pub fn measure_payload(asked: Settings, rows: &[u32]) -> Result<usize, Refusal>
     ensures { written_numbers result ≡ measured current asked rows.now }
 {
-    if settings::in_range(asked) {
-        if rows.len() % ROW_WIDTH == 0 {
-            match planning::plan_list(asked.format, asked.channels, rows) {
-                ListPlan::Fits(sizes) => Written::Bytes(sizes.payload),
-                ListPlan::Unwritable => Written::Refused(Refusal::Unwritable),
-            }
-        } else {
-            Written::Refused(Refusal::Unwritable)
-        }
-    } else {
-        Written::Refused(Refusal::SettingsOutOfRange)
+    if !settings::in_range(asked) {
+        return Err(Refusal::SettingsOutOfRange);
     }
+    if rows.len() % ROW_WIDTH != 0 {
+        return Err(Refusal::Unwritable);
+    }
+    let plan = planning::plan_list(asked.format, asked.channels, rows);
+    let sizes = plan.ok_or(Refusal::Unwritable)?;
+    Ok(sizes.payload)
 }

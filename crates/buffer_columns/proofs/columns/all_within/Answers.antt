@@ -1,22 +1,12 @@
-use Prim.Native.Nat.{ℕ}
-use mathlib.Core.Path.{◌∙◌, sym, ap}
-use lib.Dec.{ltb}
-use Rattle.buffer_copies.specs.Pairs.{half}
-use borrow.Author.Tests.{lt-ltb, le-ltb}
-use Rattle.buffer_layout.proofs.ColumnLaws.{within_end, within_step}
-use native.Mathlib.Omega.{arith}
+use Rattle.std.proofs.Common.{ltb, take, ◌∙◌, sym, rules, tests, arith}
+use Rattle.std.proofs.lemmas.Iterator.{YieldsList-from_slice}
+use Rattle.std.proofs.lemmas.Iterator.Search.{all_from_yields_List}
+use Rattle.buffer_copies.specs.Pairs.{half, ahead}
+use Rattle.buffer_layout.proofs.ColumnLaws.{within_all}
 use Rattle.buffer_columns.proofs.columns.all_within.Goals as goal
-
-pub loop-i-preserved : goal.loop-i-preserved
-loop-i-preserved c =
-    let l = c.loop-i in
-    (omega arith, sym (within_step _ _ _ l.i _ (omega arith) (ap (λ (m : ℕ). ltb m half) (sym c.ticks_ahead.ensures) ∙ lt-ltb _ _ c.if-ticks_ahead-lt-HALF.true)) ∙ l.invariant.1)
-
-pub returns-else-ticks_ahead-lt-HALF : goal.returns-else-ticks_ahead-lt-HALF
-returns-else-ticks_ahead-lt-HALF c =
-    let l = c.loop-i in
-    sym (within_step _ _ _ l.i _ (omega arith) (ap (λ (m : ℕ). ltb m half) (sym c.ticks_ahead.ensures) ∙ le-ltb _ _ c.if-ticks_ahead-lt-HALF.false)) ∙ l.invariant.1
 
 pub returns : goal.returns
 returns c =
-    sym (within_end _ _ _ _ c.loop-i-test.false) ∙ c.loop-i.invariant.1
+    let a = c.args in
+    all_from_yields_List (λ x. ltb (ahead x a.time) half) _ _ _ c.all.ensures.ran (YieldsList-from_slice (take a.n a.times.now) cc) (λ x b q k. search (rules, tests))
+    ∙ sym (within_all a.times.now a.time a.n 0 (omega arith))

@@ -7,7 +7,7 @@ unfolding after
 returns-then-distance-gt0 c =
     simp (← c.ticks_ahead-distance.ensures, lt-ltb _ _ c.if-distance-gt0.true)
 
-pub returns : goal.returns
+pub returns-else-distance-gt0 : goal.returns-else-distance-gt0
 unfolding after
-returns c =
+returns-else-distance-gt0 c =
     simp (← c.ticks_ahead-distance.ensures, le-ltb _ _ c.if-distance-gt0.false)

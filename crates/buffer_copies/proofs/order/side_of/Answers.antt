@@ -1,24 +1,12 @@
-use native.Mathlib.Omega.{arith}
-use Prim.Native.Nat.{Ordering}
-use Rattle.buffer_copies.proofs.InsertionLaws.{compare_is}
 use Rattle.buffer_copies.specs.Pairs.{order}
+use Rattle.buffer_copies.proofs.SideLaws.{side_cmp}
 use borrow.Author.Tests.{eq-eqb, ne_eqb}
 use Rattle.buffer_copies.proofs.order.side_of.Goals as goal
-
-pub returns-then-c-d : goal.returns-then-c-d
-unfolding order
-returns-then-c-d c =
-    simp (eq-eqb _ _ c.if-t-h.true, ← (compare_is Ordering.eq c.args.c c.args.d (omega arith)))
-
-pub returns-then-c-d-2 : goal.returns-then-c-d-2
-unfolding order
-returns-then-c-d-2 c =
-    simp (eq-eqb _ _ c.if-t-h.true, ← (compare_is Ordering.lt c.args.c c.args.d (omega arith)))
 
 pub returns-then-t-h : goal.returns-then-t-h
 unfolding order
 returns-then-t-h c =
-    simp (eq-eqb _ _ c.if-t-h.true, ← (compare_is Ordering.gt c.args.c c.args.d (omega arith)))
+    rw (eq-eqb _ _ c.if-t-h.true) (side_cmp c.args.c c.args.d c.cmp.result c.cmp.ensures)
 
 pub returns-then-is_after : goal.returns-then-is_after
 unfolding order

@@ -12,10 +12,10 @@ allowed_at c =
     c.is_allowed.ensures ∙ ap (λ (k : ℕ). allowed_in a.table k a.length) c.tag_class.ensures
     ∙ allowed_in_lem a.fixed.settings.format (tag_class a.tag) a.length a.table c.requires
 
-pub returns-then-not-is_allowed : goal.returns-then-not-is_allowed
-returns-then-not-is_allowed c =
-    rw (← (allowed_at (goal.at.returns-then-not-is_allowed c).After-is_allowed), c.if-not-is_allowed.true)
+pub returns-then-is_allowed : goal.returns-then-is_allowed
+returns-then-is_allowed c =
+    rw (← (allowed_at (goal.at.returns-then-is_allowed c).After-is_allowed), c.if-is_allowed.true, ← c.tag_channel.ensures.0)
 
-pub returns : goal.returns
-returns c =
-    rw (← (allowed_at (goal.at.returns c).After-is_allowed), c.if-not-is_allowed.false, ← c.tag_channel.ensures.0)
+pub returns-else-is_allowed : goal.returns-else-is_allowed
+returns-else-is_allowed c =
+    rw (← (allowed_at (goal.at.returns-else-is_allowed c).After-is_allowed), c.if-is_allowed.false)

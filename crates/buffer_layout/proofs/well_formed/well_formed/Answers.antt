@@ -6,11 +6,11 @@ pub returns-then-not-last_kept : goal.returns-then-not-last_kept
 returns-then-not-last_kept c =
     sym (last_not _ _ _ _ _ _ (sym c.last_kept.ensures.0 ∙ c.if-not-last_kept.true))
 
-pub returns-then-not-unused_zero : goal.returns-then-not-unused_zero
-returns-then-not-unused_zero c =
-    sym (rest_not _ _ _ _ _ _ _ c.held_in-n.ensures.0 (sym c.last_kept.ensures.0 ∙ c.if-not-last_kept.false) (sym c.unused_zero.ensures ∙ c.if-not-unused_zero.true))
+pub returns-else-unused_zero : goal.returns-else-unused_zero
+returns-else-unused_zero c =
+    c.if-unused_zero.false ∙ sym (rest_not _ _ _ _ _ _ _ c.held_in-n.ensures.0 (sym c.last_kept.ensures.0 ∙ c.if-not-last_kept.false) (sym c.unused_zero.ensures ∙ c.if-unused_zero.false))
 
-pub returns : goal.returns
-returns c =
+pub returns-then-unused_zero : goal.returns-then-unused_zero
+returns-then-unused_zero c =
     c.entries_pass.ensures
-    ∙ sym (formed_entries _ _ _ _ _ _ _ c.held_in-n.ensures.0 (sym c.last_kept.ensures.0 ∙ c.if-not-last_kept.false) (sym c.unused_zero.ensures ∙ c.if-not-unused_zero.false))
+    ∙ sym (formed_entries _ _ _ _ _ _ _ c.held_in-n.ensures.0 (sym c.last_kept.ensures.0 ∙ c.if-not-last_kept.false) (sym c.unused_zero.ensures ∙ c.if-unused_zero.true))

@@ -1,49 +1,34 @@
 use mathlib.Core.Path.{◌≡◌, sym, ◌∙◌}
-use mathlib.Core.Bool.{false}
 use Rattle.rtp.specs.Editions.{current}
-use Rattle.buffer_copies.specs.Copies.{Copy}
-use Rattle.buffer_copies.specs.Verdicts.{is_late, is_far}
-use Rattle.buffer_layout.specs.declared.buffer.Buffer.{Buffer}
-use Rattle.buffer_layout.specs.Layout.{decode, assembled}
+use Rattle.buffer_copies.specs.Verdicts.{is_far}
+use Rattle.buffer_layout.specs.Layout.{decode}
 use Rattle.buffer_insert.specs.Laying.{copy_in}
 use Rattle.buffer_offer.specs.Judging.{Judgeable}
 use Rattle.buffer_offer.proofs.VerdictLaws.{step_late, far_is, step_far}
-use borrow.Author.Rules.{rules}
-use Rattle.buffer_offer.proofs.judging.judge_copy.Goals.{After-is_far, Else-is_late}
+use Rattle.buffer_offer.proofs.judging.judge_copy.Goals.{After-is_far}
 use Rattle.buffer_offer.proofs.judging.judge_copy.Goals as goal
 
-late-at : (c : Else-is_late) → is_late (decode ((let a = c.args in assembled a.times.now a.tags.now a.lengths.now a.slots.now a.occupied a.fixed))) ((copy_in c.args.head c.args.frame.now)) ≡ false
-late-at c =
-    sym c.is_late.ensures ∙ c.if-is_late.false
-
-far_at : (c : After-is_far) → (let a = c.args in Judgeable current ((let a = c.args in assembled a.times.now a.tags.now a.lengths.now a.slots.now a.occupied a.fixed)) a.head a.frame.now a.store.now) → is_far (decode ((let a = c.args in assembled a.times.now a.tags.now a.lengths.now a.slots.now a.occupied a.fixed))) ((copy_in c.args.head c.args.frame.now)) ≡ c.is_far.result
+-- far as the test tells
+far_at : (c : After-is_far) → (let a = c.args in Judgeable current a.buffer.now a.head a.frame.now a.store.now) → (let a = c.args in is_far (decode a.buffer.now) (copy_in a.head a.frame.now)) ≡ c.is_far.result
 far_at c g =
-    let late-at : is_late (decode ((let a = c.args in assembled a.times.now a.tags.now a.lengths.now a.slots.now a.occupied a.fixed))) ((copy_in c.args.head c.args.frame.now)) ≡ false = sym c.is_late.ensures ∙ c.if-is_late.false in
+    let a = c.args in
     let h = c.held_in-n in
-    far_is ((let a = c.args in assembled a.times.now a.tags.now a.lengths.now a.slots.now a.occupied a.fixed)) g.machine g.fine c.args.head c.args.frame.now c.args.store.now (late-at) h.result h.ensures.0
-    ∙ sym c.is_far.ensures
+    far_is a.buffer.now g.machine g.fine a.head a.frame.now a.store.now (sym c.is_late.ensures ∙ c.if-is_late.false) h.result h.ensures.0 ∙ sym c.is_far.ensures
 
 pub returns-then-is_late : goal.returns-then-is_late
 returns-then-is_late c g =
-    step_late ((let a = c.args in assembled a.times.now a.tags.now a.lengths.now a.slots.now a.occupied a.fixed)) g.machine g.fine c.args.head c.args.frame.now c.args.store.now (sym c.is_late.ensures ∙ c.if-is_late.true)
-
-pub is_far-requires : goal.is_far-requires
-is_far-requires c =
-    c.held_in-n.ensures.1
+    let a = c.args in step_late a.buffer.now g.machine g.fine a.head a.frame.now a.store.now (sym c.is_late.ensures ∙ c.if-is_late.true)
 
 pub returns-then-is_far : goal.returns-then-is_far
 returns-then-is_far c g =
+    let a = c.args in
     let h = c.held_in-n in
-    step_far ((let a = c.args in assembled a.times.now a.tags.now a.lengths.now a.slots.now a.occupied a.fixed)) g.machine g.fine c.args.head c.args.frame.now c.args.store.now (late-at (goal.at.returns-then-is_far c).Else-is_late) h.result h.ensures.0
+    step_far a.buffer.now g.machine g.fine a.head a.frame.now a.store.now (sym c.is_late.ensures ∙ c.if-is_late.false) h.result h.ensures.0
     (far_at (goal.at.returns-then-is_far c).After-is_far g ∙ c.if-is_far.true)
-
-pub lay_copy-requires : goal.lay_copy-requires
-lay_copy-requires c =
-    c.held_in-n.ensures
 
 pub returns : goal.returns
 returns c g =
     c.lay_copy.ensures g (record {
-      not_late = late-at (goal.at.returns c).Else-is_late;
+      not_late = sym c.is_late.ensures ∙ c.if-is_late.false;
       not_far = far_at (goal.at.returns c).After-is_far g ∙ c.if-is_far.false;
     })

@@ -1,34 +1,27 @@
-use mathlib.Core.Path.{sym, ◌∙◌, ap}
-use Prim.Native.Nat.{ℕ, suc}
-use native.Mathlib.Omega.{arith}
-use native.Mathlib.Numerals.{add-one}
-use lib.ListN.{drop}
-use borrow.Author.Tests.{eq-eqb, ne_eqb}
-use Rattle.console_text.specs.declared.numbers.Number.{Number}
+use Rattle.std.proofs.Common.{ℕ, suc, Option, drop, refl, ap, sym, ◌∙◌, add-one, arith}
 use Rattle.console_text.specs.Numbers.{with_digits, number_of, parsed}
 use Rattle.console_text.proofs.NumberLaws.{with_next, with_none}
 use Rattle.console_text.proofs.numbers.parse.Goals as goal
 
-pub returns-then-text-eq0 : goal.returns-then-text-eq0
+pub returns-then-is_empty : goal.returns-then-is_empty
 unfolding number_of
-returns-then-text-eq0 c =
-    simp (eq-eqb _ _ c.if-text-eq0.true)
+returns-then-is_empty c = rw (sym c.if-is_empty.ensures) refl
 
-pub loop-i-init : goal.loop-i-init
+pub loop-digit-init : goal.loop-digit-init
 unfolding number_of
-loop-i-init c =
-    simp (ne_eqb _ _ c.if-text-eq0.false)
+loop-digit-init c = rw (sym c.if-is_empty.ensures) refl
 
-pub loop-i-preserved : goal.loop-i-preserved
-loop-i-preserved c =
+pub loop-digit-preserved : goal.loop-digit-preserved
+loop-digit-preserved c =
     let s = c.args.text.now in
-    let v = c.loop-i.value in
-    let i = c.loop-i.i in
-    c.loop-i.invariant
+    let v = c.loop-digit.value in
+    let i = c.loop-digit.digit-index in
+    c.loop-digit.invariant
     ∙ with_next v s i (omega arith)
-    ∙ ap (λ (n : Number). with_digits n (drop (suc i) s)) (sym c.with_digit-longer.ensures)
-    ∙ ap (λ (k : ℕ). with_digits c.with_digit-longer.result (drop k s)) (sym (add-one i))
+    ∙ ap (λ (n : Option ℕ). with_digits n (drop (suc i) s)) (sym c.with_digit-value.ensures)
+    ∙ ap (λ (k : ℕ). with_digits c.with_digit-value.result (drop k s)) (sym (add-one i))
 
 pub returns : goal.returns
 returns c =
-    ap parsed (sym (c.loop-i.invariant ∙ with_none c.loop-i.value c.args.text.now c.loop-i.i (omega arith)))
+    let v = c.loop-digit in
+    ap parsed (sym (v.invariant ∙ with_none v.value c.args.text.now v.digit-index (omega arith)))

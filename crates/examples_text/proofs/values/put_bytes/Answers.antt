@@ -1,40 +1,48 @@
-use mathlib.Core.Path.{sym, ap, ◌∙◌}
+use mathlib.Core.Path.{◌≡◌, sym, ap, ◌∙◌}
 use mathlib.Core.List.{◌∷◌}
-use Prim.Native.Nat.{ℕ, ◌+◌}
+use Prim.Native.Nat.{ℕ}
 use native.Mathlib.Omega.{arith}
-use lib.ListN.{drop}
+use lib.ListN.{get_or}
+use Rattle.std.specs.Slice.Iter.{chunks_rest}
 use Rattle.examples_text.specs.Lines.{after_spaces}
-use Rattle.examples_text.specs.Values.{byte_room, bytes_of}
-use Rattle.examples_text.proofs.ValueLaws.{bytes_next, bytes_stop, bytes_end, left_next, left_none, left_full}
+use Rattle.examples_text.specs.Values.{byte_room, bytes_of, pair_of}
+use Rattle.examples_text.proofs.ValueLaws.{value_or_zero, bytes_piece, bytes_piece_low, bytes_none, left_next, left_none, left_full}
 use Rattle.examples_text.proofs.values.put_bytes.Goals as goal
 
-pub returns-then-bytes-i-le-NEWLINE : goal.returns-then-bytes-i-le-NEWLINE
-returns-then-bytes-i-le-NEWLINE c =
-    let l = c.loop-i in
+pub returns-then-byte-le-NEWLINE : goal.returns-then-byte-le-NEWLINE
+returns-then-byte-le-NEWLINE c =
+    let l = c.loop-word in
     let a = c.args in
-    let s = a.line.now in
-    left_none byte_room a.area.now a.at (bytes_of (after_spaces a.k s)) l.area l.to (bytes_of (drop l.i s)) l.invariant (bytes_stop s l.i (omega arith))
+    let s = chunks_rest l.word-iterator in
+    let steps = c.in-Some.ensures.steps in
+    left_none byte_room a.area.now a.at (bytes_of (after_spaces a.k a.line.now)) l.area l.to (bytes_of s) l.invariant.1
+    (bytes_piece_low s c.in-Some.word.now (chunks_rest c.next.new.self) steps.1.0 (rw l.invariant.0 at steps.1.1) (omega arith))
 
 pub returns-then-to-ge-ROOM : goal.returns-then-to-ge-ROOM
 returns-then-to-ge-ROOM c =
-    let l = c.loop-i in
+    let l = c.loop-word in
     let a = c.args in
-    let s = a.line.now in
-    left_full byte_room a.area.now a.at (bytes_of (after_spaces a.k s)) l.area l.to (bytes_of (drop l.i s)) l.invariant (omega arith)
+    left_full byte_room a.area.now a.at (bytes_of (after_spaces a.k a.line.now)) l.area l.to (bytes_of (chunks_rest l.word-iterator)) l.invariant.1 (omega arith)
 
-pub loop-i-preserved : goal.loop-i-preserved
-loop-i-preserved c =
-    let l = c.loop-i in
+pub loop-word-preserved : goal.loop-word-preserved
+loop-word-preserved c =
+    let l = c.loop-word in
     let a = c.args in
-    let s = a.line.now in
-    let v = c.pair.result in
-    left_next byte_room a.area.now a.at (bytes_of (after_spaces a.k s)) l.area l.to (bytes_of (drop l.i s)) v (bytes_of (drop (l.i + 3) s)) l.invariant
-    (bytes_next s l.i (omega arith) (omega arith) ∙ ap (λ (x : ℕ). x ∷ bytes_of (drop (l.i + 3) s)) (sym c.pair.ensures))
-    (omega arith)
+    let s = chunks_rest l.word-iterator in
+    let rest = chunks_rest c.next.new.self in
+    let piece = c.in-Some.word.now in
+    let steps = c.in-Some.ensures.steps in
+    let v = c.or_malformed.result in
+    let laid : v ≡ pair_of (get_or piece 0 0) (get_or piece 1 0) (get_or piece 2 0) = value_or_zero c.pair.result v _ c.or_malformed.ensures c.pair.ensures in (
+      steps.0 ∙ l.invariant.0,
+      left_next byte_room a.area.now a.at (bytes_of (after_spaces a.k a.line.now)) l.area l.to (bytes_of s) v (bytes_of rest) l.invariant.1
+          (bytes_piece s piece rest steps.1.0 (rw l.invariant.0 at steps.1.1) (omega arith) ∙ ap (λ (x : ℕ). x ∷ bytes_of rest) (sym laid))
+          (omega arith),
+    )
 
 pub returns : goal.returns
 returns c =
-    let l = c.loop-i in
+    let l = c.loop-word in
     let a = c.args in
-    let s = a.line.now in
-    left_none byte_room a.area.now a.at (bytes_of (after_spaces a.k s)) l.area l.to (bytes_of (drop l.i s)) l.invariant (bytes_end s l.i (omega arith))
+    let s = chunks_rest l.word-iterator in
+    left_none byte_room a.area.now a.at (bytes_of (after_spaces a.k a.line.now)) l.area l.to (bytes_of s) l.invariant.1 (bytes_none s c.in-None.ensures.steps.1.0)

@@ -1,12 +1,8 @@
-use Prim.Native.Nat.{◌-◌}
-use lib.ListN.{length, drop}
+use lib.ListN.{drop}
 use Rattle.examples_text.specs.Lines.{after_spaces, text}
 use Rattle.examples_text.specs.Values.{byte_room}
 use Rattle.examples_text.proofs.ValueLaws.{Left}
 use Rattle.examples_text.proofs.values.put_text.Given as goal
 
-abbrev pub invariant-loop-i : goal.invariant-loop-i
-invariant-loop-i l = Left byte_room l.initial.area l.at (text (after_spaces l.k l.bytes)) l.area l.to (text (drop l.i l.bytes))
-
-abbrev pub decreases-loop-i : goal.decreases-loop-i
-decreases-loop-i l = length l.bytes - l.i
+abbrev pub invariant-loop-byte : goal.invariant-loop-byte
+invariant-loop-byte l = Left byte_room l.initial.area l.at (text (after_spaces l.k l.line)) l.area l.to (drop l.byte-index l.text)

@@ -34,16 +34,10 @@ returns-then-length-eq-RESERVED c =
 pub returns-then-length-eq0 : goal.returns-then-length-eq0
 unfolding frame_in
 returns-then-length-eq0 c =
-    simp (← c.format_of-facts.ensures, ← c.type_of-kind.ensures, ← c.length_in-length.ensures, ne_eqb _ _ c.if-length-eq-RESERVED.false, eq-eqb _ _ c.if-length-eq0.true)
-
-pub returns-then-kind-facts : goal.returns-then-kind-facts
-returns-then-kind-facts c =
-    ap coded_numbers
-    (bytes _ _ _ _ _ _ _ c.format_of-facts.ensures c.type_of-kind.ensures c.length_in-length.ensures
-    c.if-length-eq-RESERVED.false c.if-length-eq0.false c.damage_of-damage.ensures.0 (simp (eq-eqb _ _ c.if-kind-facts.true)))
+    rw c.if-length-eq0.true (simp (← c.format_of-facts.ensures, ← c.type_of-kind.ensures, ← c.length_in-length.ensures, ne_eqb _ _ c.if-length-eq-RESERVED.false, eq-eqb _ _ c.if-length-eq0.true))
 
 pub returns : goal.returns
 returns c =
     ap coded_numbers
     (bytes _ _ _ _ _ _ _ c.format_of-facts.ensures c.type_of-kind.ensures c.length_in-length.ensures
-    c.if-length-eq-RESERVED.false c.if-length-eq0.false c.damage_of-damage.ensures.0 (simp (ne_eqb _ _ c.if-kind-facts.false)))
+    c.if-length-eq-RESERVED.false c.if-length-eq0.false c.damage_of.ensures.0 c.good_class.ensures.0)

@@ -1,15 +1,10 @@
-use mathlib.Core.Path.{ap, ◌∙◌}
-use Prim.Native.Nat.{ℕ}
-use Rattle.formats.specs.Formats.{amr_wb_format}
-use Rattle.frame_codes.specs.Codes.{graded_code}
-use Rattle.frame_codes.proofs.AmrLaws.{amr_wb_code, amr_wb_past}
+use mathlib.Core.Path.{◌∙◌}
+use Rattle.formats.specs.Frames.{amr_wb_length, length_in}
+use Rattle.frame_codes.specs.Codes.{type_below}
+use Rattle.frame_codes.proofs.AmrLaws.{amr_wb_code}
 use Rattle.frame_codes.proofs.amr_codes.amr_wb_code.Goals as goal
 
-pub returns-then-n-le-AMR_WB_LONGEST : goal.returns-then-n-le-AMR_WB_LONGEST
-returns-then-n-le-AMR_WB_LONGEST c =
-    let a = c.args in
-    c.graded_code.ensures ∙ ap (λ (t : ℕ). graded_code amr_wb_format.sid t a.class) c.amr_wb_type.ensures ∙ amr_wb_code a.class a.n c.if-n-le-AMR_WB_LONGEST.true
-
 pub returns : goal.returns
+unfolding type_below length_in amr_wb_length
 returns c =
-    amr_wb_past c.args.class c.args.n c.if-n-le-AMR_WB_LONGEST.false
+    c.code_by_length.ensures ∙ amr_wb_code c.args.class c.args.n

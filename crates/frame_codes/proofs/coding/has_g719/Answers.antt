@@ -11,6 +11,6 @@ pub returns-then-class-eq1 : goal.returns-then-class-eq1
 returns-then-class-eq1 c =
     c.is_length.ensures ∙ rw c.if-class-eq1.true
 
-pub returns : goal.returns
-returns c =
+pub returns-else-class-eq1 : goal.returns-else-class-eq1
+returns-else-class-eq1 c =
     (simp (ne_eqb _ _ c.if-class-eq0.false, ne_eqb _ _ c.if-class-eq1.false)) ∙ g719_has_lem _ _

@@ -7,10 +7,10 @@ pub returns-then-class-eq0 : goal.returns-then-class-eq0
 returns-then-class-eq0 c =
     (simp (eq-eqb _ _ c.if-class-eq0.true)) ∙ gsm_has _ _
 
-pub returns-then-n : goal.returns-then-n
-returns-then-n c =
-    (simp (ne_eqb _ _ c.if-class-eq0.false, eq-eqb _ _ c.if-n.true)) ∙ gsm_has _ _
+pub returns-then-n-eq-GSM_HR_LENGTH : goal.returns-then-n-eq-GSM_HR_LENGTH
+returns-then-n-eq-GSM_HR_LENGTH c =
+    (simp (ne_eqb _ _ c.if-class-eq0.false, eq-eqb _ _ c.if-n-eq-GSM_HR_LENGTH.true)) ∙ gsm_has _ _
 
-pub returns : goal.returns
-returns c =
-    (simp (ne_eqb _ _ c.if-class-eq0.false, ne_eqb _ _ c.if-n.false)) ∙ gsm_has _ _
+pub returns-else-n-eq-GSM_HR_LENGTH : goal.returns-else-n-eq-GSM_HR_LENGTH
+returns-else-n-eq-GSM_HR_LENGTH c =
+    (simp (ne_eqb _ _ c.if-class-eq0.false, ne_eqb _ _ c.if-n-eq-GSM_HR_LENGTH.false)) ∙ gsm_has _ _

@@ -5,9 +5,9 @@ use Rattle.console_text.specs.Lines.{gathered, frame_text}
 use Rattle.log_lines.specs.LineTexts.{shown_text}
 use Rattle.log_lines.proofs.words.put_shown.Goals as goal
 
-pub returns-clause-line_after : goal.returns-clause-line_after
+pub returns : goal.returns
 unfolding shown_text
-returns-clause-line_after c =
+returns c =
     let a = c.args in
     let f = a.frame in
-    c.put_frame.ensures.line_after ∙ ap (λ (bs : List ℕ). gathered a.line.now a.at (frame_text f.time f.channel f.class bs)) c.part_at-bytes.ensures
+    c.put_frame.ensures ∙ ap (λ (bs : List ℕ). gathered a.line.now (frame_text f.time f.channel f.class bs)) c.part_at-bytes.ensures

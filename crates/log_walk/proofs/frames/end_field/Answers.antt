@@ -1,4 +1,5 @@
-use mathlib.Core.Path.{◌≡◌, sym, ◌∙◌}
+use mathlib.Core.Path.{◌≡◌, sym, ap, ◌∙◌}
+use Rattle.std.specs.Prelude.{Err}
 use native.Mathlib.Omega.{arith}
 use Rattle.rtp.specs.Numbers.{be32}
 use Rattle.rtp.proofs.ByteLaws.{read_four}
@@ -13,11 +14,11 @@ read c =
 
 pub returns-then-n-ne-END_SIZE : goal.returns-then-n-ne-END_SIZE
 returns-then-n-ne-END_SIZE c =
-    c.refuse.ensures ∙ sym (end_length _ _ _ c.if-n-ne-END_SIZE.true)
+    ap Err c.into.ensures ∙ sym (end_length _ _ _ c.if-n-ne-END_SIZE.true)
 
 pub returns-then-read_u32-count : goal.returns-then-read_u32-count
 returns-then-read_u32-count c =
-    c.refuse-then-read_u32-count.ensures ∙ sym (end_count _ _ _ (omega arith) (λ e. c.if-read_u32-count.true (read (goal.at.returns-then-read_u32-count c).After-read_u32 ∙ e)))
+    ap Err c.into-then-read_u32-count.ensures ∙ sym (end_count _ _ _ (omega arith) (λ e. c.if-read_u32-count.true (read (goal.at.returns-then-read_u32-count c).After-read_u32 ∙ e)))
 
 pub returns-then-s : goal.returns-then-s
 returns-then-s c =
@@ -25,4 +26,4 @@ returns-then-s c =
 
 pub returns : goal.returns
 returns c =
-    c.refuse-2.ensures ∙ sym (end_more _ _ _ (omega arith) (omega (arith, read (goal.at.returns c).After-read_u32)) c.if-s.false)
+    sym (end_more _ _ _ (omega arith) (omega (arith, read (goal.at.returns c).After-read_u32)) c.if-s.false)

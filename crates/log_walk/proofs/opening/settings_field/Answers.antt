@@ -1,9 +1,9 @@
 use mathlib.Core.Path.{◌≡◌, sym, ap, ◌∙◌}
+use Rattle.std.specs.Prelude.{Ok}
 use native.Mathlib.Omega.{arith}
 use Rattle.rtp.specs.Editions.{current}
 use Rattle.rtp.specs.Ranges.{in_range}
 use Rattle.log_fields.specs.Fields.{settings_in}
-use Rattle.log_walk.specs.declared.opening.OpenAnswer.{OpenAnswer}
 use Rattle.log_walk.proofs.FieldLaws.{settings_length, settings_in_range, settings_out_of_range}
 use Rattle.log_walk.proofs.opening.settings_field.Goals.{After-in_range}
 use Rattle.log_walk.proofs.opening.settings_field.Goals as goal
@@ -19,7 +19,7 @@ returns-then-n-ne-SETTINGS_SIZE c =
 
 pub returns-then-in_range : goal.returns-then-in_range
 returns-then-in_range c =
-    ap OpenAnswer.Opened c.settings_in-found.ensures ∙ sym (settings_in_range current _ _ (omega arith) (asked (goal.at.returns-then-in_range c).After-in_range ∙ c.if-in_range.true))
+    ap Ok c.settings_in-found.ensures ∙ sym (settings_in_range current _ _ (omega arith) (asked (goal.at.returns-then-in_range c).After-in_range ∙ c.if-in_range.true))
 
 pub returns : goal.returns
 returns c =

@@ -1,4 +1,5 @@
-use mathlib.Core.Path.{◌≡◌, sym, ◌∙◌}
+use mathlib.Core.Path.{◌≡◌, sym, ap, ◌∙◌}
+use Rattle.std.specs.Prelude.{Err}
 use mathlib.Core.Bool.{true}
 use lib.ListN.{length}
 use Rattle.rtp.specs.Editions.{current}
@@ -19,15 +20,15 @@ fits c =
 
 pub returns-then-not-in_range : goal.returns-then-not-in_range
 returns-then-not-in_range c =
-    sym (step_out current _ _ (sym c.in_range.ensures ∙ c.if-not-in_range.true))
+    ap Err c.into.ensures ∙ sym (step_out current _ _ (sym c.in_range.ensures ∙ c.if-not-in_range.true))
 
 pub returns-then-not-cursor_fits : goal.returns-then-not-cursor_fits
 returns-then-not-cursor_fits c =
-    sym (step_unfit current _ _ (ranged (goal.at.returns-then-not-cursor_fits c).Else-not-in_range) (sym c.cursor_fits.ensures ∙ c.if-not-cursor_fits.true))
+    ap Err c.into-then-not-cursor_fits.ensures ∙ sym (step_unfit current _ _ (ranged (goal.at.returns-then-not-cursor_fits c).Else-not-in_range) (sym c.cursor_fits.ensures ∙ c.if-not-cursor_fits.true))
 
 pub walk_from-requires : goal.walk_from-requires
 walk_from-requires c =
-    (fits_is c.args.cursor _ (fits c)).1
+    (fits_is c.args.cursor _ (fits (goal.at.walk_from-requires c).Else-not-cursor_fits)).1
 
 pub returns : goal.returns
 returns c =

@@ -1,32 +1,31 @@
-use borrow.Author.Rules.{rules}
-use mathlib.Core.Path.{◌≡◌, sym, ◌∙◌}
-use mathlib.Core.List.{◌∷◌}
-use Prim.Native.Nat.{◌+◌}
-use lib.ListN.{drop}
-use Rattle.rtp.specs.Sizes.{row_width}
+use Rattle.std.proofs.Common.{◌≡◌, ◌∷◌, sym, ◌∙◌}
+use Rattle.std.specs.Slice.Iter.{chunks_exact_rest}
 use Rattle.write_plan.specs.Lists.{rows_in}
 use Rattle.write_plan.specs.Room.{row_as}
-use Rattle.log_writer.proofs.RowsLaws.{none_left, next_row, fit_none, fit_not, fit_more}
-use Rattle.log_writer.proofs.writing.all_fit.Goals.{After-first_row-row}
+use Rattle.write_plan.proofs.ListLaws.{rows_none}
+use Rattle.log_writer.proofs.RowsLaws.{row_next, fit_none, fit_not, fit_more}
+use Rattle.log_writer.proofs.writing.all_fit.Goals.{After-first_row}
 use Rattle.log_writer.proofs.writing.all_fit.Goals as goal
 
--- the row at this word, and the others
-row_here : (c : After-first_row-row) → let ws = c.args.rows.now in
-    rows_in (drop c.loop-at.at ws) ≡ row_as c.first_row-row.result ∷ rows_in (drop (c.loop-at.at + row_width) ws)
+-- the next row, and the others
+row_here : (c : After-first_row) → rows_in (chunks_exact_rest c.loop-words.words-iterator) ≡ row_as c.first_row.result ∷ rows_in (chunks_exact_rest c.next.new.self)
 row_here c =
-    next_row c.args.rows.now c.loop-at.at c.first_row-row.result c.first_row-row.ensures c.loop-at-test.true
+    let s = c.in-Some.ensures.steps in row_next _ c.in-Some.words.now _ c.first_row.result s.1.0 (s.1.1 ∙ c.loop-words.invariant.size) c.first_row.ensures
 
 pub returns-then-not-row_fits : goal.returns-then-not-row_fits
 returns-then-not-row_fits c =
     let a = c.args in
-    sym (c.loop-at.invariant.1 ∙ fit_not a.asked _ _ _ (row_here (goal.at.returns-then-not-row_fits c).After-first_row-row) (sym c.row_fits.ensures ∙ c.if-not-row_fits.true))
+    sym (c.loop-words.invariant.same ∙ fit_not a.asked _ _ _ (row_here (goal.at.returns-then-not-row_fits c).After-first_row) (sym c.row_fits.ensures ∙ c.if-not-row_fits.true))
 
-pub loop-at-preserved : goal.loop-at-preserved
-loop-at-preserved c =
+pub loop-words-preserved : goal.loop-words-preserved
+loop-words-preserved c =
     let a = c.args in
-    (search rules, c.loop-at.invariant.1 ∙ fit_more a.asked _ _ _ (row_here (goal.at.loop-at-preserved c).After-first_row-row) (sym c.row_fits.ensures ∙ c.if-not-row_fits.false))
+    record {
+      size = c.in-Some.ensures.steps.0 ∙ c.loop-words.invariant.size;
+      same = c.loop-words.invariant.same ∙ fit_more a.asked _ _ _ (row_here (goal.at.loop-words-preserved c).After-first_row) (sym c.row_fits.ensures ∙ c.if-not-row_fits.false);
+    }
 
 pub returns : goal.returns
 returns c =
     let a = c.args in
-    sym (c.loop-at.invariant.1 ∙ fit_none a.asked _ (none_left a.rows.now c.loop-at.at c.loop-at-test.false))
+    sym (c.loop-words.invariant.same ∙ fit_none a.asked _ (rows_none _ (rw c.loop-words.invariant.size at c.in-None.ensures.steps.1.0)))

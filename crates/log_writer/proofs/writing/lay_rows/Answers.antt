@@ -1,33 +1,32 @@
-use mathlib.Core.Path.{◌≡◌}
-use mathlib.Core.List.{◌∷◌}
-use Prim.Native.Nat.{◌+◌}
-use native.Mathlib.Omega.{arith}
-use lib.ListN.{drop}
-use Rattle.rtp.specs.Sizes.{row_width}
+use Rattle.std.proofs.Common.{◌≡◌, ◌∷◌, ◌∙◌}
+use Rattle.std.specs.Slice.Iter.{chunks_exact_rest}
 use Rattle.write_plan.specs.Lists.{rows_in}
 use Rattle.write_plan.specs.Room.{row_as}
-use Rattle.log_writer.proofs.RowsLaws.{none_left, next_row, going_start, going_end, going_room, going_more}
+use Rattle.write_plan.proofs.ListLaws.{rows_none}
+use Rattle.log_writer.proofs.RowsLaws.{row_next, going_room, going_more, going_end}
 use Rattle.log_writer.proofs.writing.lay_rows.Goals.{After-first_row-row}
 use Rattle.log_writer.proofs.writing.lay_rows.Goals as goal
 
--- the row at this word, and the others
-row_here : (c : After-first_row-row) → let ws = c.args.rows.now in
-    rows_in (drop c.loop-at.at ws) ≡ row_as c.first_row-row.result ∷ rows_in (drop (c.loop-at.at + row_width) ws)
+-- the next row, and the others
+row_here : (c : After-first_row-row)
+    → rows_in (chunks_exact_rest c.loop-words.words-iterator) ≡ row_as c.first_row-row.result ∷ rows_in (chunks_exact_rest c.next.new.self)
 row_here c =
-    next_row c.args.rows.now c.loop-at.at c.first_row-row.result c.first_row-row.ensures c.loop-at-test.true
-
-pub loop-at-init : goal.loop-at-init
-loop-at-init c =
-    let a = c.args in going_start a.rows.now a.bytes.now a.out.now c.requires
+    let s = c.in-Some.ensures.steps in row_next _ c.in-Some.words.now _ c.first_row-row.result s.1.0 (s.1.1 ∙ c.loop-words.invariant.size) c.first_row-row.ensures
 
 pub lay_row-requires : goal.lay_row-requires
 lay_row-requires c =
-    let a = c.args in going_room a.rows.now a.bytes.now a.out.now _ c.loop-at.at c.loop-at.place c.loop-at.invariant _ (row_here (goal.at.lay_row-requires c).After-first_row-row)
+    let a = c.args in
+    going_room a.rows.now a.bytes.now a.out.now _ _ c.loop-words.place c.loop-words.invariant.going _ _ (row_here (goal.at.lay_row-requires c).After-first_row-row)
 
-pub loop-at-preserved : goal.loop-at-preserved
-loop-at-preserved c =
-    let a = c.args in going_more a.rows.now a.bytes.now a.out.now _ c.loop-at.at c.loop-at.place c.loop-at.invariant _ (row_here (goal.at.loop-at-preserved c).After-first_row-row) _ (omega arith) c.lay_row.ensures
+pub loop-words-preserved : goal.loop-words-preserved
+loop-words-preserved c =
+    let a = c.args in
+    record {
+      size = c.in-Some.ensures.steps.0 ∙ c.loop-words.invariant.size;
+      going = going_more a.rows.now a.bytes.now a.out.now _ _ c.loop-words.place c.loop-words.invariant.going _ _ (row_here (goal.at.loop-words-preserved c).After-first_row-row) _ c.lay_row.ensures;
+    }
 
 pub returns : goal.returns
 returns c =
-    let a = c.args in going_end a.rows.now a.bytes.now a.out.now _ c.loop-at.at c.loop-at.place c.loop-at.invariant (none_left a.rows.now c.loop-at.at c.loop-at-test.false)
+    let a = c.args in
+    going_end a.rows.now a.bytes.now a.out.now _ _ c.loop-words.place c.loop-words.invariant.going (rows_none _ (rw c.loop-words.invariant.size at c.in-None.ensures.steps.1.0))

@@ -1,17 +1,14 @@
-use mathlib.Core.Path.{◌≡◌}
+use mathlib.Core.Path.{◌≡◌, sym, ap, ◌∙◌}
 use native.Mathlib.Omega.{arith}
 use Rattle.formats.specs.Frames.{frame_of}
 use Rattle.read_contents.proofs.EntryLaws.{min_some}
 use Rattle.read_contents.specs.Contents.{entry_of}
 use Rattle.formats.proofs.NumberLaws.{same_coded}
 use borrow.Author.Tests.{le-ltb, lt-ltb, eq-eqb, ne_eqb}
-use Rattle.read_contents.proofs.entries.read_entry.Goals.{After-frame_of}
+use Rattle.std.specs.Prelude.{Some, Err}
+use Rattle.rtp.proofs.ErrorLaws.{err_is, or_none, or_some}
+use Rattle.read_contents.proofs.entries.read_entry.Goals.{In_ok-frame}
 use Rattle.read_contents.proofs.entries.read_entry.Goals as goal
-
--- the frame of the code
-coded-at : (c : After-frame_of) → c.frame_of.result ≡ frame_of c.args.format c.code_in.result
-coded-at c =
-    same_coded _ _ c.frame_of.ensures
 
 pub returns-then-s-min_entry : goal.returns-then-s-min_entry
 unfolding entry_of
@@ -27,17 +24,23 @@ unfolding entry_of
 returns-then-s-size c =
     simp (← c.min_entry.ensures, le-ltb _ _ c.if-s-min_entry.false, ← c.wide-first.ensures.0, ← c.blocks_in-blocks.ensures.0, ← c.entry_size-size.ensures, lt-ltb _ _ c.if-s-size.true)
 
+frame-at : (c : In_ok-frame) → frame_of c.args.format c.code_in.result ≡ Some c.in_ok-frame.frame
+frame-at c =
+    sym (same_coded _ _ c.frame_of.ensures) ∙ or_some _ _ _ _ c.ok_or.ensures.value c.in_ok-frame.was
+
 pub returns-then-blocks-eq0 : goal.returns-then-blocks-eq0
 unfolding entry_of
 returns-then-blocks-eq0 c =
-    simp (← c.min_entry.ensures, le-ltb _ _ c.if-s-min_entry.false, ← c.wide-first.ensures.0, ← c.blocks_in-blocks.ensures.0, ← c.entry_size-size.ensures, le-ltb _ _ c.if-s-size.false, ← c.code_in.ensures.0, ← (coded-at (goal.at.returns-then-blocks-eq0 c).After-frame_of), c.in-Frame.is, eq-eqb _ _ c.if-blocks-eq0.true)
+    simp (← c.min_entry.ensures, le-ltb _ _ c.if-s-min_entry.false, ← c.wide-first.ensures.0, ← c.blocks_in-blocks.ensures.0, ← c.entry_size-size.ensures, le-ltb _ _ c.if-s-size.false, ← c.code_in.ensures.0, frame-at (goal.at.returns-then-blocks-eq0 c).In_ok-frame, eq-eqb _ _ c.if-blocks-eq0.true)
 
-pub returns-in-Reserved : goal.returns-in-Reserved
+pub returns-in_err-frame : goal.returns-in_err-frame
 unfolding entry_of
-returns-in-Reserved c =
-    simp (← c.min_entry.ensures, le-ltb _ _ c.if-s-min_entry.false, ← c.wide-first.ensures.0, ← c.blocks_in-blocks.ensures.0, ← c.entry_size-size.ensures, le-ltb _ _ c.if-s-size.false, ← c.code_in.ensures.0, ← (coded-at (goal.at.returns-in-Reserved c).After-frame_of), c.in-Reserved.is)
+returns-in_err-frame c =
+    let n = or_none _ _ _ _ c.ok_or.ensures.value c.in_err-frame.was in
+    rw (err_is _ _ c.from_residual.ensures.1 ∙ ap Err n.1)
+    (simp (← c.min_entry.ensures, le-ltb _ _ c.if-s-min_entry.false, ← c.wide-first.ensures.0, ← c.blocks_in-blocks.ensures.0, ← c.entry_size-size.ensures, le-ltb _ _ c.if-s-size.false, ← c.code_in.ensures.0, sym (same_coded _ _ c.frame_of.ensures) ∙ n.0))
 
-pub returns-else-blocks-eq0 : goal.returns-else-blocks-eq0
+pub returns : goal.returns
 unfolding entry_of
-returns-else-blocks-eq0 c =
-    simp (← c.min_entry.ensures, le-ltb _ _ c.if-s-min_entry.false, ← c.wide-first.ensures.0, ← c.blocks_in-blocks.ensures.0, ← c.entry_size-size.ensures, le-ltb _ _ c.if-s-size.false, ← c.code_in.ensures.0, ← (coded-at (goal.at.returns-else-blocks-eq0 c).After-frame_of), c.in-Frame.is, ne_eqb _ _ c.if-blocks-eq0.false)
+returns c =
+    simp (← c.min_entry.ensures, le-ltb _ _ c.if-s-min_entry.false, ← c.wide-first.ensures.0, ← c.blocks_in-blocks.ensures.0, ← c.entry_size-size.ensures, le-ltb _ _ c.if-s-size.false, ← c.code_in.ensures.0, frame-at (goal.at.returns c).In_ok-frame, ne_eqb _ _ c.if-blocks-eq0.false)

@@ -7,7 +7,7 @@ use Rattle.read_headers.proofs.redundancy.read_headers.Goals as goal
 pub returns-then-s-gt-MAX_PACKET : goal.returns-then-s-gt-MAX_PACKET
 unfolding redundancy_headers headers_numbers
 returns-then-s-gt-MAX_PACKET c =
-    simp (lt-ltb _ _ c.if-s-gt-MAX_PACKET.true)
+    rw c.from.ensures (simp (lt-ltb _ _ c.if-s-gt-MAX_PACKET.true))
 
 pub returns : goal.returns
 unfolding redundancy_headers

@@ -46,4 +46,4 @@ returns-then-head-settings-2 c =
 
 pub returns : goal.returns
 returns c =
-    let a = c.args in gives_none _ a.rows.now _ (typed_other current a.settings a.head a.packet.now c.if-head-settings.false c.if-head-settings-2.false)
+    let a = c.args in rw c.from.ensures (gives_none _ a.rows.now _ (typed_other current a.settings a.head a.packet.now c.if-head-settings.false c.if-head-settings-2.false))

@@ -8,12 +8,13 @@ returns-then-not-well_formed c =
 
 pub returns-then-reception-eq0 : goal.returns-then-reception-eq0
 returns-then-reception-eq0 c =
-    sym (report_none c.args.reception (sym c.well_formed-2.ensures ∙ c.if-not-well_formed.false) c.if-reception-eq0.true)
+    let e = c.default.ensures in
+    rw (e.0, e.1.0, e.1.1.0, e.1.1.1) (sym (report_none c.args.reception (sym c.well_formed-2.ensures ∙ c.if-not-well_formed.false) c.if-reception-eq0.true))
 
-pub block_of-block-requires : goal.block_of-block-requires
-block_of-block-requires c =
+pub block_of-requires : goal.block_of-requires
+block_of-requires c =
     sum_bounded c.args.reception (sym c.well_formed-2.ensures ∙ c.if-not-well_formed.false)
 
 pub returns : goal.returns
 returns c =
-    rw (c.block_of-block.ensures, c.note-next.ensures) (sym (report_block c.args.reception (sym c.well_formed-2.ensures ∙ c.if-not-well_formed.false) c.if-reception-eq0.false))
+    rw (c.block_of.ensures, c.note.ensures) (sym (report_block c.args.reception (sym c.well_formed-2.ensures ∙ c.if-not-well_formed.false) c.if-reception-eq0.false))

@@ -14,7 +14,8 @@ returns-then-number-counts c =
 pub returns-then-ahead : goal.returns-then-ahead
 unfolding doubted
 returns-then-ahead c =
-    rw c.after.ensures (sym (followed_doubt c.args.counts c.args.sequence c.if-ahead-lt-MAX_DROPOUT.false c.if-ahead.true c.if-number-counts.false))
+    c.refuse.ensures
+    ∙ rw c.after.ensures (sym (followed_doubt c.args.counts c.args.sequence c.if-ahead-lt-MAX_DROPOUT.false c.if-ahead.true c.if-number-counts.false))
 
 pub returns : goal.returns
 returns c =

@@ -6,6 +6,6 @@ pub returns-then-tag_mark-eq0 : goal.returns-then-tag_mark-eq0
 returns-then-tag_mark-eq0 c =
     joined_other _ _ _ (omega (arith, c.tag_mark.ensures.0, c.if-tag_mark-eq0.true)) c.tag_mark-then-tag_mark-eq0.ensures.0
 
-pub returns : goal.returns
-returns c =
+pub returns-else-tag_mark-eq0 : goal.returns-else-tag_mark-eq0
+returns-else-tag_mark-eq0 c =
     joined_own _ _ (λ e. c.if-tag_mark-eq0.false (omega (arith, c.tag_mark.ensures.0, e)))

@@ -6,6 +6,6 @@ pub returns-then-marker-eq0 : goal.returns-then-marker-eq0
 returns-then-marker-eq0 c =
     simp (eq-eqb _ _ c.if-marker-eq0.true) (omega arith)
 
-pub returns : goal.returns
-returns c =
+pub returns-else-marker-eq0 : goal.returns-else-marker-eq0
+returns-else-marker-eq0 c =
     simp (ne_eqb _ _ c.if-marker-eq0.false)

@@ -1,4 +1,11 @@
-use mathlib.Core.Path.{sym}
+use mathlib.Core.Path.{sym, ◌∙◌}
+use Prim.Native.Nat.{◌*◌}
+use lib.ListN.{length, get_or}
+use lib.Dec.{ltb}
+use borrow.Author.Tests.{ltb-true, ltb-false}
+use Rattle.std.proofs.Math.Nat.{min-eq_left, min-eq_right, min-le_right}
+use Rattle.rtp.specs.Sizes.{row_width}
+use Rattle.rtp.proofs.TestLaws.{by-test}
 use native.Mathlib.Omega.{arith}
 use Rattle.write_parts.proofs.WordLaws.{words_none, words_all, words_first}
 use Rattle.write_parts.proofs.sizes.first_words.Goals as goal
@@ -15,10 +22,12 @@ pub overflow_mul-words : goal.overflow_mul-words
 overflow_mul-words c =
     omega (arith, (c.shared_slice_known-1.given 0).fits)
 
-pub returns-then-rows-words : goal.returns-then-rows-words
-returns-then-rows-words c =
-    (sym (words_all _ _ c.if-rows-words.true), omega arith)
-
 pub returns : goal.returns
 returns c =
-    (sym (words_first _ _ c.if-rows-words.false), c.if-rows-words.false)
+    let ws = c.args.rows.now in
+    let n = row_width * get_or c.args.counts.now 0 0 in (
+      by-test (ltb (length ws) n)
+          (λ a. let h = ltb-true (length ws) n a in c.min.ensures ∙ min-eq_right (omega (arith, h)) ∙ sym (words_all _ _ h))
+          (λ a. let h = ltb-false (length ws) n a in c.min.ensures ∙ min-eq_left h ∙ sym (words_first _ _ h)),
+      rw c.min.ensures (min-le_right _ _),
+    )

@@ -6,7 +6,7 @@ unfolding max_gap
 returns-then-format_of c =
     simp (← c.format_of.ensures, c.if-format_of.true)
 
-pub returns : goal.returns
+pub returns-else-format_of : goal.returns-else-format_of
 unfolding max_gap
-returns c =
+returns-else-format_of c =
     simp (← c.format_of.ensures, c.if-format_of.false)

@@ -4,6 +4,6 @@ pub returns-then-has_code : goal.returns-then-has_code
 returns-then-has_code c =
     simp (← c.tag_class.ensures, ← c.has_code.ensures, c.if-has_code.true, ← c.ticks_after.ensures, ← c.whole_steps.ensures)
 
-pub returns : goal.returns
-returns c =
+pub returns-else-has_code : goal.returns-else-has_code
+returns-else-has_code c =
     simp (← c.tag_class.ensures, ← c.has_code.ensures, c.if-has_code.false)

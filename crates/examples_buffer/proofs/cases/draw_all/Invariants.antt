@@ -1,4 +1,0 @@
-use Rattle.examples_buffer.proofs.cases.draw_all.Given as goal
-
-abbrev pub decreases-loop-left : goal.decreases-loop-left
-decreases-loop-left l = l.left

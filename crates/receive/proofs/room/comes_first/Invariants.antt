@@ -1,8 +1,0 @@
-use Rattle.std.proofs.Common.{◌-◌, rules}
-use Rattle.receive.proofs.room.comes_first.Given as goal
-
-abbrev pub invariant-loop-i : goal.invariant-loop-i
-invariant-loop-i l = Unit
-
-abbrev pub decreases-loop-i : goal.decreases-loop-i
-decreases-loop-i l = 384 - l.i

@@ -1,0 +1,39 @@
+-- What is known at the exits of a `?`.
+use Prim.Native.Nat.{ℕ, ◌+◌, ◌<◌, ◌^◌}
+use Rattle.rtp.specs.declared.refusal.Fault.{Fault}
+use Rattle.rtp.specs.Faults.{shifted}
+use mathlib.Core.Path.{◌≡◌, refl, sym, ap, ◌∙◌}
+use Rattle.std.specs.Prelude.{Result, Ok, Err, Option, Some, None, MatchResult}
+use Rattle.std.specs.Result.{IsErrAnd}
+use Rattle.std.specs.Option.{ok_or}
+
+-- the error returned, where it is known
+pub err_is : {T E : Type 0} (r : Result T E) (x : E) → IsErrAnd r (λ y. y ≡ x) → r ≡ Err x
+err_is (Ok v) x h = absurd h
+err_is (Err y) x h = ap Err h
+
+ok_same : {T E : Type 0} (a b : T) → ◌≡◌ {A = Result T E} (Ok a) (Ok b) → a ≡ b
+ok_same a b h = cc
+
+err_same : {T E : Type 0} (a b : E) → ◌≡◌ {A = Result T E} (Err a) (Err b) → a ≡ b
+err_same a b h = cc
+
+-- what `shifted` lets through, and the fault that it makes
+pub shift_ok : {T : Type 0} (r s : Result T Fault) (n : ℕ) (x : T)
+    → MatchResult r (λ v. s ≡ Ok v) (λ f. n + f.offset < 2 ^ 64 → s ≡ Err (shifted n f)) → ((f : Fault) → r ≡ Err f → n + f.offset < 2 ^ 64) → s ≡ Ok x → r ≡ Ok x
+shift_ok (Ok v) s n x m k h = ap Ok (ok_same v x (sym m ∙ h))
+shift_ok (Err f) s n x m k h = let z = sym h ∙ m (k f refl) in cc
+
+pub shift_err : {T : Type 0} (r s : Result T Fault) (n : ℕ) (d : Fault)
+    → MatchResult r (λ v. s ≡ Ok v) (λ f. n + f.offset < 2 ^ 64 → s ≡ Err (shifted n f)) → ((f : Fault) → r ≡ Err f → n + f.offset < 2 ^ 64) → s ≡ Err d → (f : Fault) × (r ≡ Err f) × (d ≡ shifted n f)
+shift_err (Ok v) s n d m k h = let z = sym h ∙ m in cc
+shift_err (Err f) s n d m k h = (f, refl, err_same d (shifted n f) (sym h ∙ m (k f refl)))
+
+-- what an `ok_or` makes of an option
+pub or_none : {T E : Type 0} (o : Option T) (r : Result T E) (x e : E) → r ≡ ok_or o x → r ≡ Err e → (o ≡ None) × (e ≡ x)
+or_none None r x e h k = (refl, err_same e x (sym k ∙ h))
+or_none (Some v) r x e h k = cc
+
+pub or_some : {T E : Type 0} (o : Option T) (r : Result T E) (x : E) (v : T) → r ≡ ok_or o x → r ≡ Ok v → o ≡ Some v
+or_some None r x v h k = cc
+or_some (Some w) r x v h k = ap Some (ok_same w v (sym h ∙ k))
