@@ -51,7 +51,7 @@ fn read_length(input: &mut impl Read, program: Program<'_>, number: u64) -> Opti
         say_cut(program, number, 1, " of its length");
         return None;
     }
-    Some(256 * (high[0] as usize) + low[0] as usize)
+    Some(u16::from_be_bytes([high[0], low[0]]) as usize)
 }
 
 // The next packet, which is the one of this number, at the front of the area; none at the end, also where a packet is cut. What stands in the input is

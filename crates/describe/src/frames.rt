@@ -5,7 +5,7 @@ use console_text::STDOUT_FILENO;
 use console_text::lines::{Line, NotWritten};
 use console_text::words::Count;
 use row_tags::tagging;
-use rtp::sizes::{MAX_ROWS, ROW_AREA, ROW_WIDTH};
+use rtp::sizes::{ROW_AREA, ROW_WIDTH};
 use std::fmt::Write;
 
 // A frame of this format, by the four words of its row.
@@ -33,9 +33,10 @@ pub(crate) fn print(format: u8, rows: &[u32; ROW_AREA], count: u32) -> Result<()
         return words::print("  no frames");
     }
     words::print(format_args!("  {}", Count(count as u64, "frame:", "frames:")))?;
-    for i in 0..MAX_ROWS.min(count as usize) {
-        let at = ROW_WIDTH * i;
-        print_frame(format, rows[at], rows[at + 1], rows[at + 2], rows[at + 3])?;
+    for row in rows.chunks_exact(ROW_WIDTH).take(count as usize) {
+        if let [time, tag, start, length] = row {
+            print_frame(format, *time, *tag, *start, *length)?;
+        }
     }
     Ok(())
 }

@@ -37,9 +37,9 @@ fn read() -> [u8; LINE]
     ensures { result ≡ ended result }
 {
     let mut line = blank();
-    for i in 0..LINE {
+    for place in line.iter_mut() {
         let byte = next_byte().unwrap_or(0);
-        line[i] = byte;
+        *place = byte;
         if byte <= NEWLINE {
             return line;
         }

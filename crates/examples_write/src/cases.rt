@@ -39,12 +39,12 @@ impl Case {
     fn put_row(&mut self, line: &[u8; LINE]) {
         let numbers = numbers_of(line);
         for k in 0..script::count(line) {
-            if LIST <= self.words {
+            let Some(word) = self.rows.get_mut(self.words) else {
                 script::malformed(line);
                 return;
-            }
+            };
             if let Some(number) = numbers.get(k) {
-                self.rows[self.words] = *number;
+                *word = *number;
             }
             self.words += 1;
         }

@@ -1,5 +1,5 @@
 // The lines of a log in words: each function puts one after what a line holds.
-ghost use Rattle.std.specs.Prelude.{◌≡◌};
+ghost use Rattle.std.specs.Prelude.{◌≡◌, leb};
 ghost use Rattle.rtp.specs.Refusals.{number as number_of};
 ghost use Rattle.console_text.specs.Lines.{gathered};
 ghost use Rattle.log_lines.specs.LineTexts.{format_text, redundancy_text, settings_text, shown_text, end_text, refusal_text, fault_text, Begun};
@@ -8,23 +8,21 @@ use console::{frame_lines, refusals};
 use console_text::lines::Line;
 use log_reader::readers;
 use log_walk::frames::Shown;
+use rtp::payload_format::PayloadFormat;
 use rtp::refusal::{Fault, Refusal};
 use rtp::settings::{NO_REDUNDANCY, Settings};
-
-// Refusals from this number on are of a field, and have its place in the log.
-const OF_A_FIELD: u32 = 17;
 
 // Formats are in range in the settings of a log that is opened.
 fn put_format(line: &mut Line, format: u8)
     ensures { line.new ≡ gathered line.old (format_text format) }
 {
-    match format {
-        1 => line.put(b"log of G.719, "),
-        2 => line.put(b"log of G.719 interleaved, "),
-        3 => line.put(b"log of GSM-HR, "),
-        4 => line.put(b"log of AMR, "),
-        5 => line.put(b"log of AMR-WB, "),
-        _ => line.put(b""),
+    match PayloadFormat::try_from(format) {
+        Ok(PayloadFormat::G719) => line.put(b"log of G.719, "),
+        Ok(PayloadFormat::G719Interleaved) => line.put(b"log of G.719 interleaved, "),
+        Ok(PayloadFormat::GsmHr) => line.put(b"log of GSM-HR, "),
+        Ok(PayloadFormat::Amr) => line.put(b"log of AMR, "),
+        Ok(PayloadFormat::AmrWb) => line.put(b"log of AMR-WB, "),
+        Err(_) => line.put(b""),
     }
 }
 
@@ -80,13 +78,23 @@ pub(crate) fn put_refusal(line: &mut Line, why: Refusal)
     refusals::put_reason(line, number);
 }
 
+// Whether a refusal is of a field, and has its place in the log.
+fn is_of_field(why: Refusal) -> bool
+    ensures { result ≡ leb 17 (number_of why) }
+{
+    matches!(
+        why,
+        Refusal::CutField | Refusal::MisplacedTag | Refusal::NotAllowed | Refusal::WrongCount
+    )
+}
+
 // .. and between them the place in the log of the field at fault, if the refusal is of a field.
 pub(crate) fn put_fault(line: &mut Line, fault: Fault)
     ensures { Begun line.old (fault_text (number_of fault.refusal) fault.offset) line.new }
 {
     let why = fault.refusal;
     let number = u32::from(why);
-    if number < OF_A_FIELD {
+    if !is_of_field(why) {
         put_refusal(line, why);
         return;
     }

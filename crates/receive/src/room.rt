@@ -17,12 +17,14 @@ pub(crate) struct Wanted {
     count: usize,
 }
 
-// The rows of a packet at the front of the area; answers how many they are, 0 if the packet is refused.
-fn read_rows(settings: Settings, packet: &[u8], rows: &mut [u32; ROW_AREA]) -> usize {
-    match reading::read(settings, packet, rows) {
-        Ok(head) => head.rows as usize,
-        Err(_) => 0,
-    }
+// The rows of a packet, at the front of the area; none if the packet is refused.
+fn read_rows<'a>(
+    settings: Settings,
+    packet: &[u8],
+    area: &'a mut [u32; ROW_AREA],
+) -> Option<&'a [u32]> {
+    let head = reading::read(settings, packet, area).ok()?;
+    area.get(..ROW_WIDTH * head.rows as usize)
 }
 
 fn is_late(buffer: &Buffer, time: u32, channel: u32) -> bool {
@@ -45,18 +47,27 @@ fn needs_slot(buffer: &Buffer, time: u32, tag: u32) -> bool {
         && !is_held(buffer, time, channel)
 }
 
+// The time of a row whose frame needs a slot.
+fn needed_time(buffer: &Buffer, row: &[u32]) -> Option<u32> {
+    match row {
+        [time, tag, ..] if needs_slot(buffer, *time, *tag) => Some(*time),
+        _ => None,
+    }
+}
+
 impl Wanted {
     // What of a packet needs a slot.
     pub(crate) fn find(buffer: &Buffer, packet: &[u8]) -> Wanted {
-        let mut rows = [0u32; ROW_AREA];
-        let n = read_rows(buffer.settings, packet, &mut rows);
+        let mut area = [0u32; ROW_AREA];
+        let rows = read_rows(buffer.settings, packet, &mut area).unwrap_or(&[]);
         let mut times = [0u32; MAX_ROWS];
         let mut count = 0;
-        for row in 0..n.min(MAX_ROWS) {
-            let at = ROW_WIDTH * row;
-            let time = rows[at];
-            if needs_slot(buffer, time, rows[at + 1]) {
-                times[count] = time;
+        let needed = rows
+            .chunks_exact(ROW_WIDTH)
+            .filter_map(|row| needed_time(buffer, row));
+        for time in needed {
+            if let Some(place) = times.get_mut(count) {
+                *place = time;
                 count += 1;
             }
         }

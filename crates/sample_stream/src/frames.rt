@@ -39,30 +39,29 @@ fn length_of(packet: u8) -> u32 {
 // The rows of packet k - 1, then those of packet k: time, tag (sound of channel 0; the writer ignores the mark), start and length.
 pub(crate) fn rows(k: u8) -> [u32; WORDS] {
     let mut words = [0u32; WORDS];
-    for row in 0..ROWS {
-        let at = ROW_WIDTH * row as usize;
-        words[at] = time_of(number_of(k, row));
-        words[at + 1] = tagging::pack_tag(tagging::PRIMARY, 1, 0);
-        words[at + 2] = LONG * row as u32;
-        words[at + 3] = length_of(packet_of(k, row));
+    for (row, place) in (0..ROWS).zip(words.chunks_exact_mut(ROW_WIDTH)) {
+        if let [time, tag, start, length] = place {
+            *time = time_of(number_of(k, row));
+            *tag = tagging::pack_tag(tagging::PRIMARY, 1, 0);
+            *start = LONG * row as u32;
+            *length = length_of(packet_of(k, row));
+        }
     }
     words
 }
 
 // A byte of a frame: the low and the high byte of the frame-block's number, then bytes that count up.
 fn frame_byte(number: u16, place: u8) -> u8 {
+    let [low, high] = number.to_le_bytes();
     match place {
-        0 => (number % 256) as u8,
-        1 => (number / 256) as u8,
-        _ => ((number % 256) as u8).wrapping_add(place),
+        0 => low,
+        1 => high,
+        _ => low.wrapping_add(place),
     }
 }
 
 // The bytes that the rows point into.
 pub(crate) fn sound(k: u8) -> [u8; BYTES] {
-    let mut bytes = [0u8; BYTES];
-    for i in 0..BYTES {
-        bytes[i] = frame_byte(number_of(k, (i / 120) as u8), (i % 120) as u8);
-    }
-    bytes
+    let long = LONG as usize;
+    std::array::from_fn(|i| frame_byte(number_of(k, (i / long) as u8), (i % long) as u8))
 }

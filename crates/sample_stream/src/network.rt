@@ -12,11 +12,12 @@ const CUT: u8 = 52;
 
 const CUT_BYTES: usize = 10;
 
-// Writes a packet behind the number of its bytes. Whether the output takes it is not asked.
+// Writes a packet behind the number of its bytes, which fits in two. Whether the output takes it is not asked.
 fn put(packet: &[u8]) {
-    let n = packet.len();
-    io::write_all(STDOUT_FILENO, &[(n / 256 % 256) as u8, (n % 256) as u8]);
-    io::write_all(STDOUT_FILENO, packet);
+    if let Ok(n) = u16::try_from(packet.len()) {
+        io::write_all(STDOUT_FILENO, &n.to_be_bytes());
+        io::write_all(STDOUT_FILENO, packet);
+    }
 }
 
 // Packet k as it comes.

@@ -1,44 +1,45 @@
-use Rattle.std.proofs.Common.{arith}
 use mathlib.Core.Path.{ap, sym, ◌∙◌}
 use Prim.Native.Nat.{ℕ}
 use borrow.Author.Tests.{ne_eqb}
+use Rattle.rtp.specs.declared.payload_format.PayloadFormat.TheVariants.{G719, G719Interleaved, GsmHr, Amr, AmrWb}
+use Rattle.rtp.specs.PayloadFormats.{format_number}
 use Rattle.console_text.specs.Lines.{gathered}
 use Rattle.log_lines.specs.LineTexts.{format_text}
 use Rattle.log_lines.proofs.words.put_format.Goals as goal
 
-pub returns-in-1 : goal.returns-in-1
+pub returns-in-Ok-G719 : goal.returns-in-Ok-G719
 unfolding format_text
-returns-in-1 c =
-    let a = c.args in
-    c.put.ensures.line_after ∙ ap (λ (k : ℕ). gathered a.line.now (format_text k)) (sym c.in-1.is)
+returns-in-Ok-G719 c =
+    let w = c.in-Ok-G719 in
+    c.put.ensures.line_after ∙ ap (λ (k : ℕ). gathered c.args.line.now (format_text k)) (ap format_number (sym w.field-0-is) ∙ w.ensures)
 
-pub returns-in-2 : goal.returns-in-2
+pub returns-in-Ok-G719Interleaved : goal.returns-in-Ok-G719Interleaved
 unfolding format_text
-returns-in-2 c =
-    let a = c.args in
-    c.put-in-2.ensures.line_after ∙ ap (λ (k : ℕ). gathered a.line.now (format_text k)) (sym c.in-2.is)
+returns-in-Ok-G719Interleaved c =
+    let w = c.in-Ok-G719Interleaved in
+    c.put-in-Ok-G719Interleaved.ensures.line_after ∙ ap (λ (k : ℕ). gathered c.args.line.now (format_text k)) (ap format_number (sym w.field-0-is) ∙ w.ensures)
 
-pub returns-in-3 : goal.returns-in-3
+pub returns-in-Ok-GsmHr : goal.returns-in-Ok-GsmHr
 unfolding format_text
-returns-in-3 c =
-    let a = c.args in
-    c.put-in-3.ensures.line_after ∙ ap (λ (k : ℕ). gathered a.line.now (format_text k)) (sym c.in-3.is)
+returns-in-Ok-GsmHr c =
+    let w = c.in-Ok-GsmHr in
+    c.put-in-Ok-GsmHr.ensures.line_after ∙ ap (λ (k : ℕ). gathered c.args.line.now (format_text k)) (ap format_number (sym w.field-0-is) ∙ w.ensures)
 
-pub returns-in-4 : goal.returns-in-4
+pub returns-in-Ok-Amr : goal.returns-in-Ok-Amr
 unfolding format_text
-returns-in-4 c =
-    let a = c.args in
-    c.put-in-4.ensures.line_after ∙ ap (λ (k : ℕ). gathered a.line.now (format_text k)) (sym c.in-4.is)
+returns-in-Ok-Amr c =
+    let w = c.in-Ok-Amr in
+    c.put-in-Ok-Amr.ensures.line_after ∙ ap (λ (k : ℕ). gathered c.args.line.now (format_text k)) (ap format_number (sym w.field-0-is) ∙ w.ensures)
 
-pub returns-in-5 : goal.returns-in-5
+pub returns-in-Ok-AmrWb : goal.returns-in-Ok-AmrWb
 unfolding format_text
-returns-in-5 c =
-    let a = c.args in
-    c.put-in-5.ensures.line_after ∙ ap (λ (k : ℕ). gathered a.line.now (format_text k)) (sym c.in-5.is)
+returns-in-Ok-AmrWb c =
+    let w = c.in-Ok-AmrWb in
+    c.put-in-Ok-AmrWb.ensures.line_after ∙ ap (λ (k : ℕ). gathered c.args.line.now (format_text k)) (ap format_number (sym w.field-0-is) ∙ w.ensures)
 
-pub returns-in_default : goal.returns-in_default
+pub returns-in-Err : goal.returns-in-Err
 unfolding format_text
-returns-in_default c =
-    let a = c.args in
-    let k = a.format in
-    simp (ne_eqb k 1 (omega arith), ne_eqb k 2 (omega arith), ne_eqb k 3 (omega arith), ne_eqb k 4 (omega arith), ne_eqb k 5 (omega arith)) c.put-in_default.ensures.line_after
+returns-in-Err c =
+    let k = c.args.format in
+    let none = c.in-Err.ensures.1 in
+    simp (ne_eqb k 1 (λ e. none G719 (sym e)), ne_eqb k 2 (λ e. none G719Interleaved (sym e)), ne_eqb k 3 (λ e. none GsmHr (sym e)), ne_eqb k 4 (λ e. none Amr (sym e)), ne_eqb k 5 (λ e. none AmrWb (sym e))) c.put-in-Err.ensures.line_after
