@@ -1,12 +1,8 @@
 // Two of the three calls on a reorder buffer: new and offer.
 ghost use Rattle.std.specs.Prelude.{◌≡◌, true};
 ghost use Rattle.rtp.specs.Editions.{current};
-ghost use Rattle.rtp.specs.Ranges.{in_range};
-ghost use Rattle.read_rows.specs.Rows.{rows_in};
-ghost use Rattle.buffer_insert.specs.Tallies.{no_tally};
-ghost use Rattle.buffer_offer.specs.Judging.{RowsJudgeable};
+ghost use Rattle.buffer_layout.specs.Arrays.{Machine};
 ghost use Rattle.buffer_offer.specs.Calls.{new_number, new_call, offer_numbers, offer_call};
-ghost use Rattle.buffer_offer.specs.Offers.{OfferJudged};
 
 use crate::judging;
 use buffer_insert::tally::Tally;
@@ -32,52 +28,38 @@ pub fn new(settings: Settings) -> Answered<Result<(), Refusal>>
     Answered::refused(Refusal::SettingsOutOfRange, buffer::fresh_buffer(none))
 }
 
-// An offer whose packet was read into these rows.
-fn offer_rows(
-    mut buffer: Buffer,
-    packet: &[u8],
-    rows: &[u32],
-    store: &mut [u8],
-) -> Answered<Result<Tally, Fault>>
-    requires { RowsJudgeable current buffer packet.now (rows_in rows.now) no_tally store.old }
-    ensures { OfferJudged buffer result.buffer packet.now (rows_in rows.now) result.answer store.old store.new }
-{
-    let tally = judging::judge_rows(&mut buffer, packet, rows, store);
-    Answered {
-        answer: Ok(tally),
-        buffer,
-    }
-}
-
-// An offer under settings in range.
-fn offer_checked(
-    buffer: Buffer,
+// An offer to a buffer, which is judged in place: a refusal moves nothing.
+fn offer_to(
+    buffer: &mut Buffer,
     packet: &[u8],
     rows: &mut [u32],
     store: &mut [u8],
-) -> Answered<Result<Tally, Fault>>
-    requires { in_range current buffer.settings ≡ true }
-    ensures { record { answer = offer_numbers result.answer; buffer = result.buffer; rows = rows.new; store = store.new }
-        ≡ offer_call current buffer packet.now rows.old store.old }
+) -> Result<Tally, Fault>
+    requires { Machine buffer.old }
+    ensures { record { answer = offer_numbers result; buffer = buffer.new; rows = rows.new; store = store.new }
+        ≡ offer_call current buffer.old packet.now rows.old store.old }
 {
+    if !settings::in_range(buffer.settings) {
+        return Err(Fault::from(Refusal::SettingsOutOfRange));
+    }
     if !buffer.is_well_formed() {
-        return Answered::refused(Fault::from(Refusal::Malformed), buffer);
+        return Err(Fault::from(Refusal::Malformed));
     }
     if rows.len() < ROW_AREA || store.len() < STORE_SIZE {
-        return Answered::refused(Fault::from(Refusal::AreaTooShort), buffer);
+        return Err(Fault::from(Refusal::AreaTooShort));
     }
     match reading::read(buffer.settings, packet, rows) {
-        Err(fault) => Answered::refused(fault, buffer),
+        Err(fault) => Err(fault),
         Ok(head) => {
             let words = ROW_WIDTH * (head.rows as usize);
-            offer_rows(buffer, packet, &rows[..words], store)
+            Ok(judging::judge_rows(buffer, packet, &rows[..words], store))
         }
     }
 }
 
 // A packet offered: its rows are read into the row area and judged in order; or a refusal, and everything as it stood.
 pub fn offer(
-    buffer: Buffer,
+    mut buffer: Buffer,
     packet: &[u8],
     rows: &mut [u32],
     store: &mut [u8],
@@ -85,9 +67,6 @@ pub fn offer(
     ensures { record { answer = offer_numbers result.answer; buffer = result.buffer; rows = rows.new; store = store.new }
         ≡ offer_call current buffer packet.now rows.old store.old }
 {
-    let settings = buffer.settings;
-    if settings::in_range(settings) {
-        return offer_checked(buffer, packet, rows, store);
-    }
-    Answered::refused(Fault::from(Refusal::SettingsOutOfRange), buffer)
+    let answer = offer_to(&mut buffer, packet, rows, store);
+    Answered { answer, buffer }
 }

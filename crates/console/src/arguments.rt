@@ -1,20 +1,23 @@
 // A program's arguments: four numbers, the settings, which a word may follow.
+ghost use Rattle.std.specs.Prelude.{◌≡◌, [], ◌∷◌};
 ghost use Rattle.io.specs.Counts.{IsPrefixLen};
+ghost use Rattle.console_text.specs.Lines.{gathered};
 ghost use Rattle.console.specs.Answers.{InRange, WordSized};
 
+use console_text::lines::Line;
 use console_text::{STDERR_FILENO, STDOUT_FILENO, lines, numbers};
 use rtp::settings;
 use rtp::settings::Settings;
 use std::env::{Env, FillError};
-use std::fmt::Display;
+use std::fmt::{Display, Write};
 use std::io::Error;
 
 // The bytes of the longest argument that is read.
 const LONGEST: usize = 16;
 
 // What the four numbers are.
-const NUMBERS: &str =
-    "  FORMAT      payload format: 1 = G.719 basic, 2 = G.719 interleaved, 3 = GSM-HR, 4 = AMR, 5 = AMR-WB
+const NUMBERS: &[u8] =
+    b"  FORMAT      payload format: 1 = G.719 basic, 2 = G.719 interleaved, 3 = GSM-HR, 4 = AMR, 5 = AMR-WB
   CHANNELS    1 to 6; only 1 for GSM-HR, AMR and AMR-WB
   TYPE        payload type of this format, 0 to 127
   REDUNDANCY  payload type of redundancy (RFC 2198), 0 to 127 and not TYPE; 128 = none
@@ -24,8 +27,8 @@ const NUMBERS: &str =
 // A program's name, and what it does.
 #[derive(Clone, Copy)]
 pub struct Program<'a> {
-    pub name: &'a str,
-    pub purpose: &'a str,
+    pub name: &'a [u8],
+    pub purpose: &'a [u8],
 }
 
 // Argument i at the front of the area; answers how many bytes it has. A missing argument and one that is longer than the area come as an empty text.
@@ -68,20 +71,44 @@ fn are_four(rt: &impl Env, word: &[u8]) -> bool {
 
 impl<'a> Program<'a> {
     // How the program is called, with which arguments, and what it does. Whether the output takes it is not asked, here and below.
-    pub fn print_call(self, fd: i32, arguments: &str) {
-        let _ = lines::print(fd, format_args!("usage: {}{arguments}", self.name));
-        let _ = lines::write(fd, self.purpose.as_bytes());
+    pub fn print_call(self, fd: i32, arguments: &[u8]) {
+        let mut line = Line::new();
+        line.put(b"usage: ");
+        line.put(self.name);
+        line.put(arguments);
+        let _ = line.print(fd);
+        let _ = lines::write(fd, self.purpose);
     }
 
     // .. with four numbers.
     fn print_usage(self, fd: i32) {
-        self.print_call(fd, " FORMAT CHANNELS TYPE REDUNDANCY < PACKETS");
-        let _ = lines::write(fd, NUMBERS.as_bytes());
+        self.print_call(fd, b" FORMAT CHANNELS TYPE REDUNDANCY < PACKETS");
+        let _ = lines::write(fd, NUMBERS);
+    }
+
+    // A line that begins with the program's name.
+    pub fn line(self) -> Line
+        ensures { result ≡ gathered (gathered [] self.entry.name.now) (58 ∷ 32 ∷ []) }
+    {
+        let mut line = Line::new();
+        line.put(self.name);
+        line.put(b": ");
+        line
     }
 
     // Words to standard error, behind the program's name.
     pub fn say(self, words: impl Display + Drop) {
-        let _ = lines::print(STDERR_FILENO, format_args!("{}: {words}", self.name));
+        let mut line = self.line();
+        let _ = line.write_fmt(words);
+        let _ = line.print(STDERR_FILENO);
+    }
+
+    // .. of which the first are bytes.
+    pub fn say_fault(self, subject: &[u8], fault: &[u8]) {
+        let mut line = self.line();
+        line.put(subject);
+        line.put(fault);
+        let _ = line.print(STDERR_FILENO);
     }
 
     // Why standard input cannot be read.

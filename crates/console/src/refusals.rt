@@ -1,5 +1,6 @@
 // Refusals in words.
-ghost use Rattle.console_text.specs.Lines.{Continued};
+ghost use Rattle.std.specs.Prelude.{◌≤◌, length};
+ghost use Rattle.console_text.specs.Lines.{line_size, Continued};
 
 use console_text::lines::Line;
 
@@ -31,7 +32,8 @@ pub fn reason(number: u32) -> &'static str {
 
 // The reason, put after what the line holds. The rules leave the words open.
 pub fn put_reason(line: &mut Line, number: u32)
-    ensures { Continued line.old line.new }
+    ensures continued { Continued line.old line.new }
+    ensures fits { length line.new ≤ line_size }
 {
     line.put(reason(number).as_bytes());
 }

@@ -1,14 +1,14 @@
 // A line of output, gathered in memory and then written at once. What has no room in it is left out.
-ghost use Rattle.std.specs.Prelude.{◌/◌, ◌%◌, ◌<◌, ◌≡◌, [], ◌∷◌, ◌++◌};
+ghost use Rattle.std.specs.Prelude.{◌/◌, ◌%◌, ◌<◌, ◌≤◌, ◌≡◌, [], ◌∷◌, ◌++◌, length, take};
 ghost use Rattle.io.specs.Digits.{hex_digit_ascii as glyph_of};
-ghost use Rattle.console_text.specs.Lines.{gathered, decimal, counted, hexadecimal, bytes_of, Continued};
+ghost use Rattle.console_text.specs.Lines.{line_size, gathered, decimal, counted, hexadecimal, bytes_of, Continued};
 
 use std::fmt;
 use std::fmt::{Display, Write};
 use std::marker::Model;
 
 // The bytes of the longest line.
-const LINE: usize = 1024;
+pub const LINE: usize = 1024;
 
 // The output did not take all that was to be written.
 #[derive(Clone, Copy, Debug, PartialEq, Eq)]
@@ -67,10 +67,28 @@ impl Line {
         }
     }
 
+    // A line that holds the first `at` bytes of an area, or all.
+    pub fn of(area: &[u8; LINE], at: usize) -> Line
+        ensures { result ≡ take at area.now }
+    {
+        Line {
+            bytes: *area,
+            length: at.min(LINE),
+        }
+    }
+
+    // The bytes that the line holds.
+    pub fn bytes(&self) -> &[u8]
+        ensures { result.now ≡ self.now }
+    {
+        &self.bytes[..self.length]
+    }
+
     // A text after what the line holds.
     pub fn put(&mut self, text: &[u8])
         ensures line_after { self.new ≡ gathered self.old text.now }
         ensures continued { Continued self.old self.new }
+        ensures fits { length self.new ≤ line_size }
     {
         let start = self.length;
         let n = text.len().min(LINE - start);
@@ -114,14 +132,18 @@ impl Line {
     }
 
     // The line and its end written, with one call where the system takes them at once. The rules leave open whether it does.
-    pub fn print(&mut self, fd: i32) -> Result<(), NotWritten> {
+    pub fn print(&mut self, fd: i32) -> Result<(), NotWritten>
+        ensures { self.new ≡ gathered self.old (10 ∷ []) }
+    {
         self.put(b"\n");
-        write(fd, &self.bytes[..self.length])
+        write(fd, self.bytes())
     }
 }
 
-// For `write!`: words that no rule fixes. What has no room is left out here too, and is no error.
+// For `write!`, which lays the bytes that its values say that they print. What has no room is left out here too, and is no error.
 impl Write for Line {
+    ghost write_str_gives = { λ line text after. after ≡ gathered line text };
+
     fn write_str(&mut self, text: &str) -> fmt::Result {
         self.put(text.as_bytes());
         Ok(())

@@ -15,10 +15,15 @@ fn print_fields(head: Header) -> Result<(), NotWritten> {
     } else {
         "marker"
     };
-    words::print(format_args!(
-        "  sequence {}, timestamp {}, source 0x{:08x}, payload type {}, {marker}",
-        head.sequence, head.timestamp, head.source, head.payload_type,
-    ))
+    let mut line = Line::new();
+    write!(
+        line,
+        "  sequence {}, timestamp {}, source 0x",
+        head.sequence, head.timestamp,
+    )?;
+    line.put_word(head.source);
+    write!(line, ", payload type {}, {marker}", head.payload_type)?;
+    line.print(STDOUT_FILENO)
 }
 
 // The parts before the payload, of which the first byte tells, and its bounds, in a packet of so many bytes.

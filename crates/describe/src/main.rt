@@ -16,8 +16,8 @@ use rtp::settings::Settings;
 use std::io::Read;
 
 const DESCRIBE: Program = Program {
-    name: "describe",
-    purpose: "Prints each packet in words: header, redundancy blocks and frames, or why it is refused.\n",
+    name: b"describe",
+    purpose: b"Prints each packet in words: header, redundancy blocks and frames, or why it is refused.\n",
 };
 
 // All packets, up to a number that no run reaches.

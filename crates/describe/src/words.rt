@@ -1,4 +1,8 @@
 // Words for numbers, classes and frame types, and a line printed.
+ghost use Rattle.std.specs.Prelude.{Some, ◌++◌, cond, eqb};
+ghost use Rattle.std.specs.Fmt.{decimal};
+ghost use Rattle.console_text.specs.Ascii.{ascii};
+
 use console_text::lines::NotWritten;
 use console_text::words::Count;
 use console_text::{STDOUT_FILENO, lines};
@@ -17,6 +21,14 @@ pub(crate) fn bytes(n: usize) -> Count {
 pub(crate) struct Class(pub u32);
 
 impl Display for Class {
+    ghost output = { λ c. Some
+        (cond (eqb c.0 0) (ascii "no data")
+        (cond (eqb c.0 1) (ascii "sound")
+        (cond (eqb c.0 2) (ascii "silence descriptor (SID)")
+        (cond (eqb c.0 5) (ascii "damaged sound")
+        (cond (eqb c.0 6) (ascii "damaged silence descriptor (SID)")
+        (ascii "class " ++ decimal c.0)))))) };
+
     fn fmt<W: Write>(&self, f: &mut Formatter<W>) -> fmt::Result {
         match self.0 {
             0 => write!(f, "no data"),

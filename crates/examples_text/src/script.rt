@@ -47,11 +47,18 @@ fn read() -> [u8; LINE]
     line
 }
 
+// Whether the input had a line.
+pub fn is_line(line: &[u8; LINE]) -> bool
+    ensures { result ≡ is_line line.now }
+{
+    0 < byte(line, 0)
+}
+
 // A line, none where the input had none.
 fn given(line: [u8; LINE]) -> Option<[u8; LINE]>
     ensures { result ≡ cond (is_line line) (Some line) None }
 {
-    (0 < byte(&line, 0)).then_some(line)
+    is_line(&line).then_some(line)
 }
 
 // The next line with its end, and zeros; none at the end of the input. Which bytes it has is open.

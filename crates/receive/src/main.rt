@@ -15,8 +15,8 @@ use console::arguments;
 use console::arguments::Program;
 
 const RECEIVE: Program = Program {
-    name: "receive",
-    purpose: "   or: receive FORMAT CHANNELS TYPE REDUNDANCY log < PACKETS\nPrints each frame once, in time order: time, channel, class, length, bytes, first-hand or by-redundancy; each gap; each packet refused; then a summary.\nWith `log` it writes the frames to standard output as a log, which show_log prints, and packets refused and the summary to standard error.\n",
+    name: b"receive",
+    purpose: b"   or: receive FORMAT CHANNELS TYPE REDUNDANCY log < PACKETS\nPrints each frame once, in time order: time, channel, class, length, bytes, first-hand or by-redundancy; each gap; each packet refused; then a summary.\nWith `log` it writes the frames to standard output as a log, which show_log prints, and packets refused and the summary to standard error.\n",
 };
 
 fn main(rt: HostRuntime) {

@@ -14,18 +14,22 @@ use report::calls::ReportBlock;
 use report::record::Reception;
 use row_tags::tagging::PRIMARY;
 use rtp::refusal::{Fault, Refusal};
-use std::fmt::Display;
+use std::fmt::{Display, Write};
 
 // Progress is said after each so many packets.
 const PROGRESS: u64 = 100000;
 
-// Words on a line. Whether standard error takes them is not asked.
-fn print(fd: i32, words: impl Display + Drop) -> Result<(), NotWritten> {
-    let printed = lines::print(fd, words);
+// Whether standard error takes what is printed is not asked.
+fn taken(fd: i32, printed: Result<(), NotWritten>) -> Result<(), NotWritten> {
     if fd == STDERR_FILENO {
         return Ok(());
     }
     printed
+}
+
+// Words on a line.
+fn print(fd: i32, words: impl Display + Drop) -> Result<(), NotWritten> {
+    taken(fd, lines::print(fd, words))
 }
 
 // A line: time, channel, class, length, the bytes in hexadecimal, and whether they were heard first-hand. A frame has no more bytes than these.
@@ -115,10 +119,10 @@ fn print_sources(fd: i32, sources: &Sources) -> Result<(), NotWritten> {
     match sources.first {
         Some(first) if sources.others > 0 => {
             let packets = Count(sources.others, "packet is", "packets are");
-            print(
-                fd,
-                format_args!("more than one source: {packets} not of source 0x{first:08x}"),
-            )
+            let mut line = Line::new();
+            write!(line, "more than one source: {packets} not of source 0x")?;
+            line.put_word(first);
+            taken(fd, line.print(fd))
         }
         _ => Ok(()),
     }
@@ -161,9 +165,13 @@ pub(crate) fn print_summary(
 
 // Says that the packet of this number is the first of another source than the packets before it.
 pub(crate) fn warn_source(number: u64, source: u32, first: u32) {
-    RECEIVE.say(format_args!(
-        "warning: packet {number} is of source 0x{source:08x}, those before it of 0x{first:08x}; frames of more than one source are merged",
-    ));
+    let mut line = RECEIVE.line();
+    let _ = write!(line, "warning: packet {number} is of source 0x");
+    line.put_word(source);
+    line.put(b", those before it of 0x");
+    line.put_word(first);
+    line.put(b"; frames of more than one source are merged");
+    let _ = line.print(STDERR_FILENO);
 }
 
 // Says that a field of the log is left out, and why.

@@ -1,8 +1,10 @@
 -- What is known at the exits of a `?`.
 use Prim.Native.Nat.{ℕ, ◌+◌, ◌<◌, ◌^◌}
 use Rattle.rtp.specs.declared.refusal.Fault.{Fault}
-use Rattle.rtp.specs.Faults.{shifted}
+use Rattle.rtp.specs.Faults.{fault_at, shifted, told}
 use mathlib.Core.Path.{◌≡◌, refl, sym, ap, ◌∙◌}
+use native.Mathlib.Omega.{arith}
+use Rattle.std.proofs.Math.Nat.{min-eq_left}
 use Rattle.std.specs.Prelude.{Result, Ok, Err, Option, Some, None, MatchResult}
 use Rattle.std.specs.Result.{IsErrAnd}
 use Rattle.std.specs.Option.{ok_or}
@@ -18,16 +20,20 @@ ok_same a b h = cc
 err_same : {T E : Type 0} (a b : E) → ◌≡◌ {A = Result T E} (Err a) (Err b) → a ≡ b
 err_same a b h = cc
 
+-- a place of 64 bits is told as it is
+pub told_whole : (f : Fault) → f.offset < 2 ^ 64 → told f ≡ f
+told_whole f h = ap (λ n. fault_at n f.refusal) (min-eq_left (omega (arith, h)))
+
 -- what `shifted` lets through, and the fault that it makes
 pub shift_ok : {T : Type 0} (r s : Result T Fault) (n : ℕ) (x : T)
-    → MatchResult r (λ v. s ≡ Ok v) (λ f. n + f.offset < 2 ^ 64 → s ≡ Err (shifted n f)) → ((f : Fault) → r ≡ Err f → n + f.offset < 2 ^ 64) → s ≡ Ok x → r ≡ Ok x
+    → MatchResult r (λ v. s ≡ Ok v) (λ f. s ≡ Err (told (shifted n f))) → ((f : Fault) → r ≡ Err f → n + f.offset < 2 ^ 64) → s ≡ Ok x → r ≡ Ok x
 shift_ok (Ok v) s n x m k h = ap Ok (ok_same v x (sym m ∙ h))
-shift_ok (Err f) s n x m k h = let z = sym h ∙ m (k f refl) in cc
+shift_ok (Err f) s n x m k h = let z = sym h ∙ m in cc
 
 pub shift_err : {T : Type 0} (r s : Result T Fault) (n : ℕ) (d : Fault)
-    → MatchResult r (λ v. s ≡ Ok v) (λ f. n + f.offset < 2 ^ 64 → s ≡ Err (shifted n f)) → ((f : Fault) → r ≡ Err f → n + f.offset < 2 ^ 64) → s ≡ Err d → (f : Fault) × (r ≡ Err f) × (d ≡ shifted n f)
+    → MatchResult r (λ v. s ≡ Ok v) (λ f. s ≡ Err (told (shifted n f))) → ((f : Fault) → r ≡ Err f → n + f.offset < 2 ^ 64) → s ≡ Err d → (f : Fault) × (r ≡ Err f) × (d ≡ shifted n f)
 shift_err (Ok v) s n d m k h = let z = sym h ∙ m in cc
-shift_err (Err f) s n d m k h = (f, refl, err_same d (shifted n f) (sym h ∙ m (k f refl)))
+shift_err (Err f) s n d m k h = (f, refl, err_same d (told (shifted n f)) (sym h ∙ m) ∙ told_whole (shifted n f) (k f refl))
 
 -- what an `ok_or` makes of an option
 pub or_none : {T E : Type 0} (o : Option T) (r : Result T E) (x e : E) → r ≡ ok_or o x → r ≡ Err e → (o ≡ None) × (e ≡ x)

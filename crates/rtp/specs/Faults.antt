@@ -1,6 +1,6 @@
 -- Document 02, P2: a fault is why bytes were refused and where. It is counted from the front of what was read, and each layer above shifts it by where that
 -- stands; a refusal that has no place gives 0.
-use Rattle.std.specs.Prelude.{ℕ, ◌+◌}
+use Rattle.std.specs.Prelude.{ℕ, ◌+◌, ◌-◌, ◌^◌, min}
 use Rattle.rtp.specs.declared.refusal.Refusal.{Refusal}
 use Rattle.rtp.specs.declared.refusal.Fault.{Fault}
 
@@ -14,3 +14,7 @@ fault r = fault_at 0 r
 -- a fault in what stands n bytes on
 abbrev pub shifted : ℕ → Fault → Fault
 shifted n f = fault_at (n + f.offset) f.refusal
+
+-- .. of which 64 bits can tell the place; the farthest one stands for those past it
+abbrev pub told : Fault → Fault
+told f = fault_at (min f.offset (2 ^ 64 - 1)) f.refusal

@@ -1,6 +1,6 @@
 // Why a call was refused.
-ghost use Rattle.std.specs.Prelude.{◌≡◌, ◌+◌, ◌<◌, ◌^◌, Ok, Err, MatchResult};
-ghost use Rattle.rtp.specs.Faults.{fault, shifted};
+ghost use Rattle.std.specs.Prelude.{◌≡◌, Ok, Err, MatchResult};
+ghost use Rattle.rtp.specs.Faults.{fault, shifted, told};
 ghost use Rattle.rtp.specs.Refusals.{number};
 
 #[derive(Clone, Copy, Debug, PartialEq, Eq)]
@@ -72,9 +72,9 @@ impl From<Refusal> for Fault {
 }
 
 impl Fault {
-    // The fault as seen from so many bytes before.
+    // The fault as seen from so many bytes before. A place past 64 bits, which no packet or log has, is told as the farthest.
     pub fn shifted(self, by: usize) -> Fault
-        ensures { by + self.offset < 2 ^ 64 → result ≡ shifted by self }
+        ensures { result ≡ told (shifted by self) }
     {
         Fault {
             refusal: self.refusal,
@@ -85,7 +85,7 @@ impl Fault {
 
 // What is said of a part that stands so many bytes on, as seen from the front of the whole.
 pub fn shifted<T>(answer: Result<T, Fault>, by: usize) -> Result<T, Fault>
-    ensures { MatchResult answer (λ x. result ≡ Ok x) (λ fault. by + fault.offset < 2 ^ 64 → result ≡ Err (shifted by fault)) }
+    ensures { MatchResult answer (λ x. result ≡ Ok x) (λ fault. result ≡ Err (told (shifted by fault))) }
 {
     match answer {
         Ok(value) => Ok(value),

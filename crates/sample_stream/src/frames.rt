@@ -62,6 +62,12 @@ fn frame_byte(number: u16, place: u8) -> u8 {
 
 // The bytes that the rows point into.
 pub(crate) fn sound(k: u8) -> [u8; BYTES] {
-    let long = LONG as usize;
-    std::array::from_fn(|i| frame_byte(number_of(k, (i / long) as u8), (i % long) as u8))
+    let mut bytes = [0u8; BYTES];
+    for (row, frame) in (0..ROWS).zip(bytes.chunks_exact_mut(LONG as usize)) {
+        let number = number_of(k, row);
+        for (place, byte) in (0..LONG as u8).zip(frame.iter_mut()) {
+            *byte = frame_byte(number, place);
+        }
+    }
+    bytes
 }

@@ -11,12 +11,12 @@ use log_lines::printing;
 const LONGEST: usize = 1048576;
 
 const SHOW_LOG: Program = Program {
-    name: "show_log",
-    purpose: "Prints the settings of a log, a line for each frame (time, channel, class, length, bytes), and the end, or why it is refused and at which byte.\n  LOG  as `receive` writes it with the argument `log`, at most 1,048,576 bytes\n",
+    name: b"show_log",
+    purpose: b"Prints the settings of a log, a line for each frame (time, channel, class, length, bytes), and the end, or why it is refused and at which byte.\n  LOG  as `receive` writes it with the argument `log`, at most 1,048,576 bytes\n",
 };
 
 // What follows the program's name in a call.
-const ARGUMENTS: &str = " < LOG";
+const ARGUMENTS: &[u8] = b" < LOG";
 
 fn zeros() -> [u8; LONGEST] {
     [0; LONGEST]

@@ -39,27 +39,22 @@ plan_answer format ch (groups (g ∷ gs)) = Some (Some (record {
   frames = frames_in ch (g ∷ gs);
 }))
 
--- one frame-block by itself, whose frames take so many bytes
-abbrev pub single_plan : ℕ → Row → ℕ → ℕ → Plan
-single_plan format r gap frames = record {
+-- one frame-block by itself, before entries of so many bytes; all frames take so many
+abbrev pub single_plan : ℕ → Row → ℕ → ℕ → ℕ → Plan
+single_plan format r gap others frames = record {
   class = r.class;
   length = r.length;
   gap = gap;
   blocks = 1;
   run = run_size format 1;
-  others = 0;
+  others = others;
   frames = frames;
 }
-
--- a plan attached, as the answer on the whole
-abbrev pub attached : Option Plan → Option (Option Plan)
-attached None = None
-attached (Some p) = Some (Some p)
 
 -- `attach` by the numbers of the first run
 abbrev pub attach_plan : ℕ → ℕ → Row → ℕ → Option (Option Plan) → Option (Option Plan)
 attach_plan format ch r gap None = None
-attach_plan format ch r gap (Some None) = Some (Some (single_plan format r gap (ch * r.length)))
+attach_plan format ch r gap (Some None) = Some (Some (single_plan format r gap 0 (ch * r.length)))
 attach_plan format ch r gap (Some (Some p)) =
     cond (joins_run format r p.class p.length p.gap)
     (Some (Some (record {
@@ -72,15 +67,7 @@ attach_plan format ch r gap (Some (Some p)) =
       frames = ch * r.length + p.frames;
     })))
     (cond (leb p.gap (max_gap format))
-    (Some (Some (record {
-      class = r.class;
-      length = r.length;
-      gap = gap;
-      blocks = 1;
-      run = run_size format 1;
-      others = p.run + p.others;
-      frames = ch * r.length + p.frames;
-    })))
+    (Some (Some (single_plan format r gap (p.run + p.others) (ch * r.length + p.frames))))
     None)
 
 -- the numbers of a plan of at most n frame-blocks stay small

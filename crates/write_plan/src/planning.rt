@@ -1,12 +1,12 @@
 // The table of contents that a frame list is written with.
-ghost use Rattle.std.specs.Prelude.{◌≡◌, ◌+◌, ◌*◌, ◌/◌, ◌%◌, ◌^◌, ◌<◌, eqb, length, Some};
+ghost use Rattle.std.specs.Prelude.{◌≡◌, ◌+◌, ◌*◌, ◌/◌, ◌%◌, ◌^◌, ◌<◌, eqb, length};
 ghost use Rattle.rtp.specs.Editions.{current};
 ghost use Rattle.rtp.specs.Sizes.{row_width, max_rows};
 ghost use Rattle.formats.specs.Formats.{format_of, step_of, max_gap};
 ghost use Rattle.write_plan.specs.Entries.{first_blocks};
 ghost use Rattle.write_plan.specs.Lists.{rows_in};
 ghost use Rattle.write_plan.specs.Plans.{ticks_after, gap_between, next_channel, starts, continues, follows, joins_run, plan_from, plan};
-ghost use Rattle.write_plan.specs.Room.{row_as, run_size, plan_answer, single_plan, attach_plan, attached, Attachable, list_plan_numbers, list_numbers};
+ghost use Rattle.write_plan.specs.Room.{row_as, run_size, plan_answer, single_plan, attach_plan, Attachable, list_plan_numbers, list_numbers};
 
 use crate::lists;
 use crate::lists::RowWords;
@@ -143,9 +143,9 @@ fn run_size(format: u8, blocks: usize) -> usize
     first + entries::entry_size(format, blocks - FIRST_PART)
 }
 
-// The plan of one frame-block by itself, whose frames take so many bytes.
-fn single_block(format: u8, row: RowWords, gap: u32, frames: usize) -> Plan
-    ensures { result ≡ single_plan format (row_as row) gap frames }
+// The plan of one frame-block by itself, before entries of so many bytes; all frames take so many.
+fn single_block(format: u8, row: RowWords, gap: u32, others: usize, frames: usize) -> Plan
+    ensures { result ≡ single_plan format (row_as row) gap others frames }
 {
     Plan {
         class: tagging::tag_class(row.tag),
@@ -153,42 +153,42 @@ fn single_block(format: u8, row: RowWords, gap: u32, frames: usize) -> Plan
         gap,
         blocks: 1,
         run: run_size(format, 1),
-        others: 0,
+        others,
         frames,
     }
 }
 
-// A frame-block before a plan, or before no run at all; none where the run cannot follow it.
+// A frame-block before a plan, or before no run at all; none where the run cannot follow it. It answers what plan_from does, in place: a plan is not
+// copied on its way through the rows.
 fn attach_block(
     format: u8,
     channels: u32,
     row: RowWords,
     gap: u32,
-    rest: Option<Plan>,
-) -> Option<Plan>
-    requires { Attachable current format channels (row_as row) (Some rest) }
-    ensures { attached result ≡ attach_plan format channels (row_as row) gap (Some rest) }
+    rest: Option<Option<Plan>>,
+) -> Option<Option<Plan>>
+    requires { Attachable current format channels (row_as row) rest }
+    ensures { result ≡ attach_plan format channels (row_as row) gap rest }
 {
     let frames = (channels as usize) * (row.length as usize);
-    let Some(plan) = rest else {
-        return Some(single_block(format, row, gap, frames));
+    let Some(plan) = rest? else {
+        return Some(Some(single_block(format, row, gap, 0, frames)));
     };
     let frames = frames + plan.frames;
     if joins_run(format, row, plan.class, plan.length, plan.gap) {
         let blocks = plan.blocks + 1;
         let run = run_size(format, blocks);
-        return Some(Plan {
+        return Some(Some(Plan {
             gap,
             blocks,
             run,
             frames,
             ..plan
-        });
+        }));
     }
     if plan.gap <= max_gap(format) {
         let others = plan.run + plan.others;
-        let single = single_block(format, row, gap, frames);
-        return Some(Plan { others, ..single });
+        return Some(Some(single_block(format, row, gap, others, frames)));
     }
     None
 }
@@ -212,12 +212,12 @@ fn plan_from(
         return None;
     }
     let next = next_channel(channels, c);
-    let rest = plan_from(format, channels, next, row, &rows[ROW_WIDTH..])?;
+    let rest = plan_from(format, channels, next, row, &rows[ROW_WIDTH..]);
     if c != 0 {
-        return Some(rest);
+        return rest;
     }
     let gap = gap_between(format, previous.time, row.time);
-    Some(Some(attach_block(format, channels, row, gap, rest)?))
+    attach_block(format, channels, row, gap, rest)
 }
 
 // The longest payload that is written alone.

@@ -32,4 +32,4 @@ returns c =
     ∙ gathered_then l c.put_number-2.new.self (t ++ u) (ascii ": ") placed
     ∙ ap (gathered l) (fault_high n.result o (omega (arith, n.ensures, high)))
     ∙ ap (λ (k : ℕ). gathered l (fault_text k o)) n.ensures in
-    subst (λ (m : List ℕ). Continued m c.put_reason.new.line) held c.put_reason.ensures
+    subst (λ (m : List ℕ). Continued m c.put_reason.new.line) held c.put_reason.ensures.continued

@@ -18,4 +18,4 @@ returns c =
     ∙ gathered_then l c.put_number.new.self t (ascii ": ") c.put_number.ensures
     ∙ ap (gathered l) (three (ascii "refusal ") (decimal n.result) (ascii ": "))
     ∙ ap (λ (k : ℕ). gathered l (refusal_text k)) n.ensures in
-    subst (λ (m : List ℕ). Continued m c.put_reason.new.line) held c.put_reason.ensures
+    subst (λ (m : List ℕ). Continued m c.put_reason.new.line) held c.put_reason.ensures.continued

@@ -5,6 +5,7 @@ use Prim.Native.Nat.{◌-◌}
 use native.Mathlib.Omega.{arith}
 use lib.ListN.{length, drop, length-drop}
 use Rattle.rtp.proofs.AreaLaws.{part_to_end}
+use Rattle.rtp.proofs.ErrorLaws.{told_whole}
 use Rattle.log_walk.specs.declared.frames.Next.{Next}
 use Rattle.log_walk.specs.Stepping.{next_field, further, onward, walk}
 use Rattle.log_walk.proofs.FieldLaws.{NextInside, next_inside}
@@ -63,4 +64,4 @@ returns-in-Ok-End c =
 pub returns-in-Err : goal.returns-in-Err
 returns-in-Err c =
     let i = inside (goal.at.returns-in-Err c).After-next_field _ c.in-Err.is in
-    ap Err (c.shifted.ensures (omega (arith, i))) ∙ answered (goal.at.returns-in-Err c).After-next_field _ c.in-Err.is
+    ap Err (c.shifted.ensures ∙ told_whole _ (omega (arith, i))) ∙ answered (goal.at.returns-in-Err c).After-next_field _ c.in-Err.is

@@ -1,8 +1,8 @@
-use Rattle.std.specs.Prelude.{Option, Some}
+use Rattle.std.specs.Prelude.{Option}
 use Rattle.rtp.specs.Editions.{current}
 use Rattle.formats.specs.Formats.{step_of}
 use Rattle.write_plan.specs.Plans.{gap_between}
-use Rattle.write_plan.specs.Room.{attach_plan, attached}
+use Rattle.write_plan.specs.Room.{attach_plan}
 use Rattle.write_plan.specs.declared.planning.Plan.{Plan}
 use Rattle.write_plan.specs.declared.lists.RowWords.{RowWords}
 use mathlib.Core.List.{List}
@@ -14,10 +14,10 @@ use Rattle.write_plan.specs.Lists.{rows_in}
 use Rattle.write_plan.specs.Plans.{plan_from, next_channel, follows}
 use Rattle.write_plan.specs.Room.{row_as, words_at, plan_answer, Small}
 use Rattle.write_plan.proofs.ListLaws.{length_rows}
-use Rattle.write_plan.proofs.PlanLaws.{plan_empty, plan_cut, plan_stop, plan_none, plan_start, plan_go, small_plan, small_weaker, follows_short, next_below}
+use Rattle.write_plan.proofs.PlanLaws.{plan_empty, plan_cut, plan_stop, plan_start, plan_go, small_plan, small_weaker, follows_short, next_below}
 use lib.ListN.{length, drop, length-drop}
 use Prim.Native.Nat.{ℕ, ◌<◌, ◌≤◌}
-use Rattle.write_plan.proofs.planning.+plan_from.Goals.{After-follows_row, After-plan_from, After-attach_block}
+use Rattle.write_plan.proofs.planning.+plan_from.Goals.{After-follows_row, After-plan_from-rest}
 use Rattle.write_plan.proofs.planning.+plan_from.Goals as goal
 
 -- the row, as the list has it, and what follows
@@ -25,20 +25,20 @@ row_is : (t : ℕ) (c : After-follows_row t) → follows c.args.format c.args.c 
 row_is t c =
     let a = c.args in sym (c.follows_row.ensures ∙ ap (λ (w : RowWords). follows a.format a.c (row_as a.previous) (row_as w)) c.first_row-row.ensures)
 
-rest_at : (t : ℕ) (c : After-plan_from t) → let a = c.args in
-    c.plan_from.result ≡ plan_answer a.format a.channels (plan_from a.format a.channels (next_channel a.channels a.c) (row_as (words_at a.rows.now 0)) (rows_in (drop row_width a.rows.now)))
+rest_at : (t : ℕ) (c : After-plan_from-rest t) → let a = c.args in
+    c.plan_from-rest.result ≡ plan_answer a.format a.channels (plan_from a.format a.channels (next_channel a.channels a.c) (row_as (words_at a.rows.now 0)) (rows_in (drop row_width a.rows.now)))
 rest_at t c =
     let a = c.args in
-    c.plan_from.ensures
+    c.plan_from-rest.ensures
     ∙ ap (λ (l : List ℕ). plan_answer a.format a.channels (plan_from a.format a.channels c.next_channel-next.result (row_as c.first_row-row.result) (rows_in l))) (part_to_end row_width a.rows.now)
     ∙ ap (λ (n : ℕ). plan_answer a.format a.channels (plan_from a.format a.channels n (row_as c.first_row-row.result) (rows_in (drop row_width a.rows.now)))) c.next_channel-next.ensures
     ∙ ap (λ (w : RowWords). plan_answer a.format a.channels (plan_from a.format a.channels (next_channel a.channels a.c) (row_as w) (rows_in (drop row_width a.rows.now)))) c.first_row-row.ensures
 
-small_at : (t : ℕ) (c : After-plan_from t) → Small c.args.format c.args.channels (max_rows current) c.plan_from.result
+small_at : (t : ℕ) (c : After-plan_from-rest t) → Small c.args.format c.args.channels (max_rows current) c.plan_from-rest.result
 small_at t c =
     let rest_at : let a = c.args in
-    c.plan_from.result ≡ plan_answer a.format a.channels (plan_from a.format a.channels (next_channel a.channels a.c) (row_as (words_at a.rows.now 0)) (rows_in (drop row_width a.rows.now))) = let a = c.args in
-    c.plan_from.ensures
+    c.plan_from-rest.result ≡ plan_answer a.format a.channels (plan_from a.format a.channels (next_channel a.channels a.c) (row_as (words_at a.rows.now 0)) (rows_in (drop row_width a.rows.now))) = let a = c.args in
+    c.plan_from-rest.ensures
     ∙ ap (λ (l : List ℕ). plan_answer a.format a.channels (plan_from a.format a.channels c.next_channel-next.result (row_as c.first_row-row.result) (rows_in l))) (part_to_end row_width a.rows.now)
     ∙ ap (λ (n : ℕ). plan_answer a.format a.channels (plan_from a.format a.channels n (row_as c.first_row-row.result) (rows_in (drop row_width a.rows.now)))) c.next_channel-next.ensures
     ∙ ap (λ (w : RowWords). plan_answer a.format a.channels (plan_from a.format a.channels (next_channel a.channels a.c) (row_as w) (rows_in (drop row_width a.rows.now)))) c.first_row-row.ensures in
@@ -59,8 +59,8 @@ pub returns-then-not-follows_row : goal.returns-then-not-follows_row
 returns-then-not-follows_row t c =
     let a = c.args in sym (plan_stop a.format a.channels a.c (row_as a.previous) a.rows.now c.if-rows-lt-ROW_WIDTH.false (row_is t (goal.at.returns-then-not-follows_row t c).After-follows_row ∙ c.if-not-follows_row.true))
 
-pub plan_from-requires : goal.plan_from-requires
-plan_from-requires t c =
+pub plan_from-rest-requires : goal.plan_from-rest-requires
+plan_from-rest-requires t c =
     let a = c.args in
     let q = part_to_end row_width a.rows.now in
     (rw (q, length-drop) (omega (arith, c.if-rows-lt-ROW_WIDTH.false)), (c.requires.0, subst (λ (n : ℕ). n < a.channels) (sym c.next_channel-next.ensures) (next_below a.channels a.c c.requires.1), rw (q, length-drop) (omega (arith, c.requires.2))))
@@ -72,39 +72,21 @@ attach_block-requires t c =
     record {
       channels = c.requires.0;
       short = subst (λ (w : RowWords). (row_as w).length ≤ 320) (sym c.first_row-row.ensures) (follows_short a.format a.c (row_as a.previous) (row_as (words_at a.rows.now 0)) c.if-c-ne0.false (row_is t at.After-follows_row ∙ c.if-not-follows_row.false));
-      small = subst (λ (x : Option (Option Plan)). Small a.format a.channels (max_rows current) x) c.in_ok-rest.was (small_at t at.After-plan_from);
+      small = small_at t at.After-plan_from-rest;
     }
-
-pub returns-in_err-rest : goal.returns-in_err-rest
-returns-in_err-rest t c =
-    let a = c.args in
-    let at = goal.at.returns-in_err-rest t c in
-    c.from_residual.ensures ∙ sym (plan_none a.format a.channels a.c (row_as a.previous) a.rows.now c.if-rows-lt-ROW_WIDTH.false (row_is t at.After-follows_row ∙ c.if-not-follows_row.false) (sym (rest_at t at.After-plan_from) ∙ c.in_err-rest.was))
 
 pub returns-then-c-ne0 : goal.returns-then-c-ne0
 returns-then-c-ne0 t c =
     let a = c.args in
     let at = goal.at.returns-then-c-ne0 t c in
-    sym c.in_ok-rest.was ∙ rest_at t at.After-plan_from ∙ sym (plan_go a.format a.channels a.c (row_as a.previous) a.rows.now c.if-rows-lt-ROW_WIDTH.false (row_is t at.After-follows_row ∙ c.if-not-follows_row.false) c.if-c-ne0.true)
-
--- a frame-block attached
-attached_at : (t : ℕ) (c : After-attach_block t) → follows c.args.format c.args.c (row_as c.args.previous) (row_as (words_at c.args.rows.now 0)) ≡ c.follows_row.result
-    → c.plan_from.result ≡ plan_answer c.args.format c.args.channels (plan_from c.args.format c.args.channels (next_channel c.args.channels c.args.c) (row_as (words_at c.args.rows.now 0)) (rows_in (drop row_width c.args.rows.now)))
-    → attached c.attach_block.result ≡ plan_answer c.args.format c.args.channels (plan_from c.args.format c.args.channels c.args.c (row_as c.args.previous) (rows_in c.args.rows.now))
-attached_at t c row rest =
-    let a = c.args in
-    c.attach_block.ensures
-    ∙ ap (λ (g : ℕ). attach_plan a.format a.channels (row_as c.first_row-row.result) g (Some c.in_ok-rest.rest)) c.gap_between-gap.ensures
-    ∙ ap (λ (w : RowWords). attach_plan a.format a.channels (row_as w) (gap_between (step_of a.format) a.previous.time w.time) (Some c.in_ok-rest.rest)) c.first_row-row.ensures
-    ∙ ap (attach_plan a.format a.channels (row_as (words_at a.rows.now 0)) _) (sym c.in_ok-rest.was ∙ rest)
-    ∙ sym (plan_start a.format a.channels a.c (row_as a.previous) a.rows.now c.if-rows-lt-ROW_WIDTH.false (row ∙ c.if-not-follows_row.false) c.if-c-ne0.false)
-
-pub returns-in_err-attach_block : goal.returns-in_err-attach_block
-returns-in_err-attach_block t c =
-    let at = goal.at.returns-in_err-attach_block t c in
-    c.from_residual-in_err-attach_block.ensures ∙ ap attached (sym c.in_err-attach_block.was) ∙ attached_at t at.After-attach_block (row_is t at.After-follows_row) (rest_at t at.After-plan_from)
+    rest_at t at.After-plan_from-rest ∙ sym (plan_go a.format a.channels a.c (row_as a.previous) a.rows.now c.if-rows-lt-ROW_WIDTH.false (row_is t at.After-follows_row ∙ c.if-not-follows_row.false) c.if-c-ne0.true)
 
 pub returns : goal.returns
 returns t c =
+    let a = c.args in
     let at = goal.at.returns t c in
-    ap attached (sym c.in_ok-attach_block.was) ∙ attached_at t at.After-attach_block (row_is t at.After-follows_row) (rest_at t at.After-plan_from)
+    c.attach_block.ensures
+    ∙ ap (λ (g : ℕ). attach_plan a.format a.channels (row_as c.first_row-row.result) g c.plan_from-rest.result) c.gap_between-gap.ensures
+    ∙ ap (λ (w : RowWords). attach_plan a.format a.channels (row_as w) (gap_between (step_of a.format) a.previous.time w.time) c.plan_from-rest.result) c.first_row-row.ensures
+    ∙ ap (attach_plan a.format a.channels (row_as (words_at a.rows.now 0)) _) (rest_at t at.After-plan_from-rest)
+    ∙ sym (plan_start a.format a.channels a.c (row_as a.previous) a.rows.now c.if-rows-lt-ROW_WIDTH.false (row_is t at.After-follows_row ∙ c.if-not-follows_row.false) c.if-c-ne0.false)

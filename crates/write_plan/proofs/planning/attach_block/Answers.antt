@@ -1,4 +1,4 @@
-use mathlib.Core.Path.{subst}
+use mathlib.Core.Path.{ap, subst, ◌∙◌}
 use Rattle.std.specs.Prelude.{Option, Some}
 use Prim.Native.Nat.{◌*◌, ◌≤◌, ◌<◌}
 use native.Mathlib.Omega.{arith}
@@ -14,7 +14,7 @@ use Rattle.write_plan.proofs.planning.attach_block.Goals as goal
 
 small_at : (c : In-Some) → SmallPlan c.args.format c.args.channels (max_rows current) c.in-Some.plan
 small_at c =
-    subst (λ (x : Option Plan). Small c.args.format c.args.channels (max_rows current) (Some x)) c.in-Some.is c.requires.small
+    subst (λ (x : Option (Option Plan)). Small c.args.format c.args.channels (max_rows current) x) (c.in_ok-plan.was ∙ ap Some c.in-Some.is) c.requires.small
 
 -- the gap to the next run, against the most that an entry can say
 near_at : (c : Then-plan-max_gap) → c.in-Some.plan.gap ≤ max_gap c.args.format
@@ -45,16 +45,16 @@ overflow_add-others c =
 
 pub returns-then-joins_run : goal.returns-then-joins_run
 returns-then-joins_run c =
-    simp (c.in-Some.is, ← c.joins_run.ensures, c.if-joins_run.true, ← c.run_size-run.ensures)
+    simp (c.in_ok-plan.was, c.in-Some.is, ← c.joins_run.ensures, c.if-joins_run.true, ← c.run_size-run.ensures)
 
 pub returns-in_default : goal.returns-in_default
 returns-in_default c =
-    simp (c.in_default.is, c.single_block.ensures)
+    simp (c.in_ok-plan.was, c.in_default.is, c.single_block.ensures)
 
 pub returns-then-plan-max_gap : goal.returns-then-plan-max_gap
 returns-then-plan-max_gap c =
-    simp (c.in-Some.is, c.single_block-single.ensures, ← c.joins_run.ensures, c.if-joins_run.false, le-leb _ _ (near_at (goal.at.returns-then-plan-max_gap c).Then-plan-max_gap))
+    simp (c.in_ok-plan.was, c.in-Some.is, c.single_block-then-plan-max_gap.ensures, ← c.joins_run.ensures, c.if-joins_run.false, le-leb _ _ (near_at (goal.at.returns-then-plan-max_gap c).Then-plan-max_gap))
 
 pub returns : goal.returns
 returns c =
-    simp (c.in-Some.is, ← c.joins_run.ensures, c.if-joins_run.false, lt-leb _ _ (apart-at (goal.at.returns c).Else-plan-max_gap))
+    simp (c.in_ok-plan.was, c.in-Some.is, ← c.joins_run.ensures, c.if-joins_run.false, lt-leb _ _ (apart-at (goal.at.returns c).Else-plan-max_gap))
