@@ -1,5 +1,6 @@
 -- Laws of new and offer, one for each way that a call goes.
-use mathlib.Core.Path.{◌≡◌, refl}
+use mathlib.Core.Path.{◌≡◌, refl, ap, ◌∙◌}
+use Rattle.std.specs.Prelude.{Err, Result}
 use mathlib.Core.List.{List}
 use mathlib.Core.Bool.{true, false}
 use Prim.Native.Nat.{ℕ, ◌≤◌, ◌<◌}
@@ -13,16 +14,27 @@ use Rattle.rtp.specs.Ranges.{in_range}
 use Rattle.rtp.specs.Refusals.{number}
 use Rattle.rtp.specs.Faults.{fault}
 use Rattle.rtp.specs.declared.settings.Settings.{Settings}
+use Rattle.rtp.specs.declared.refusal.Fault.{Fault}
 use Rattle.rtp.specs.declared.refusal.Refusal.TheVariants.{SettingsOutOfRange, Malformed, AreaTooShort}
 use Rattle.rtp.proofs.TestLaws.{by-test}
 use Rattle.read_packet.specs.Readings.{Outcome, refused, read_as, reading}
 use Rattle.read_packet.proofs.PlaceLaws.{place_small}
 use Rattle.buffer_copies.specs.Sizes.{store_size}
 use Rattle.buffer_layout.specs.declared.buffer.Buffer.{Buffer}
+use Rattle.buffer_layout.specs.declared.buffer.Answered.{Answered}
+use Rattle.buffer_insert.specs.declared.tally.Tally.{Tally}
 use Rattle.buffer_layout.specs.Layout.{decode, fresh}
 use Rattle.buffer_layout.specs.WellFormed.{well_formed}
 use Rattle.buffer_offer.specs.ModelCalls.{judge_read, offer_to}
-use Rattle.buffer_offer.specs.Calls.{no_settings, new_call, OfferOutcome, offer_refused, offer_done, offer_call}
+use Rattle.buffer_offer.specs.Calls.{no_settings, new_call, OfferOutcome, offer_numbers, offer_refused, offer_done, offer_call}
+
+-- what the code answers, with the areas that it leaves
+abbrev pub outcome : List ℕ → List ℕ → Answered (Result Tally Fault) → OfferOutcome
+outcome rows store r = record { answer = offer_numbers r.answer; buffer = r.buffer; rows = rows; store = store }
+
+pub outcome_refused : (rows store : List ℕ) (b : Buffer) (r : Answered (Result Tally Fault)) (f g : Fault) → r ≡ record { answer = Err f; buffer = b } → f ≡ g
+    → outcome rows store r ≡ offer_refused g b rows store
+outcome_refused rows store b r f g e p = ap (outcome rows store) e ∙ ap (λ (x : Fault). offer_refused x b rows store) p
 
 -- an offer whose packet was read, or not
 abbrev pub offer_read : Buffer → List ℕ → List ℕ → List ℕ → Outcome → OfferOutcome

@@ -24,16 +24,31 @@ err_same a b h = cc
 pub told_whole : (f : Fault) → f.offset < 2 ^ 64 → told f ≡ f
 told_whole f h = ap (λ n. fault_at n f.refusal) (min-eq_left (omega (arith, h)))
 
--- what `shifted` lets through, and the fault that it makes
+-- what `shifted` says of the places that 64 bits can tell
+pub shifted_within : {T : Type 0} (r s : Result T Fault) (n : ℕ)
+    → MatchResult r (λ v. s ≡ Ok v) (λ f. s ≡ Err (told (shifted n f))) → MatchResult r (λ v. s ≡ Ok v) (λ f. n + f.offset < 2 ^ 64 → s ≡ Err (shifted n f))
+shifted_within (Ok v) s n m = m
+shifted_within (Err f) s n m = λ h. m ∙ ap Err (told_whole (shifted n f) h)
+
+-- what an answer lets through that is shifted where 64 bits can tell the place, and the fault that it makes
 pub shift_ok : {T : Type 0} (r s : Result T Fault) (n : ℕ) (x : T)
-    → MatchResult r (λ v. s ≡ Ok v) (λ f. s ≡ Err (told (shifted n f))) → ((f : Fault) → r ≡ Err f → n + f.offset < 2 ^ 64) → s ≡ Ok x → r ≡ Ok x
+    → MatchResult r (λ v. s ≡ Ok v) (λ f. n + f.offset < 2 ^ 64 → s ≡ Err (shifted n f)) → ((f : Fault) → r ≡ Err f → n + f.offset < 2 ^ 64) → s ≡ Ok x → r ≡ Ok x
 shift_ok (Ok v) s n x m k h = ap Ok (ok_same v x (sym m ∙ h))
-shift_ok (Err f) s n x m k h = let z = sym h ∙ m in cc
+shift_ok (Err f) s n x m k h = let z = sym h ∙ m (k f refl) in cc
 
 pub shift_err : {T : Type 0} (r s : Result T Fault) (n : ℕ) (d : Fault)
-    → MatchResult r (λ v. s ≡ Ok v) (λ f. s ≡ Err (told (shifted n f))) → ((f : Fault) → r ≡ Err f → n + f.offset < 2 ^ 64) → s ≡ Err d → (f : Fault) × (r ≡ Err f) × (d ≡ shifted n f)
+    → MatchResult r (λ v. s ≡ Ok v) (λ f. n + f.offset < 2 ^ 64 → s ≡ Err (shifted n f)) → ((f : Fault) → r ≡ Err f → n + f.offset < 2 ^ 64) → s ≡ Err d → (f : Fault) × (r ≡ Err f) × (d ≡ shifted n f)
 shift_err (Ok v) s n d m k h = let z = sym h ∙ m in cc
-shift_err (Err f) s n d m k h = (f, refl, err_same d (told (shifted n f)) (sym h ∙ m) ∙ told_whole (shifted n f) (k f refl))
+shift_err (Err f) s n d m k h = (f, refl, err_same d (shifted n f) (sym h ∙ m (k f refl)))
+
+-- .. of the answer of `shifted`, which tells every place
+pub told_ok : {T : Type 0} (r s : Result T Fault) (n : ℕ) (x : T)
+    → MatchResult r (λ v. s ≡ Ok v) (λ f. s ≡ Err (told (shifted n f))) → ((f : Fault) → r ≡ Err f → n + f.offset < 2 ^ 64) → s ≡ Ok x → r ≡ Ok x
+told_ok r s n x m = shift_ok r s n x (shifted_within r s n m)
+
+pub told_err : {T : Type 0} (r s : Result T Fault) (n : ℕ) (d : Fault)
+    → MatchResult r (λ v. s ≡ Ok v) (λ f. s ≡ Err (told (shifted n f))) → ((f : Fault) → r ≡ Err f → n + f.offset < 2 ^ 64) → s ≡ Err d → (f : Fault) × (r ≡ Err f) × (d ≡ shifted n f)
+told_err r s n d m = shift_err r s n d (shifted_within r s n m)
 
 -- what an `ok_or` makes of an option
 pub or_none : {T E : Type 0} (o : Option T) (r : Result T E) (x e : E) → r ≡ ok_or o x → r ≡ Err e → (o ≡ None) × (e ≡ x)

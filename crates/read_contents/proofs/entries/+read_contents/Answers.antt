@@ -10,7 +10,7 @@ use Rattle.rtp.proofs.AreaLaws.{part_to_end}
 use Rattle.read_contents.specs.Contents.{entry_of, contents, sizes_answer}
 use Rattle.std.specs.Prelude.{Result, Err}
 use Rattle.std.proofs.lemmas.Bool.{not-true, not-false}
-use Rattle.rtp.proofs.ErrorLaws.{err_is, shift_ok, shift_err}
+use Rattle.rtp.proofs.ErrorLaws.{err_is, told_ok, told_err}
 use Rattle.read_contents.specs.declared.entries.Sizes.{Sizes}
 use Rattle.read_contents.proofs.EntryLaws.{Fair, fair}
 use Rattle.read_contents.proofs.ContentsLaws.{at_refused, at_many, at_last, at_more, ahead, within, Within, Small, shorter}
@@ -63,7 +63,7 @@ near_at t c k f h =
 
 rest_at : (t : ℕ) (c : After-shifted t) → Fair c.args.format c.args.s.now c.in_ok-entry.entry → (r : Sizes) → c.shifted.result ≡ Ok r → c.read_contents.result ≡ Ok r
 rest_at t c k r h =
-    shift_ok _ _ _ _ c.shifted.ensures (near_at t c k) h
+    told_ok _ _ _ _ c.shifted.ensures (near_at t c k) h
 
 small_at : (t : ℕ) (c : After-shifted t) → Fair c.args.format c.args.s.now c.in_ok-entry.entry → (r : Sizes) → c.shifted.result ≡ Ok r → let a = c.args in let e = c.in_ok-entry.entry in
     Small current (a.rows + e.blocks * a.channels) (length (drop e.size a.s.now)) r
@@ -144,7 +144,7 @@ returns-then-not-entry t c =
 pub returns-in_err-rest : goal.returns-in_err-rest
 returns-in_err-rest t c =
     let p = goal.at.returns-in_err-rest t c in
-    let m = shift_err _ _ _ _ c.shifted.ensures (near_at t p.After-shifted (fair-at t p.In_ok-entry)) c.in_err-rest.was in
+    let m = told_err _ _ _ _ c.shifted.ensures (near_at t p.After-shifted (fair-at t p.In_ok-entry)) c.in_err-rest.was in
     contents_has _ _ _ _ (err_is _ _ c.from_residual-in_err-rest.ensures.1 ∙ ap Err m.2
     ∙ sym (whole-at t p.After-shifted (read_at t p.In_ok-entry) ∙ ap (ahead c.args.channels c.in_ok-entry.entry) m.1))
 

@@ -10,7 +10,7 @@ use Rattle.read_headers.specs.Redundancy.{block_header, headers, headers_answer}
 use Rattle.rtp.proofs.AreaLaws.{part_to_end}
 use Rattle.rtp.proofs.ByteLaws.{bytes_drop}
 use Rattle.read_headers.proofs.RedundancyLaws.{fair, shorter, at_refused, at_primary, at_redundant, ahead, within, Within, Small, InFront, front}
-use Rattle.rtp.proofs.ErrorLaws.{err_is, shift_ok, shift_err}
+use Rattle.rtp.proofs.ErrorLaws.{err_is, told_ok, told_err}
 use Rattle.read_headers.proofs.NumberLaws.{same_block}
 use Prim.Native.Nat.{ℕ, ◌+◌, ◌-◌, ◌<◌, ◌≤◌, ◌^◌}
 use Rattle.read_headers.proofs.redundancy.+headers_from.Goals.{After-shifted, In-Redundant}
@@ -34,7 +34,7 @@ near_at t c f h =
 
 rest_at : (t : ℕ) (c : After-shifted t) (r : HeaderSizes) → c.shifted.result ≡ Ok r → c.headers_from.result ≡ Ok r
 rest_at t c r h =
-    shift_ok _ _ _ _ c.shifted.ensures (near_at t c) h
+    told_ok _ _ _ _ c.shifted.ensures (near_at t c) h
 
 small_at : (t : ℕ) (c : After-shifted t) (r : HeaderSizes) → c.shifted.result ≡ Ok r → Small (length (drop 4 c.args.s.now)) r
 small_at t c r h =
@@ -82,7 +82,7 @@ returns-in-Primary t c =
 pub returns-in_err-rest-in-Redundant : goal.returns-in_err-rest-in-Redundant
 returns-in_err-rest-in-Redundant t c =
     let p = goal.at.returns-in_err-rest-in-Redundant t c in
-    let m = shift_err _ _ _ _ c.shifted.ensures (near_at t p.After-shifted) c.in_err-rest-in-Redundant.was in
+    let m = told_err _ _ _ _ c.shifted.ensures (near_at t p.After-shifted) c.in_err-rest-in-Redundant.was in
     err_is _ _ c.from_residual-in_err-rest-in-Redundant.ensures.1 ∙ ap Err m.2
     ∙ sym (whole-at t p.After-shifted (read_at t p.In-Redundant) ∙ ap (ahead c.in-Redundant.block) m.1)
 

@@ -1,6 +1,6 @@
 use Rattle.rtp.specs.Editions.{current}
 use Rattle.std.specs.Prelude.{Err, Ok}
-use Rattle.rtp.proofs.ErrorLaws.{err_is, shift_ok, shift_err}
+use Rattle.rtp.proofs.ErrorLaws.{err_is, told_ok, told_err}
 use Rattle.read_contents.specs.declared.entries.Sizes.{Sizes}
 use Rattle.rtp.specs.declared.refusal.Fault.{Fault}
 use Rattle.rtp.proofs.AreaLaws.{part_to_end}
@@ -54,7 +54,7 @@ near_at c l f h =
 
 table_at : (c : After-shifted) → c.format_of-header.result.header + length (body c.args.asked.format c.args.s.now) ≡ length c.args.s.now → (r : Sizes) → c.shifted.result ≡ Ok r → let a = c.args in sizes_answer a.asked.format a.asked.channels (contents current a.asked.format a.asked.channels a.done (body a.asked.format a.s.now)) ≡ Ok r
 table_at c l r h =
-    sym (answer_at c) ∙ shift_ok _ _ _ _ c.shifted.ensures (near_at c l) h
+    sym (answer_at c) ∙ told_ok _ _ _ _ c.shifted.ensures (near_at c l) h
 
 small_at : (c : After-shifted) → c.format_of-header.result.header + length (body c.args.asked.format c.args.s.now) ≡ length c.args.s.now → (r : Sizes) → c.shifted.result ≡ Ok r → let a = c.args in Small current a.done (length (body a.asked.format a.s.now)) r
 small_at c l r h =
@@ -99,7 +99,7 @@ pub returns-in_err-sizes : goal.returns-in_err-sizes
 returns-in_err-sizes c =
     let a = c.args in
     let p = goal.at.returns-in_err-sizes c in
-    let m = shift_err _ _ _ _ c.shifted.ensures (near_at p.After-shifted (length_at p.Else-s-header)) c.in_err-sizes.was in
+    let m = told_err _ _ _ _ c.shifted.ensures (near_at p.After-shifted (length_at p.Else-s-header)) c.in_err-sizes.was in
     rw (err_is _ _ c.from_residual.ensures.1 ∙ ap Err m.2)
     (rows_has _ _ (answer_none _ _ (asked-at p.Else-s-gt-MAX_PACKET ∙ pay_refused current redundant_mark a.asked.format a.asked.channels a.done 0 0 a.s.now _ _ (there-at p.Else-s-header) (omega (arith, header_at p.Else-s-header)) (sym (answer_at p.After-shifted) ∙ m.1))))
 

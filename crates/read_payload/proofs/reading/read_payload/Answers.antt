@@ -1,7 +1,7 @@
 use Rattle.rtp.specs.Editions.{current}
 use Rattle.std.specs.Prelude.{Err, Ok, Result}
 use Rattle.read_contents.specs.declared.entries.Sizes.{Sizes}
-use Rattle.rtp.proofs.ErrorLaws.{err_is, shift_ok, shift_err}
+use Rattle.rtp.proofs.ErrorLaws.{err_is, told_ok, told_err}
 use Rattle.rtp.proofs.AreaLaws.{part_to_end}
 use lib.ListN.{length, take, drop, length-drop}
 use mathlib.Core.Path.{◌≡◌, sym, ◌∙◌, ap, subst}
@@ -107,7 +107,7 @@ pub overflow_cast-result-2 : goal.overflow_cast-result-2
 overflow_cast-result-2 c =
     let p = goal.at.overflow_cast-result-2 c in
     let l = length_at p.Else-s-header in
-    omega (arith, (within-at p.After-put_table l (Ok c.in_ok-sizes.sizes) (shift_ok _ _ _ _ c.shifted.ensures (near_at p.After-put_table l) c.in_ok-sizes.was)).few)
+    omega (arith, (within-at p.After-put_table l (Ok c.in_ok-sizes.sizes) (told_ok _ _ _ _ c.shifted.ensures (near_at p.After-put_table l) c.in_ok-sizes.was)).few)
 
 pub returns-in_err-sizes : goal.returns-in_err-sizes
 returns-in_err-sizes c =
@@ -115,7 +115,7 @@ returns-in_err-sizes c =
     let p = goal.at.returns-in_err-sizes c in
     let l = length_at p.Else-s-header in
     let asked = asked-at p.Else-at-s-gt-MAX_PACKET in
-    let m = shift_err _ _ _ _ c.shifted.ensures (near_at p.After-put_table l) c.in_err-sizes.was in
+    let m = told_err _ _ _ _ c.shifted.ensures (near_at p.After-put_table l) c.in_err-sizes.was in
     rw (err_is _ _ c.from_residual.ensures.1 ∙ ap Err m.2)
     (rows_has _ _ (answer_none _ _ (asked ∙ put_refused current a.mark a.asked.format a.asked.channels a.done a.time a.at a.s.now _ _ (there-at p.Else-s-header) (omega (arith, header_at p.Else-s-header)) (sym (answer_at p.After-put_table l) ∙ m.1))), words-at p.After-put_table l asked)
 
@@ -125,5 +125,5 @@ returns c =
     let p = goal.at.returns c in
     let l = length_at p.Else-s-header in
     let asked = asked-at p.Else-at-s-gt-MAX_PACKET in
-    let t = shift_ok _ _ _ _ c.shifted.ensures (near_at p.After-put_table l) c.in_ok-sizes.was in
+    let t = told_ok _ _ _ _ c.shifted.ensures (near_at p.After-put_table l) c.in_ok-sizes.was in
     (rows_has _ _ (sym (ap rows_answer asked ∙ put_rows current a.mark a.asked.format a.asked.channels a.done a.time a.at a.s.now _ (sym (answer_at p.After-put_table l) ∙ t))), words-at p.After-put_table l asked)

@@ -8,7 +8,7 @@ use native.Mathlib.Omega.{arith}
 use Rattle.rtp.specs.Sizes.{row_area, max_rows}
 use Rattle.read_headers.specs.Redundancy.{block_header}
 use Rattle.read_headers.specs.declared.redundancy.BlockHeader.{BlockHeader}
-use Rattle.rtp.proofs.ErrorLaws.{err_is, shift_ok, shift_err}
+use Rattle.rtp.proofs.ErrorLaws.{err_is, told_ok, told_err}
 use Rattle.rtp.proofs.AreaLaws.{part_to_end}
 use Rattle.read_headers.proofs.RedundancyLaws.{fair, shorter}
 use Rattle.read_payload.specs.Payloads.{rows_answer}
@@ -114,7 +114,7 @@ overflow_add-result t c =
     let r = read_at t p.In-Redundant in
     let few = few-at t p.In_ok-here-in-Redundant r in
     let f = from_few current a.settings (a.done + n) 0 0 (drop 4 a.headers.now) (drop e.length a.s.now) few in
-    let k = shift_ok _ _ _ _ c.shifted.ensures (near_at t p.After-shifted r few (block_at t p.In-Redundant)) c.in_ok-rest-in-Redundant.was in
+    let k = told_ok _ _ _ _ c.shifted.ensures (near_at t p.After-shifted r few (block_at t p.In-Redundant)) c.in_ok-rest-in-Redundant.was in
     omega (arith, subst (λ (p : Result ℕ Fault). Few current (a.done + n) p) (sym (rest_at t p.After-shifted) ∙ k) f)
 
 pub returns-in_err-block_type : goal.returns-in_err-block_type
@@ -139,7 +139,7 @@ pub returns-in_err-rest-in-Redundant : goal.returns-in_err-rest-in-Redundant
 returns-in_err-rest-in-Redundant t c =
     let p = goal.at.returns-in_err-rest-in-Redundant t c in
     let r = read_at t p.In-Redundant in
-    let m = shift_err _ _ _ _ c.shifted.ensures (near_at t p.After-shifted r (few-at t p.In_ok-here-in-Redundant r) (block_at t p.In-Redundant)) c.in_err-rest-in-Redundant.was in
+    let m = told_err _ _ _ _ c.shifted.ensures (near_at t p.After-shifted r (few-at t p.In_ok-here-in-Redundant r) (block_at t p.In-Redundant)) c.in_err-rest-in-Redundant.was in
     err_is _ _ c.from_residual-in_err-rest-in-Redundant.ensures.1 ∙ ap Err m.2
     ∙ sym (whole-at t p.After-shifted r ∙ ap (λ (p : Result ℕ Fault). add_answer c.in_ok-here-in-Redundant.here (further c.in-Redundant.block.length p)) m.1)
 
@@ -147,5 +147,5 @@ pub returns-in_ok-rest-in-Redundant : goal.returns-in_ok-rest-in-Redundant
 returns-in_ok-rest-in-Redundant t c =
     let p = goal.at.returns-in_ok-rest-in-Redundant t c in
     let r = read_at t p.In-Redundant in
-    let k = shift_ok _ _ _ _ c.shifted.ensures (near_at t p.After-shifted r (few-at t p.In_ok-here-in-Redundant r) (block_at t p.In-Redundant)) c.in_ok-rest-in-Redundant.was in
+    let k = told_ok _ _ _ _ c.shifted.ensures (near_at t p.After-shifted r (few-at t p.In_ok-here-in-Redundant r) (block_at t p.In-Redundant)) c.in_ok-rest-in-Redundant.was in
     sym (whole-at t p.After-shifted r ∙ ap (λ (p : Result ℕ Fault). add_answer c.in_ok-here-in-Redundant.here (further c.in-Redundant.block.length p)) k)

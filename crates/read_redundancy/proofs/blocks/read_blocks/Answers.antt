@@ -8,7 +8,7 @@ use native.Mathlib.Omega.{arith}
 use Rattle.rtp.specs.Editions.{current}
 use Rattle.rtp.specs.Areas.{over}
 use Rattle.read_headers.specs.Redundancy.{redundancy_headers, headers_answer}
-use Rattle.rtp.proofs.ErrorLaws.{err_is, shift_ok, shift_err}
+use Rattle.rtp.proofs.ErrorLaws.{err_is, told_ok, told_err}
 use Rattle.rtp.proofs.AreaLaws.{part_to_end}
 use Rattle.read_headers.proofs.RedundancyLaws.{Small}
 use Rattle.read_payload.specs.Payloads.{Rows, rows_answer, rows_words}
@@ -30,7 +30,7 @@ headers_near c f h =
 -- the sizes of the block headers that were read
 sizes-at : (c : In_ok-sizes) → ((f : Fault) → c.read_headers.result ≡ Err f → c.args.at + f.offset < 2 ^ 64) → headers_answer (redundancy_headers c.args.s.now) ≡ Ok c.in_ok-sizes.sizes
 sizes-at c k =
-    sym (headers_is _ _ c.read_headers.ensures) ∙ shift_ok _ _ _ _ c.shifted.ensures k c.in_ok-sizes.was
+    sym (headers_is _ _ c.read_headers.ensures) ∙ told_ok _ _ _ _ c.shifted.ensures k c.in_ok-sizes.was
 
 small_at : (c : In_ok-sizes) → headers_answer (redundancy_headers c.args.s.now) ≡ Ok c.in_ok-sizes.sizes → Small (length c.args.s.now) c.in_ok-sizes.sizes
 small_at c h =
@@ -120,13 +120,13 @@ put_blocks-requires c =
     let small = small_at p.In_ok-sizes h in
     rw (part_to_end c.in_ok-sizes.sizes.size a.s.now)
     (split_room current a.settings a.timestamp a.at a.s.now c.requires.2 _ h c.if-s-size.false c.requires.0 small.within _ _ c.requires.1
-    (sym (checked-at p.After-check_blocks) ∙ shift_ok _ _ _ _ c.shifted-2.ensures (blocks_near p.After-check_blocks h small) c.in_ok-count.was))
+    (sym (checked-at p.After-check_blocks) ∙ told_ok _ _ _ _ c.shifted-2.ensures (blocks_near p.After-check_blocks h small) c.in_ok-count.was))
 
 pub returns-in_err-sizes : goal.returns-in_err-sizes
 returns-in_err-sizes c =
     let a = c.args in
     let p = goal.at.returns-in_err-sizes c in
-    let m = shift_err _ _ _ _ c.shifted.ensures (headers_near p.After-shifted) c.in_err-sizes.was in
+    let m = told_err _ _ _ _ c.shifted.ensures (headers_near p.After-shifted) c.in_err-sizes.was in
     rw (err_is _ _ c.from_residual.ensures.1 ∙ ap Err m.2)
     (gives_none _ a.rows.now _ (split_refused current a.settings a.timestamp a.at a.s.now _ (sym (headers_is _ _ c.read_headers.ensures) ∙ m.1)))
 
@@ -135,7 +135,7 @@ returns-in_err-count c =
     let a = c.args in
     let p = goal.at.returns-in_err-count c in
     let h = sizes-at p.In_ok-sizes (headers_near p.After-shifted) in
-    let m = shift_err _ _ _ _ c.shifted-2.ensures (blocks_near p.After-check_blocks h (small_at p.In_ok-sizes h)) c.in_err-count.was in
+    let m = told_err _ _ _ _ c.shifted-2.ensures (blocks_near p.After-check_blocks h (small_at p.In_ok-sizes h)) c.in_err-count.was in
     rw (err_is _ _ c.from_residual-in_err-count.ensures.1 ∙ ap Err m.2)
     (gives_none _ a.rows.now _ (only_refusal _ _ (answer_at p.After-check_blocks h ∙ ap (further (a.at + c.in_ok-sizes.sizes.size)) m.1)))
 
@@ -145,7 +145,7 @@ returns c =
     let p = goal.at.returns c in
     let z = c.in_ok-sizes.sizes in
     let h = sizes-at p.In_ok-sizes (headers_near p.After-shifted) in
-    let k = shift_ok _ _ _ _ c.shifted-2.ensures (blocks_near p.After-check_blocks h (small_at p.In_ok-sizes h)) c.in_ok-count.was in (
+    let k = told_ok _ _ _ _ c.shifted-2.ensures (blocks_near p.After-check_blocks h (small_at p.In_ok-sizes h)) c.in_ok-count.was in (
       sym (answer_at p.After-check_blocks h ∙ ap (further (a.at + z.size)) k),
       (rw (part_to_end z.size a.s.now) at c.put_blocks.ensures) ∙ ap (λ (x : Rows). over (rows_words x) a.rows.now) (sym (split_blocks current a.settings a.timestamp a.at a.s.now c.requires.2 _ h c.if-s-size.false)),
     )
